@@ -1,0 +1,5 @@
+pub mod Cut
+pub mod Steps
+pub mod Here
+pub mod Position
+pub mod Covering

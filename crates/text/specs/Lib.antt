@@ -1,0 +1,4 @@
+pub mod Classes
+pub mod Tokens
+pub mod Next
+pub mod Covering
