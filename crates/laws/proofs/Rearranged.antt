@@ -7,7 +7,7 @@ use mathlib.Core.List.{List, [], _∷_, map}
 use lib.ListN.{getD, length}
 use Rattle.laws.specs.Rearranged.{Perm, p-nil, p-skip, p-swap, p-trans, under, swap01, goes, p-sym}
 
-under-under : (h k : ℕ → ℕ) → ((i : ℕ) → k (h i) ≡ i) → (i : ℕ) → under k (under h i) ≡ i
+pub under-under : (h k : ℕ → ℕ) → ((i : ℕ) → k (h i) ≡ i) → (i : ℕ) → under k (under h i) ≡ i
 under-under h k e zero = refl
 under-under h k e (suc i) = ap suc (e i)
 
@@ -47,7 +47,7 @@ module _ {A : Type 0} where
   p-sym-sym p-swap = refl
   p-sym-sym (p-trans p q) = ap₂ p-trans (p-sym-sym p) (p-sym-sym q)
 
-  under-at : (x d : A) (l m : List A) (h : ℕ → ℕ) → ((i : ℕ) → getD m (h i) d ≡ getD l i d) → (i : ℕ) → getD (x ∷ m) (under h i) d ≡ getD (x ∷ l) i d
+  pub under-at : (x d : A) (l m : List A) (h : ℕ → ℕ) → ((i : ℕ) → getD m (h i) d ≡ getD l i d) → (i : ℕ) → getD (x ∷ m) (under h i) d ≡ getD (x ∷ l) i d
   under-at x d l m h e zero = refl
   under-at x d l m h e (suc i) = e i
 

@@ -1,3 +1,5 @@
 pub mod Truth
 pub mod Numbers
+pub mod Below
+pub mod Tabulated
 pub mod Rearranged
