@@ -4,4 +4,5 @@ pub mod Below
 pub mod Tabulated
 pub mod Rearranged
 pub mod Lists
+pub mod Alike
 pub mod Tables

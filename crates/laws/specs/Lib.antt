@@ -3,3 +3,4 @@ pub mod Numbers
 pub mod Below
 pub mod Tabulated
 pub mod Rearranged
+pub mod Quoted

@@ -7,7 +7,7 @@ use mathlib.Core.Bool.{Bool, true, false, cond}
 use mathlib.Core.List.{List, [], _∷_, _++_, map}
 use lib.Dec.{eqb, ltb}
 use borrow.Author.Tests.{ne-eqb}
-use lib.ListN.{length, take, drop}
+use lib.ListN.{length, length-drop, take, drop}
 use lib.Seq.{take-append-le, length-take-le}
 use Rattle.text.specs.Classes.{one-of, class-of}
 use Rattle.text.specs.Tokens.{Name, Token, word, name, long, bad, OPEN, CLOSE, COMMA, SEMICOLON, BECOMES, HAS, GETS, reserved, mark-of, same-letters, one-further, place, word-or-name, run-token, run, equals-first, token-here, more-bytes, unless-white, tokens-from, tokens}
@@ -239,29 +239,30 @@ pub tokens-elsewhere : (b : List ℕ) (p : ℕ) → tokens-from b 0 p ≡ map (m
 unfolding tokens
 tokens-elsewhere b p = sym (tokens-moved b 0 0 p (λ i. i + p) (λ j. omega arith))
 
--- A name is the stretch of the text at its place.
-abbrev pub Stands : List ℕ → Name → Type 0
-Stands s n = take (length (n .letters)) (drop (n .start) s) ≡ n .letters
+-- A name lies inside the text and is the stretch of it at its place.
+pub record Stands (s : List ℕ) (n : Name) : Type 0 where
+  pub inside : n .start + length (n .letters) ≤ length s
+  pub there : take (length (n .letters)) (drop (n .start) s) ≡ n .letters
 
--- A token that is a name stands so.
+-- A token that is a name stands so in the text.
 abbrev pub Token-stands : List ℕ → Token → Type 0
 Token-stands s (word w) = Unit
 Token-stands s (name n) = Stands s n
 Token-stands s long = Unit
 Token-stands s bad = Unit
 
--- Every name among the tokens stands so.
+-- Every name among the tokens stands so in the text.
 abbrev pub All-stand : List ℕ → List Token → Type 0
 All-stand s [] = Unit
 All-stand s (t ∷ ts) = Token-stands s t × All-stand s ts
 
-run-stands : (s : List ℕ) (p : ℕ) (l : List ℕ) → take (length l) (drop p s) ≡ l → Token-stands s (run-token p l)
+run-stands : (s : List ℕ) (p : ℕ) (l : List ℕ) → p + length l ≤ length s → take (length l) (drop p s) ≡ l → Token-stands s (run-token p l)
 unfolding run-token
-run-stands s p l h = go (ltb 24 (length l)) (place l reserved)
+run-stands s p l i h = go (ltb 24 (length l)) (place l reserved)
   where
     go : (t : Bool) (k : ℕ) → Token-stands s (cond t long (word-or-name (record { start = p; letters = l }) k))
     go true k = tt
-    go false zero = h
+    go false zero = record { inside = i; there = h }
     go false (suc k) = tt
 
 pub here-stands : (s : List ℕ) (p x : ℕ) (xs : List ℕ) → drop p s ≡ x ∷ xs → Token-stands s (token-here p x xs)
@@ -269,7 +270,10 @@ unfolding token-here
 here-stands s p x xs e = go (eqb (class-of x) 2) (eqb (class-of x) 4) (eqb (class-of x) 5) (equals-first xs)
   where
     go : (a b c d : Bool) → Token-stands s (cond a (run-token p (x ∷ take (run xs) xs)) (cond b (word (mark-of x)) (cond c (cond d (word (mark-of x)) bad) bad)))
-    go true b c d = run-stands s p (x ∷ take (run xs) xs) (rw (e, length-take-le (run xs) xs (run-le xs)))
+    go true b c d =
+        let k = length-take-le (run xs) xs (run-le xs) in
+        let size : length s - p ≡ suc (length xs) = sym (length-drop p s) ∙ ap length e in
+        run-stands s p (x ∷ take (run xs) xs) (omega (arith, k, size, run-le xs)) (rw (e, k))
     go false true c d = tt
     go false false true true = tt
     go false false true false = tt
@@ -288,7 +292,7 @@ stand-from s [] k p e = tt
 stand-from s (x ∷ xs) (suc k) p e = stand-from s xs k (suc p) (drop-next s p x xs e)
 stand-from s (x ∷ xs) zero p e = unless-stands s x (token-here p x xs) _ (here-stands s p x xs e) (stand-from s xs (more-bytes x xs) (suc p) (drop-next s p x xs e))
 
--- Every name among the tokens of a text is the text at its place.
+-- Every name among the tokens of a text lies inside it and is the text at its place.
 pub names-stand : (s : List ℕ) → All-stand s (tokens s)
 unfolding tokens
 names-stand s = stand-from s s 0 0 refl

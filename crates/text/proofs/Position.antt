@@ -57,7 +57,7 @@ past-white s at = white-skip (drop at s) at ∙ rw (drop-drop (white (drop at s)
 -- A token that stands in the text is shown as it is.
 shown-coded : (s : List ℕ) (t : Token) (ts : List Token) → Token-stands s t → shown s (coded t) ts ≡ t ∷ ts
 shown-coded s (word w) ts h = refl
-shown-coded s (name n) ts h = rw h
+shown-coded s (name n) ts h = rw (h .there)
 shown-coded s long ts h = refl
 shown-coded s bad ts h = refl
 

@@ -1,0 +1,99 @@
+-- What a statement derives has one `;`, its last token.
+-- Assumes nothing.
+use Prim.Native.Nat.{ℕ, _+_, _-_}
+use native.Mathlib.Omega.{arith}
+use mathlib.Core.Path.{_≡_, refl, sym, ap, subst, _∙_}
+use mathlib.Core.List.{List, [], _∷_, _++_}
+use Rattle.text.specs.Tokens.{Token, word, name, SLOT, WHEN, IF, THEN, AND, NOT, OPEN, CLOSE, COMMA, SEMICOLON, tokens-from}
+use Rattle.text.proofs.Cut.{No-semi, Free, tokens-free, before-semi, past-semi, before-free, past-free}
+use Rattle.grammar.specs.Grammar.{RuleTree, rule, trigger, ConditionTree, and-literal, one-literal, true-alone, LiteralTree, not-literal, becomes-value, has-value, AssignTree, one-alone, braces, AssignmentListTree, one-assignment, comma-assignment, AssignmentTree, gets-value, ValueListTree, one-value, comma-value, LineTree, line, spell-literal, spell-condition, spell-assignment, spell-assignments, spell-assign, spell-trigger, spell-rule, spell-values, spell-line}
+
+-- The tokens before the first `;`, followed by `;` and others.
+abbrev pub refit : List Token → List Token → List Token
+refit ts us = before-semi ts ++ word SEMICOLON ∷ us
+
+-- What a statement derives has one `;`, its last token: what follows it is `rest`, and may be anything else.
+literal-past : (l : LiteralTree) (rest : List Token) → past-semi (spell-literal l rest) ≡ past-semi rest
+literal-past (not-literal l) rest = literal-past l rest
+literal-past (becomes-value s v) rest = refl
+literal-past (has-value s v) rest = refl
+
+condition-past : (c : ConditionTree) (rest : List Token) → past-semi (spell-condition c rest) ≡ past-semi rest
+condition-past (and-literal c l) rest = condition-past c (word AND ∷ spell-literal l rest) ∙ literal-past l rest
+condition-past (one-literal l) rest = literal-past l rest
+condition-past true-alone rest = refl
+
+assignment-past : (a : AssignmentTree) (rest : List Token) → past-semi (spell-assignment a rest) ≡ past-semi rest
+assignment-past (gets-value s v) rest = refl
+
+assignments-past : (l : AssignmentListTree) (rest : List Token) → past-semi (spell-assignments l rest) ≡ past-semi rest
+assignments-past (one-assignment a) rest = assignment-past a rest
+assignments-past (comma-assignment l a) rest = assignments-past l (word COMMA ∷ spell-assignment a rest) ∙ assignment-past a rest
+
+assign-past : (a : AssignTree) (rest : List Token) → past-semi (spell-assign a rest) ≡ past-semi rest
+assign-past (one-alone a) rest = assignment-past a rest
+assign-past (braces l) rest = assignments-past l (word CLOSE ∷ rest)
+
+pub rule-past : (t : RuleTree) (rest : List Token) → past-semi (spell-rule t rest) ≡ rest
+rule-past (rule (trigger s v) c a) rest = condition-past c (word THEN ∷ spell-assign a (word SEMICOLON ∷ rest)) ∙ assign-past a (word SEMICOLON ∷ rest)
+
+values-past : (l : ValueListTree) (rest : List Token) → past-semi (spell-values l rest) ≡ past-semi rest
+values-past (one-value n) rest = refl
+values-past (comma-value l n) rest = values-past l (word COMMA ∷ name n ∷ rest)
+
+pub line-past : (t : LineTree) (rest : List Token) → past-semi (spell-line t rest) ≡ rest
+line-past (line n vs) rest = values-past vs (word CLOSE ∷ word SEMICOLON ∷ rest)
+
+literal-refit : (l : LiteralTree) (rest us : List Token) → refit (spell-literal l rest) us ≡ spell-literal l (refit rest us)
+literal-refit (not-literal l) rest us = ap (λ (y : List Token). word NOT ∷ y) (literal-refit l rest us)
+literal-refit (becomes-value s v) rest us = refl
+literal-refit (has-value s v) rest us = refl
+
+condition-refit : (c : ConditionTree) (rest us : List Token) → refit (spell-condition c rest) us ≡ spell-condition c (refit rest us)
+condition-refit (and-literal c l) rest us =
+    condition-refit c (word AND ∷ spell-literal l rest) us ∙ ap (λ (y : List Token). spell-condition c (word AND ∷ y)) (literal-refit l rest us)
+condition-refit (one-literal l) rest us = literal-refit l rest us
+condition-refit true-alone rest us = refl
+
+assignment-refit : (a : AssignmentTree) (rest us : List Token) → refit (spell-assignment a rest) us ≡ spell-assignment a (refit rest us)
+assignment-refit (gets-value s v) rest us = refl
+
+assignments-refit : (l : AssignmentListTree) (rest us : List Token) → refit (spell-assignments l rest) us ≡ spell-assignments l (refit rest us)
+assignments-refit (one-assignment a) rest us = assignment-refit a rest us
+assignments-refit (comma-assignment l a) rest us =
+    assignments-refit l (word COMMA ∷ spell-assignment a rest) us ∙ ap (λ (y : List Token). spell-assignments l (word COMMA ∷ y)) (assignment-refit a rest us)
+
+assign-refit : (a : AssignTree) (rest us : List Token) → refit (spell-assign a rest) us ≡ spell-assign a (refit rest us)
+assign-refit (one-alone a) rest us = assignment-refit a rest us
+assign-refit (braces l) rest us = ap (λ (y : List Token). word OPEN ∷ y) (assignments-refit l (word CLOSE ∷ rest) us)
+
+pub rule-refit : (t : RuleTree) (rest us : List Token) → refit (spell-rule t rest) us ≡ spell-rule t us
+rule-refit (rule (trigger s v) c a) rest us =
+    ap (λ (y : List Token). word WHEN ∷ spell-trigger (trigger s v) (word IF ∷ y))
+    (condition-refit c (word THEN ∷ spell-assign a (word SEMICOLON ∷ rest)) us
+    ∙ ap (λ (y : List Token). spell-condition c (word THEN ∷ y)) (assign-refit a (word SEMICOLON ∷ rest) us))
+
+values-refit : (l : ValueListTree) (rest us : List Token) → refit (spell-values l rest) us ≡ spell-values l (refit rest us)
+values-refit (one-value n) rest us = refl
+values-refit (comma-value l n) rest us = values-refit l (word COMMA ∷ name n ∷ rest) us
+
+pub line-refit : (t : LineTree) (rest us : List Token) → refit (spell-line t rest) us ≡ spell-line t us
+line-refit (line n vs) rest us = ap (λ (y : List Token). word SLOT ∷ name n ∷ word OPEN ∷ y) (values-refit vs (word CLOSE ∷ word SEMICOLON ∷ rest) us)
+
+-- A statement that stands in front of a piece's `;` and others is that piece, before whatever follows.
+module _ {T : Type 0} (spells : T → List Token → List Token) (past : (t : T) (rest : List Token) → past-semi (spells t rest) ≡ rest) (refits : (t : T) (rest us : List Token) → refit (spells t rest) us ≡ spells t us) where
+  pub rest-same : (b : List ℕ) (p : ℕ) (t : T) (rest us : List Token) → No-semi b → tokens-from b 0 p ++ word SEMICOLON ∷ us ≡ spells t rest → rest ≡ us
+  rest-same b p t rest us n e = sym (past t rest) ∙ sym (ap past-semi e) ∙ past-free (tokens-from b 0 p) us (tokens-free b 0 p n)
+
+  pub piece-spelled : (b : List ℕ) (p : ℕ) (t : T) (rest us : List Token) → No-semi b → tokens-from b 0 p ++ word SEMICOLON ∷ us ≡ spells t rest
+      → (more : List Token) → spells t more ≡ tokens-from b 0 p ++ word SEMICOLON ∷ more
+  piece-spelled b p t rest us n e more =
+      sym (refits t rest more) ∙ ap (λ (y : List Token). y ++ word SEMICOLON ∷ more) (sym (ap before-semi e) ∙ before-free (tokens-from b 0 p) us (tokens-free b 0 p n))
+
+  -- A text without `;` holds no statement.
+  pub no-statement : (w : List ℕ) (p : ℕ) (t : T) (rest : List Token) → No-semi w → tokens-from w 0 p ≡ spells t rest → ⊥
+  no-statement w p t rest n e = not-free (before-semi (spells t rest)) rest (subst Free (e ∙ sym (refits t rest rest)) (tokens-free w 0 p n))
+    where
+      not-free : (ts us : List Token) → Free (ts ++ word SEMICOLON ∷ us) → ⊥
+      not-free [] us h = let x = h .0 in let z : _≡_ {A = ℕ} 0 1 = cc in absurd (omega arith)
+      not-free (t ∷ ts) us h = not-free ts us (h .1)

@@ -1,0 +1,43 @@
+-- What a rule file declares and says: slots with their names, and rules over slot and value numbers (document 01, 'Rule text').
+use Prim.Native.Nat.{ℕ}
+use mathlib.Core.Bool.{Bool, true, false, cond}
+use mathlib.Core.List.{List, [], _∷_, map}
+use lib.Dec.{eqb}
+use lib.ListN.{getD}
+use Rattle.text.specs.Tokens.{Name, place}
+use Rattle.model.specs.Rules.{Pair, Rule}
+
+-- A slot as declared: its name, and the names of its values, numbered from 1 in declared order.
+pub record Slot : Type 0 where
+  pub name : Name
+  pub values : List Name
+
+-- A file: slots numbered from 0, rules numbered from 1.
+pub record File : Type 0 where
+  pub slots : List Slot
+  pub rules : List Rule
+
+-- The bytes of names.
+abbrev pub spellings : List Name → List (List ℕ)
+spellings ns = map (λ (n : Name). n .letters) ns
+
+-- The place of a name among names, from 1; 0 where it is not there.
+abbrev pub place-in : List Name → Name → ℕ
+place-in ns n = place (n .letters) (spellings ns)
+
+-- The names of slots.
+abbrev pub slot-names : List Slot → List Name
+slot-names slots = map (λ (s : Slot). s .name) slots
+
+-- A slot without values, which stands for one that is not there.
+abbrev pub no-slot : Slot
+no-slot = record { name = record { start = 0; letters = [] }; values = [] }
+
+-- The names of the values of slot `s`.
+abbrev pub values-of : List Slot → ℕ → List Name
+values-of slots s = getD slots s no-slot .values
+
+-- Slot `s` gets a value by one of the assignments.
+unfoldable pub assigns : List Pair → ℕ → Bool
+assigns [] s = false
+assigns (p ∷ ps) s = cond (eqb (p .slot) s) true (assigns ps s)

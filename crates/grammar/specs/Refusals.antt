@@ -1,0 +1,79 @@
+-- Where a refusal of 11 to 17 stands, and why (document 01, 'Refusals'): what holds of the tokens before the faulty token, and of that token.
+use Prim.Native.Nat.{ℕ, _≤_}
+use mathlib.Core.Path.{_≡_}
+use mathlib.Core.List.{List, [], _∷_, _++_}
+use mathlib.Core.Logic.{_⊎_}
+use lib.ListN.{length}
+use Rattle.text.specs.Tokens.{Name, Token, word, name, long, bad}
+use Rattle.text.proofs.Cut.{Free}
+use Rattle.grammar.specs.Files.{File}
+use Rattle.grammar.specs.Grammar.{RuleTree, LineTree, FileTree, spell, spell-rules, spell-lines}
+use Rattle.grammar.specs.Reading.{accepted, refused, read-tokens}
+
+-- A derivation goes on from these tokens: the tokens of some tree begin with them. (A tree knows neither limits nor declarations.)
+pub record Goes-on (ts : List Token) : Type 0 where
+  pub tree : FileTree
+  pub more : List Token
+  pub derives : spell tree ≡ ts ++ more
+
+-- With this token after those no derivation goes on; of a name over 24 bytes: with no name in its place. A bad token is never said to be out of place, since 11 comes before 12.
+abbrev pub Out-of-place : List Token → Token → Type 0
+Out-of-place before (word w) = ¬ Goes-on (before ++ word w ∷ [])
+Out-of-place before (name n) = ¬ Goes-on (before ++ name n ∷ [])
+Out-of-place before long = (n : Name) → ¬ Goes-on (before ++ name n ∷ [])
+Out-of-place before bad = ⊥
+
+-- These tokens are no whole derivation.
+abbrev pub Underived : List Token → Type 0
+Underived ts = (tree : FileTree) → ¬ (spell tree ≡ ts)
+
+-- A fault by its number: the tokens before it, then the faulty token with what follows, or nothing where the text ends. A fault of 14 to 17 stands at a token that is in its place.
+pub data Fault : ℕ → List Token → List Token → Type 0 where
+  no-token : {before later : List Token} → Fault 11 before (bad ∷ later)
+  no-place : {before later : List Token} {t : Token} → Out-of-place before t → Fault 12 before (t ∷ later)
+  ends-inside : {before : List Token} → Underived before → Fault 12 before []
+  too-long : {before later : List Token} → ((n : Name) → Goes-on (before ++ name n ∷ [])) → Fault 13 before (long ∷ later)
+  in-place : {k : ℕ} {before later : List Token} {t : Token} → 14 ≤ k → k ≤ 17 → Goes-on (before ++ t ∷ []) → Fault k before (t ∷ later)
+
+-- Said of tokens from which a derivation goes on: none of them has a fault, and `n` rules are completed by them. They are read to their end, which is inside a statement (12) or accepted.
+abbrev pub No-fault : List Token → ℕ → Type 0
+No-fault before n = (read-tokens before ≡ refused 12 n) ⊎ ((f : File) × (read-tokens before ≡ accepted f) × (length (f .rules) ≡ n))
+
+-- The refusal is the same whatever follows the faulty token.
+abbrev pub Decided : ℕ → ℕ → List Token → List Token → Type 0
+Decided k n before [] = Unit
+Decided k n before (t ∷ rest) = (later : List Token) → read-tokens (before ++ t ∷ later) ≡ refused k n
+
+-- These tokens are slot lines, `n` rules, and the beginning of one more statement, without its `;`.
+pub record Completed (ts : List Token) (n : ℕ) : Type 0 where
+  pub lines : List LineTree
+  pub rules : List RuleTree
+  pub part : List Token
+  pub statements : ts ≡ spell-lines lines (spell-rules rules part)
+  pub unended : Free part
+  pub count : length rules ≡ n
+
+-- The refusal `k` with second number `n` stands at the first of `after`, or at the end where there is none.
+pub record Stands-at (ts : List Token) (k n : ℕ) : Type 0 where
+  pub before : List Token
+  pub after : List Token
+  pub whole : ts ≡ before ++ after
+  pub goes-on : Goes-on before
+  pub no-fault : No-fault before n
+  pub fault : Fault k before after
+  pub decided : Decided k n before after
+  pub completed : Completed before n
+
+-- No derivation goes on with the first of `after`, or, where there is none, none is whole.
+abbrev pub Stuck : List Token → List Token → Type 0
+Stuck before [] = Underived before
+Stuck before (t ∷ later) = Out-of-place before t
+
+-- The first token with which no derivation goes on, or the end of an unfinished one, and no fault of another kind before it.
+pub record Stuck-first (ts : List Token) (n : ℕ) : Type 0 where
+  pub before : List Token
+  pub after : List Token
+  pub whole : ts ≡ before ++ after
+  pub goes-on : Goes-on before
+  pub no-fault : No-fault before n
+  pub stuck : Stuck before after
