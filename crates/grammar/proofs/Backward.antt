@@ -14,7 +14,8 @@ use Rattle.model.specs.Rules.{Pair, Literal, Rule}
 use Rattle.grammar.specs.Limits.{max-text, max-slots, max-values, max-rules, max-literals, max-assignments}
 use Rattle.grammar.specs.Files.{Slot, File, place-in, slot-names, values-of, assigns}
 use Rattle.grammar.specs.Grammar.{RuleTree, rule, trigger, ConditionTree, and-literal, one-literal, true-alone, LiteralTree, not-literal, becomes-value, has-value, AssignTree, one-alone, braces, AssignmentListTree, one-assignment, comma-assignment, AssignmentTree, gets-value, ValueListTree, one-value, comma-value, LineTree, line, FileTree, spell, spell-literal, spell-condition, spell-assignment, spell-assignments, spell-assign, spell-rule, spell-rules, spell-values, spell-line, spell-lines}
-use Rattle.grammar.specs.Reading.{Part, took, stop, Answer, accepted, refused, _then_, expects, a-name, new-name, read-slot, read-value, read-target, pair, plain-literal, read-literal, no-literal, read-literals, read-condition, read-assignment, no-assignment, read-assignments, read-assign, read-rule, no-value, read-values, read-line, go-on, read-rules, read-lines, read-tokens, read}
+use Rattle.grammar.specs.Reading.{Part, took, stop, Answer, accepted, refused, _then_, expects, a-name, new-name, read-slot, read-value, read-target, plain-literal, read-literal, no-literal, read-literals, read-condition, read-assignment, no-assignment, read-assignments, read-assign, read-rule, no-value, read-values, read-line, go-on, read-rules, read-lines, read-tokens, read}
+use Rattle.model.specs.Result.{pair}
 use Rattle.grammar.specs.Meaning.{Names, turned, nots, tests-change, slot-in, value-in, Means-literal, Means-condition, means-and, means-one, means-true, Means-assignment, means-assignment, Means-assignments, means-first, means-comma, Means-assign, means-alone, means-braces, means-trigger, Means-rule, means-rule, Means-rules, no-rules, more-rules, Means-values, means-value, means-values, Means-line, means-line, Means-lines, no-lines, more-lines, Is-file}
 use Rattle.grammar.proofs.Steps.{never, took-same, put, then-back, by-then, cond-back, expects-back, slot-back, value-back, target-back, new-name-back, fork-back, if-next-back, after-back, list-back}
 

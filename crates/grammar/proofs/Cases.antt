@@ -10,7 +10,8 @@ use Rattle.text.specs.Classes.{class-of}
 use Rattle.text.specs.Tokens.{Name, reserved, mark-of, run-token, run, token-here, more-bytes, tokens-from, tokens}
 use Rattle.grammar.specs.Limits.{max-text, max-slots, max-values, max-rules, max-literals, max-assignments}
 use Rattle.grammar.specs.Files.{Slot, assigns}
-use Rattle.grammar.specs.Reading.{accepted, refused, pair, _then_, expects, fork, a-name, if-next, new, new-name, known-slot, known-value, unassigned, read-slot, read-value, read-target, read-list, plain-literal, read-literal, no-literal, read-literals, read-condition, read-assignment, no-assignment, read-assignments, read-assign, read-rule, no-value, read-values, read-line, go-on, read-rules, read-lines, read-tokens, read}
+use Rattle.grammar.specs.Reading.{accepted, refused, _then_, expects, fork, a-name, if-next, new, new-name, known-slot, known-value, unassigned, read-slot, read-value, read-target, read-list, plain-literal, read-literal, no-literal, read-literals, read-condition, read-assignment, no-assignment, read-assignments, read-assign, read-rule, no-value, read-values, read-line, go-on, read-rules, read-lines, read-tokens, read}
+use Rattle.model.specs.Result.{pair}
 
 -- `unfolding reads` opens all that a reading runs.
 unfoldable pub reads : Unit {0}

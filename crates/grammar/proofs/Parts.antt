@@ -12,7 +12,8 @@ use Rattle.text.specs.Tokens.{Name, Token, word, name, long, bad, THEN, AND, NO
 use Rattle.model.specs.Rules.{Pair, Literal}
 use Rattle.grammar.specs.Files.{Slot, place-in, slot-names, values-of, assigns}
 use Rattle.grammar.specs.Grammar.{LiteralTree, not-literal, becomes-value, has-value, spell-literal}
-use Rattle.grammar.specs.Reading.{Part, took, stop, _then_, a-name, begins-with, new, new-name, known-slot, known-value, unassigned, read-slot, read-value, read-target, pair, plain-literal, read-literal, no-literal, read-literals, no-assignment, no-value}
+use Rattle.grammar.specs.Reading.{Part, took, stop, _then_, a-name, begins-with, new, new-name, known-slot, known-value, unassigned, read-slot, read-value, read-target, plain-literal, read-literal, no-literal, read-literals, no-assignment, no-value}
+use Rattle.model.specs.Result.{pair}
 use Rattle.grammar.proofs.Forward.{literal-read}
 use Rattle.grammar.proofs.Backward.{literal-back, no-literal-back}
 use Rattle.grammar.proofs.Stopping.{Written, Language, Begins, bad-token, wrong-token, the-end, long-name, later-fault, stop-behind, stop-where, nothing-next, Fits, Reader, nothing, reader-took, both, reader-then, Stops-at, stop-here, follows-same, follows-long, a-single-name, Name-reader, reader-name}

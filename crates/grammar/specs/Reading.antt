@@ -6,6 +6,7 @@ use lib.Dec.{eqb, leb}
 use lib.ListN.{length, drop}
 use Rattle.text.specs.Tokens.{Name, Token, word, name, long, bad, SLOT, WHEN, IF, THEN, AND, NOT, TRUE, OPEN, CLOSE, COMMA, SEMICOLON, BECOMES, HAS, GETS, tokens}
 use Rattle.model.specs.Rules.{Pair, Literal, Rule}
+use Rattle.model.specs.Result.{pair}
 use Rattle.grammar.specs.Limits.{max-text, max-slots, max-values, max-rules, max-literals, max-assignments}
 use Rattle.grammar.specs.Files.{Slot, File, place-in, slot-names, values-of, assigns}
 
@@ -103,10 +104,6 @@ read-list one none sep end zero sofar ts = none sofar ts
 read-list one none sep end (suc room) sofar ts =
     one sofar ts then λ a rest.
     fork sep end (λ more. read-list one none sep end room (sofar ++ a ∷ []) more) (took (sofar ++ a ∷ [])) rest
-
--- A slot and a value.
-abbrev pub pair : ℕ → ℕ → Pair
-pair s v = record { slot = s; value = v }
 
 -- A literal after its NOTs, which left it `negated` or not.
 unfoldable pub plain-literal : List Slot → Bool → List Token → Part Literal

@@ -1,7 +1,10 @@
 pub mod Truth
+pub mod Equations
 pub mod Numbers
 pub mod Below
 pub mod Tabulated
+pub mod Flags
+pub mod Filled
 pub mod Rearranged
 pub mod Lists
 pub mod Alike

@@ -2,5 +2,6 @@ pub mod Truth
 pub mod Numbers
 pub mod Below
 pub mod Tabulated
+pub mod Filled
 pub mod Rearranged
 pub mod Quoted

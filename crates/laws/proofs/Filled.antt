@@ -1,0 +1,64 @@
+-- Laws of arrays of which a number of places is used.
+-- Assumes nothing.
+use Prim.Native.Nat.{ℕ, zero, suc, _+_, _-_, _≤_, _<_}
+use native.Mathlib.Omega.{arith}
+use native.Mathlib.Numerals.{add-one}
+use mathlib.Core.Path.{_≡_, refl, sym, ap, _∙_}
+use mathlib.Core.List.{List, [], _∷_, _++_, append-assoc}
+use lib.ListN.{length, length-append, take, drop, set, replicate, length-set, length-replicate, take-append-drop}
+use lib.Seq.{drop-cons, length-take-le, take-suc-set}
+use Rattle.laws.specs.Filled.{filled, Filled}
+
+-- No place is used.
+pub filled-none : {A : Type 0} (n : ℕ) (unused : A) → Filled n unused (replicate n unused) 0
+filled-none n unused = record { used = omega arith; size = length-replicate n unused; rest = let z : n - 0 ≡ n = omega arith in rw z }
+
+drop-set : {A : Type 0} (xs : List A) (k : ℕ) (x : A) → drop (suc k) (set xs k x) ≡ drop (suc k) xs
+drop-set [] zero x = refl
+drop-set [] (suc k) x = refl
+drop-set (y ∷ ys) zero x = refl
+drop-set (y ∷ ys) (suc k) x = drop-set ys k x
+
+drop-first : {A : Type 0} (xs : List A) (k m : ℕ) (u : A) → drop k xs ≡ replicate (suc m) u → drop (suc k) xs ≡ replicate m u
+drop-first [] zero m u e = absurd (let z : _≡_ {A = ℕ} 0 1 = cc in omega arith)
+drop-first [] (suc k) m u e = absurd (let z : _≡_ {A = ℕ} 0 1 = cc in omega arith)
+drop-first (y ∷ ys) zero m u e = let z : ys ≡ replicate m u = cc in z
+drop-first (y ∷ ys) (suc k) m u e = drop-first ys k m u e
+
+-- One more place is used.
+pub filled-add : {A : Type 0} (n : ℕ) (unused : A) (places : List A) (count : ℕ) (x : A) → Filled n unused places count → count < n → Filled n unused (set places count x) (count + 1)
+filled-add n unused places count x F h =
+    let z : n - count ≡ suc (n - suc count) = omega arith in
+    record {
+      used = omega arith;
+      size = length-set places count x ∙ F .size;
+      rest = rw (add-one count) (drop-set places count x ∙ drop-first places count (n - suc count) unused (F .rest ∙ ap (λ (k : ℕ). replicate k unused) z));
+    }
+
+-- The used places are those before and the new one.
+pub filled-used : {A : Type 0} (n : ℕ) (unused : A) (places : List A) (count : ℕ) (x : A) → Filled n unused places count → count < n
+    → take (count + 1) (set places count x) ≡ take count places ++ x ∷ []
+filled-used n unused places count x F h =
+    let l = F .size in
+    ap (λ (k : ℕ). take k (set places count x)) (add-one count) ∙ take-suc-set places count x (omega arith)
+
+-- The used places tell all.
+pub filled-is : {A : Type 0} (n : ℕ) (unused : A) (places : List A) (count : ℕ) → Filled n unused places count → places ≡ filled n unused (take count places)
+unfolding filled
+filled-is n unused places count F =
+    let u = F .used in
+    let s = F .size in
+    let l : length (take count places) ≡ count = length-take-le count places (omega arith) in
+    sym (take-append-drop count places) ∙ rw l (ap (λ zs. take count places ++ zs) (F .rest))
+
+set-end : {A : Type 0} (xs : List A) (u x : A) (ys : List A) → set (xs ++ u ∷ ys) (length xs) x ≡ xs ++ x ∷ ys
+set-end [] u x ys = refl
+set-end (y ∷ xs) u x ys = ap (λ zs. y ∷ zs) (set-end xs u x ys)
+
+-- A list filled up, with one more element in its place.
+pub filled-snoc : {A : Type 0} (n : ℕ) (unused x : A) (xs : List A) → length xs < n → set (filled n unused xs) (length xs) x ≡ filled n unused (xs ++ x ∷ [])
+unfolding filled
+filled-snoc n unused x xs h =
+    let l : length (xs ++ x ∷ []) ≡ suc (length xs) = length-append xs (x ∷ []) ∙ omega arith in
+    let z : n - length xs ≡ suc (n - length (xs ++ x ∷ [])) = omega arith in
+    ap (λ (k : ℕ). set (xs ++ replicate k unused) (length xs) x) z ∙ set-end xs unused x (replicate (n - length (xs ++ x ∷ [])) unused) ∙ sym (append-assoc xs (x ∷ []) _)

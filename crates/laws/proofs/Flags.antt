@@ -1,0 +1,56 @@
+-- Arrays of flags: one flag set, none set, how many are set.
+-- Assumes nothing.
+use Prim.Native.Nat.{ℕ, zero, suc, _+_, _≤_, _<_}
+use native.Mathlib.Omega.{arith}
+use mathlib.Core.Path.{_≡_, refl}
+use mathlib.Core.Bool.{Bool, true, false, cond}
+use mathlib.Core.List.{List, [], _∷_}
+use mathlib.Core.Logic.{_⊎_, inl, inr, ⊎-elim}
+use lib.Dec.{T, eqb}
+use lib.ListN.{length, getD, set, replicate, length-replicate, getD-replicate, List·getD-eq-default}
+use lib.Seq.{getD-set-same, getD-set-other}
+use borrow.Author.Tests.{eqb-true, eqb-false}
+use Rattle.laws.proofs.Truth.{le-or-lt}
+
+pub flag-here : (bs : List Bool) (i : ℕ) → i < length bs → T (getD (set bs i true) i false)
+flag-here bs i h = rw (getD-set-same bs i true false h) tt
+
+pub flag-inside : (bs : List Bool) (i : ℕ) → T (getD bs i false) → i < length bs
+flag-inside bs i t = ⊎-elim (λ le. absurd (rw (List·getD-eq-default bs false {n = i} le) at t)) (λ lt. lt) (le-or-lt (length bs) i)
+
+pub flag-kept : (bs : List Bool) (i j : ℕ) → T (getD bs j false) → T (getD (set bs i true) j false)
+flag-kept bs i j t = go (eqb j i) refl
+  where
+    go : (b : Bool) → eqb j i ≡ b → T (getD (set bs i true) j false)
+    go true e = let z = eqb-true j i e in rw z (flag-here bs i (flag-inside bs i (rw z at t)))
+    go false e = rw (getD-set-other bs i j true false (eqb-false j i e)) t
+
+pub flag-from : (bs : List Bool) (i j : ℕ) → T (getD (set bs i true) j false) → (j ≡ i) ⊎ T (getD bs j false)
+flag-from bs i j t = go (eqb j i) refl
+  where
+    go : (b : Bool) → eqb j i ≡ b → (j ≡ i) ⊎ T (getD bs j false)
+    go true e = inl (eqb-true j i e)
+    go false e = inr (rw (getD-set-other bs i j true false (eqb-false j i e)) at t)
+
+pub no-flag : (n i : ℕ) → getD (replicate n false) i false ≡ false
+no-flag n i = ⊎-elim (λ le. List·getD-eq-default (replicate n false) false {n = i} (rw length-replicate le)) (λ lt. getD-replicate n i false false lt) (le-or-lt n i)
+
+-- How many flags are set.
+unfoldable pub flags-set : List Bool → ℕ
+flags-set [] = 0
+flags-set (b ∷ bs) = cond b 1 0 + flags-set bs
+
+pub flags-more : (bs : List Bool) (i : ℕ) → i < length bs → getD bs i false ≡ false → flags-set (set bs i true) ≡ flags-set bs + 1
+unfolding flags-set
+flags-more [] i h e = absurd (omega arith)
+flags-more (b ∷ bs) zero h e = rw e (omega arith)
+flags-more (b ∷ bs) (suc i) h e = omega (arith, flags-more bs i (omega arith) e)
+
+one-top : (b : Bool) → cond b 1 0 ≤ 1
+one-top true = omega arith
+one-top false = omega arith
+
+pub flags-top : (bs : List Bool) → flags-set bs ≤ length bs
+unfolding flags-set
+flags-top [] = omega arith
+flags-top (b ∷ bs) = omega (arith, one-top b, flags-top bs)

@@ -1,0 +1,127 @@
+-- What the reading keeps from one statement to the next.
+-- Assumes nothing.
+use Prim.Native.Nat.{ℕ, zero, suc, _+_, _*_, _-_, _≤_, _<_}
+use native.Mathlib.Omega.{arith}
+use mathlib.Core.Path.{_≡_, refl, sym, ap, ap₂, subst, _∙_}
+use mathlib.Core.List.{List, [], _∷_, _++_, map}
+use lib.ListN.{length, take, drop, set, replicate, length-drop}
+use lib.Seq.{take-all, sets}
+use borrow.Author.Tests.{le-leb, lt-leb}
+use Rattle.laws.specs.Filled.{filled}
+use Rattle.text.specs.Tokens.{tokens, tokens-from}
+use Rattle.model.specs.Rules as model
+use Rattle.grammar.specs.Limits.{max-text, max-slots}
+use Rattle.grammar.specs.Files.{Slot, File}
+use Rattle.grammar.specs.Reading.{Answer, accepted, refused, read, read-tokens, read-lines}
+use Rattle.table.specs.Limits.{slot-limit, rule-limit, pair-places, row}
+use Rattle.table.specs.Empty.{unused-rule, unused-slot, empty-table}
+use Rattle.table.specs.Link.{rule-of}
+use Rattle.table.specs.declared.Rule.{Rule}
+use Rattle.table.specs.declared.Table.{Table}
+use Rattle.reader.specs.Places.{tokens-past}
+use Rattle.reader.specs.Spans.{Span-lies}
+use Rattle.reader.specs.Index.{Indexed, span-slot, slot-by, slot-for}
+use Rattle.reader.specs.Lines.{Remainder, Values-lie}
+use Rattle.reader.specs.Rules.{Plain-rule}
+use Rattle.reader.specs.Statements.{read-on}
+use Rattle.reader.specs.Tables.{rule-for, table-for, answered}
+use Rattle.reader.specs.declared.Outcome.the-variants as outcome
+use Rattle.reader.proofs.Index.{indexed-none, indexed-more, slot-placed}
+use Rattle.reader.proofs.LineLaws.{remainder-whole, remainder-next}
+use Rattle.reader.proofs.TableLaws.{rule-kept, table-empty, table-slot, table-rule}
+
+-- Slots and rules were read; the table and the spans hold them, and the remainder comes to what the whole text comes to.
+pub record Halfway (text : List ℕ) (t : Table) (heads bodies rest : List ℕ) (base : ℕ) : Type 0 where
+  pub slots : List Slot
+  pub rules : List model.Rule
+  pub remainder : Remainder text rest base
+  pub indexed : Indexed text slots heads bodies
+  pub tabled : t ≡ table-for (record { slots = slots; rules = rules })
+  pub same : read-on slots rules (tokens-past rest base 0) ≡ read-tokens (tokens text)
+
+pub halfway-start : (text : List ℕ) → length text ≤ max-text → Halfway text empty-table (replicate slot-limit 0) (replicate pair-places 0) text 0
+unfolding max-text read-on read-tokens tokens-past tokens
+halfway-start text h = record {
+  slots = [];
+  rules = [];
+  remainder = remainder-whole text (omega arith);
+  indexed = indexed-none text;
+  tabled = sym table-empty;
+  same = ap (λ (k : ℕ). read-lines k [] (tokens-from text 0 0)) (omega arith);
+}
+
+pub halfway-width : {text heads bodies rest : List ℕ} {t : Table} {base : ℕ} (H : Halfway text t heads bodies rest base) → t .width ≡ length (H .slots)
+unfolding table-for
+halfway-width H = ap (λ (u : Table). u .width) (H .tabled)
+
+pub halfway-count : {text heads bodies rest : List ℕ} {t : Table} {base : ℕ} (H : Halfway text t heads bodies rest base) → t .count ≡ length (H .rules)
+unfolding table-for
+halfway-count H = ap (λ (u : Table). u .count) (H .tabled)
+
+-- The tokens after a statement are those of the remainder after it.
+handed-on : (rest : List ℕ) (base next : ℕ) → tokens-past rest base next ≡ tokens-past (take (length rest - next) (drop next rest)) (base + next) 0
+unfolding tokens-past
+handed-on rest base next =
+    let h : length (drop next rest) ≤ length rest - next = simp length-drop (omega arith) in
+    let z : base + next + 0 ≡ base + next = omega arith in
+    rw (take-all (length rest - next) (drop next rest) h, z)
+
+-- A slot more.
+slot-table : (slots : List Slot) (rules : List model.Rule) (t : Table) (s : Slot) → t ≡ table-for (record { slots = slots; rules = rules }) → length slots < slot-limit
+    → record { slots = set (t .slots) (t .width) (slot-for s); width = t .width + 1; rules = t .rules; count = t .count } ≡ table-for (record { slots = slots ++ s ∷ []; rules = rules })
+unfolding table-for
+slot-table slots rules t s e h = rw e (table-slot slots rules s h)
+
+pub halfway-slot : (text heads bodies rest spans : List ℕ) (t : Table) (base name count next : ℕ) (H : Halfway text t heads bodies rest base) → t .width < slot-limit → 0 < name → Span-lies text name → Values-lie text spans count
+    → read-on (H .slots) (H .rules) (tokens-past rest base 0) ≡ read-on (H .slots ++ span-slot text name spans count ∷ []) (H .rules) (tokens-past rest base next)
+    → Halfway text (record { slots = set (t .slots) (t .width) (slot-by name spans count); width = t .width + 1; rules = t .rules; count = t .count }) (set heads (t .width) name) (sets bodies (t .width * row + 1) spans)
+    (take (length rest - next) (drop next rest)) (base + next)
+halfway-slot text heads bodies rest spans t base name count next H h z l L e =
+    let w = halfway-width H in
+    record {
+      slots = H .slots ++ span-slot text name spans count ∷ [];
+      rules = H .rules;
+      remainder = remainder-next text rest base next (H .remainder);
+      indexed = indexed-more text heads bodies spans (H .slots) (t .width) name count (H .indexed) w h z l L;
+      tabled = rw (slot-placed text spans name count l L) (slot-table (H .slots) (H .rules) t (span-slot text name spans count) (H .tabled) (omega arith));
+      same = ap (read-on (H .slots ++ span-slot text name spans count ∷ []) (H .rules)) (sym (handed-on rest base next)) ∙ sym e ∙ H .same;
+    }
+
+-- A rule more.
+rule-table : (slots : List Slot) (rules : List model.Rule) (t : Table) (r : model.Rule) → t ≡ table-for (record { slots = slots; rules = rules }) → length rules < rule-limit
+    → record { slots = t .slots; width = t .width; rules = set (t .rules) (t .count) (rule-for r); count = t .count + 1 } ≡ table-for (record { slots = slots; rules = rules ++ r ∷ [] })
+unfolding table-for
+rule-table slots rules t r e h = rw e (table-rule slots rules r h)
+
+pub halfway-rule : (text heads bodies rest : List ℕ) (t : Table) (base next : ℕ) (r : Rule) (H : Halfway text t heads bodies rest base) → t .count < rule-limit → Plain-rule r
+    → read-on (H .slots) (H .rules) (tokens-past rest base 0) ≡ read-on (H .slots) (H .rules ++ rule-of r ∷ []) (tokens-past rest base next)
+    → Halfway text (record { slots = t .slots; width = t .width; rules = set (t .rules) (t .count) r; count = t .count + 1 }) heads bodies (take (length rest - next) (drop next rest)) (base + next)
+halfway-rule text heads bodies rest t base next r H h p e =
+    let c = halfway-count H in
+    record {
+      slots = H .slots;
+      rules = H .rules ++ rule-of r ∷ [];
+      remainder = remainder-next text rest base next (H .remainder);
+      indexed = H .indexed;
+      tabled = subst (λ (x : Rule). record { slots = t .slots; width = t .width; rules = set (t .rules) (t .count) x; count = t .count + 1 } ≡ table-for (record { slots = H .slots; rules = H .rules ++ rule-of r ∷ [] })) (rule-kept r p)
+          (rule-table (H .slots) (H .rules) t (rule-of r) (H .tabled) (omega arith));
+      same = ap (read-on (H .slots) (H .rules ++ rule-of r ∷ [])) (sym (handed-on rest base next)) ∙ sym e ∙ H .same;
+    }
+
+-- The end of the text, and a refusal.
+pub answer-end : (a : Answer) (f : File) (t : Table) → a ≡ accepted f → t ≡ table-for f → record { outcome = outcome.Accepted; table = t } ≡ answered a
+unfolding answered
+answer-end a f t e g = rw (e, g)
+
+pub answer-refused : (a : Answer) (k n m : ℕ) (t : Table) → a ≡ refused k n → m ≡ n → t ≡ empty-table → record { outcome = outcome.Refused k m; table = t } ≡ answered a
+unfolding answered
+answer-refused a k n m t e g h = rw (e, g, h)
+
+-- A text over the limit, and one within it.
+pub read-long : (text : List ℕ) → max-text < length text → read text ≡ refused 10 0
+unfolding read
+read-long text h = rw (lt-leb (length text) max-text h)
+
+pub read-short : (text : List ℕ) → length text ≤ max-text → read text ≡ read-tokens (tokens text)
+unfolding read
+read-short text h = rw (le-leb (length text) max-text h)

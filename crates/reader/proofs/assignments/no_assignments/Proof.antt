@@ -1,0 +1,15 @@
+-- `no_assignments` meets its contract.
+-- Assumes nothing.
+use mathlib.Core.Path.{refl}
+use Rattle.laws.specs.Filled.{filled}
+use Rattle.reader.proofs.assignments.no_assignments.Statement.{statement}
+use Rattle.reader.proofs.assignments.no_assignments.Tie as tie
+use Rattle.reader.proofs.assignments.no_assignments.Reads as reads
+use Rattle.reader.proofs.assignments.no_assignments.Lts as lts
+
+returns : tie.Need-returns
+unfolding filled
+returns c = refl
+
+pub no-assignments-spec : {M : Type 1} → statement M
+no-assignments-spec = tie.close (tie.spec returns)

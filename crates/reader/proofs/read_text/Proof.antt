@@ -1,0 +1,32 @@
+-- `read_text` meets its contract.
+-- Assumes nothing.
+use mathlib.Core.Path.{refl, sym, ap, _∙_}
+use Rattle.grammar.specs.Limits.{max-text}
+use Rattle.reader.specs.Tables.{answered}
+use Rattle.reader.proofs.ReadLaws.{answer-refused, read-long, read-short}
+use borrow.Author.Needs.{needs}
+use Rattle.reader.proofs.read_text.Statement.{statement}
+use Rattle.reader.proofs.read_text.Tie as tie
+use Rattle.reader.proofs.read_text.Reads as reads
+use Rattle.reader.proofs.read_text.Lts as lts
+use Rattle.reader.proofs.read_statements.Reads as read-statements-reads
+use Rattle.table.proofs.empty_table.Reads as empty-table-reads
+
+empty-table-requires : tie.Need-empty-table-requires
+empty-table-requires c κs = search needs
+
+returns : tie.Need-returns
+unfolding max-text
+returns c = answer-refused _ _ _ _ _ (read-long (c .before .before .before .args .text .now) (c .before .if1 .taken)) refl (c .empty-table .ensures)
+
+read-statements-requires : tie.Need-read-statements-requires
+unfolding max-text
+read-statements-requires c κs = c .if1 .left
+
+returns-2 : tie.Need-returns-2
+unfolding max-text
+returns-2 c = c .read-statements .ensures ∙ ap answered (sym (read-short (c .before .before .before .args .text .now) (c .before .if1 .left)))
+
+pub read-text-spec : {M : Type 1} → statement M
+read-text-spec =
+    tie.close (tie.spec empty-table-requires returns read-statements-requires returns-2)

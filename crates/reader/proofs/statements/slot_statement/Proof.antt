@@ -1,0 +1,89 @@
+-- `slot_statement` meets its contract.
+-- Assumes nothing.
+use Prim.Native.Nat.{ℕ, suc, _+_, _-_, _≤_, _<_}
+use native.Mathlib.Omega.{arith}
+use mathlib.Core.Path.{_≡_, refl, sym, ap, subst, _∙_}
+use mathlib.Core.List.{List, []}
+use lib.ListN.{length}
+use Rattle.grammar.specs.Limits.{max-slots}
+use Rattle.reader.specs.Places.{Step-lies}
+use Rattle.reader.specs.Index.{span-slot}
+use Rattle.reader.specs.Lines.{outcome-part, Line-lies}
+use Rattle.reader.proofs.Index.{indexed-slots}
+use Rattle.reader.proofs.StatementLaws as statements
+use borrow.Author.Needs.{needs}
+use Rattle.reader.proofs.statements.slot_statement.Statement.{statement}
+use Rattle.reader.proofs.statements.slot_statement.Tie as tie
+use Rattle.reader.proofs.statements.slot_statement.Reads as reads
+use Rattle.reader.proofs.statements.slot_statement.Lts as lts
+use Rattle.reader.proofs.lines.line_next.Reads as line-next-reads
+use Rattle.reader.proofs.statements.no_line.Reads as no-line-reads
+use Rattle.table.proofs.empty_rule.Reads as empty-rule-reads
+
+no-line-requires : tie.Need-no-line-requires
+no-line-requires c κs = search needs
+
+empty-rule-requires : tie.Need-empty-rule-requires
+empty-rule-requires c κs = search needs
+
+returns : tie.Need-returns
+unfolding max-slots
+returns c =
+    let h = c .before .before .if1 .taken in
+    (λ slots bodies I e n. statements.on-line-full slots _ (omega arith) n, tt)
+
+line-next-requires : tie.Need-line-next-requires
+line-next-requires c κs = c .before .before .before .pre
+
+enum-known-outcome : tie.Need-enum-known-outcome
+enum-known-outcome c = search needs
+
+empty-rule-requires-2 : tie.Need-empty-rule-requires-2
+empty-rule-requires-2 c κs = search needs
+
+enum-known-outcome-2 : tie.Need-enum-known-outcome-2
+enum-known-outcome-2 c = search needs
+
+empty-rule-requires-3 : tie.Need-empty-rule-requires-3
+empty-rule-requires-3 c κs = search needs
+
+returns-2 : tie.Need-returns-2
+unfolding max-slots
+returns-2 c =
+    let a = c .before .before in
+    let k = a .before .before in
+    let h = k .before .if1 .left in
+    let r = k .line-next .result in
+    let text = k .before .before .before .before .args .text .now in
+    let rest = k .before .before .before .before .args .rest .now in
+    let l = subst (Step-lies _ _) (a .outcome .given .1) (k .line-next .ensures .1) in
+    let d = subst (Line-lies text (r .name) (r .spans) (r .count)) (a .outcome .given .1) (k .line-next .ensures .2) in (
+      λ slots bodies I e n. statements.on-line slots _ _ _ (omega arith) n (k .line-next .ensures .0 slots (indexed-slots I) ∙ ap (outcome-part rest (k .before .before .before .before .args .base) (span-slot text (r .name) (r .spans) (r .count))) (a .outcome .given .1)),
+      (l .0, l .1, h, refl, d .0, d .1, d .2),
+    )
+
+returns-3 : tie.Need-returns-3
+unfolding max-slots
+returns-3 c =
+    let a = c .before .before in
+    let k = a .before .before in
+    let h = k .before .if1 .left in
+    let r = k .line-next .result in
+    let text = k .before .before .before .before .args .text .now in
+    let rest = k .before .before .before .before .args .rest .now in
+    (λ slots bodies I e n. statements.on-line-stop slots _ _ (omega arith) n (k .line-next .ensures .0 slots (indexed-slots I) ∙ ap (outcome-part rest (k .before .before .before .before .args .base) (span-slot text (r .name) (r .spans) (r .count))) (a .outcome2 .given .1)), tt)
+
+pub slot-statement-spec : {M : Type 1} → statement M
+slot-statement-spec =
+    tie.close
+    (tie.spec
+    no-line-requires
+    empty-rule-requires
+    returns
+    line-next-requires
+    enum-known-outcome
+    empty-rule-requires-2
+    enum-known-outcome-2
+    empty-rule-requires-3
+    returns-2
+    returns-3)

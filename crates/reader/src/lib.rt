@@ -1,0 +1,99 @@
+// The reading of rule files into the table.
+ghost use mathlib.Core.Path.{_≡_};
+ghost use Prim.Native.Nat.{ℕ, _≤_};
+ghost use lib.ListN.{length};
+ghost use Rattle.text.specs.Tokens.{tokens};
+ghost use Rattle.grammar.specs.Limits.{max-text};
+ghost use Rattle.grammar.specs.Reading.{read, read-tokens};
+ghost use Rattle.reader.specs.Tables.{answered};
+use crate::lines::enter;
+use crate::lines::slot_of;
+use crate::statements::Kind;
+use crate::statements::statement_next;
+use table::Table;
+
+pub mod assignments;
+pub mod conditions;
+pub mod lines;
+pub mod literals;
+pub mod names;
+pub mod rules;
+pub mod statements;
+pub mod step;
+
+// The most bytes that a text may have.
+pub const TEXT_LIMIT: usize = 65535;
+
+// What a reading comes to: a refusal has its number and its second number.
+pub enum Outcome {
+    Accepted,
+    Refused(u8, usize),
+}
+
+// The outcome and the table, without slots or rules where it is refused.
+pub struct FileRead {
+    pub outcome: Outcome,
+    pub table: Table,
+}
+
+// The statements of a text one after the other; after each the remainder is handed on.
+fn read_statements(text: &[u8]) -> FileRead
+    requires { ⌜ length (now text) ≤ max-text ⌝ }
+    ensures { λ r. ⌜ r ≡ answered (read-tokens (tokens (now (text .entry)))) ⌝ }
+{
+    let mut t = table::empty_table();
+    let mut heads: [usize; 32] = [0; 32];
+    let mut bodies: [usize; 512] = [0; 512];
+    let mut rest = text;
+    let mut base: usize = 0;
+    loop {
+        let width = t.width;
+        let count = t.count;
+        let statement = statement_next(text, rest, base, &heads, &bodies, width, count);
+        let kind = statement.kind;
+        match kind {
+            Kind::End => {
+                return FileRead {
+                    outcome: Outcome::Accepted,
+                    table: t,
+                };
+            }
+            Kind::Slot(next) => {
+                let line = statement.line;
+                let name = line.name;
+                let spans = line.spans;
+                enter(&mut heads, &mut bodies, width, name, spans);
+                t.slots[width] = slot_of(name, spans, line.count);
+                t.width = width + 1;
+                rest = &rest[next..];
+                base = base + next;
+            }
+            Kind::Rule(next) => {
+                let rule = statement.rule;
+                t.rules[count] = rule;
+                t.count = count + 1;
+                rest = &rest[next..];
+                base = base + next;
+            }
+            Kind::Refused(k) => {
+                return FileRead {
+                    outcome: Outcome::Refused(k, count),
+                    table: table::empty_table(),
+                };
+            }
+        }
+    }
+}
+
+// The reading of any bytes of any length, all but refusal 18.
+pub fn read_text(text: &[u8]) -> FileRead
+    ensures { λ r. ⌜ r ≡ answered (read (now (text .entry))) ⌝ }
+{
+    if TEXT_LIMIT < text.len() {
+        return FileRead {
+            outcome: Outcome::Refused(10, 0),
+            table: table::empty_table(),
+        };
+    }
+    read_statements(text)
+}

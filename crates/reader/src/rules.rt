@@ -1,0 +1,183 @@
+// Rules: WHEN a trigger IF a condition THEN assignments, and `;`.
+ghost use mathlib.Core.Path.{_≡_};
+ghost use mathlib.Core.List.{List};
+ghost use Prim.Native.Nat.{ℕ, _≤_, _<_};
+ghost use lib.ListN.{length};
+ghost use Rattle.grammar.specs.Files.{Slot};
+ghost use Rattle.grammar.specs.Reading.{read-rule};
+ghost use Rattle.model.specs.Result.{pair};
+ghost use Rattle.reader.specs.Places.{tokens-past, Step-lies};
+ghost use Rattle.reader.specs.Literals.{Looked};
+ghost use Rattle.reader.specs.Rules.{trigger-pair, read-trigger, pair-part, Pair-lies, read-rest, rule-part, made-rule, Plain-rule};
+use crate::assignments::Assignments;
+use crate::assignments::assign_next;
+use crate::conditions::Literals;
+use crate::conditions::condition_next;
+use crate::literals::byte;
+use crate::names::Number;
+use crate::names::slot_next;
+use crate::names::value_next;
+use crate::step::Step;
+use crate::step::word_next;
+use table::Rule;
+
+// A slot, a value of it, and the position after them; or a refusal.
+pub enum PairRead {
+    Took(usize, usize, usize),
+    Fault(u8),
+}
+
+// `slot *= value`.
+fn pair_next(text: &[u8], rest: &[u8], heads: &[usize; 32], bodies: &[usize], at: usize) -> PairRead
+    requires { ⌜ length (now bodies) ≡ 512 ⌝ }
+    ensures { λ r. ⌜ ((base : ℕ) (slots : List Slot) → Looked (now (text .entry)) slots (now (heads .entry)) (now (bodies .entry))
+        → trigger-pair slots (tokens-past (now (rest .entry)) base at) ≡ pair-part (now (rest .entry)) base r) × Pair-lies (length (now (rest .entry))) at r ⌝ }
+{
+    let found = slot_next(text, rest, heads, at);
+    match found {
+        Number::Is(slot, after) => {
+            let mark = word_next(rest, after, text::BECOMES);
+            match mark {
+                Step::At(next) => {
+                    let read = value_next(text, rest, bodies, slot, next);
+                    match read {
+                        Number::Is(value, end) => PairRead::Took(slot, value, end),
+                        Number::Fault(k) => PairRead::Fault(k),
+                    }
+                }
+                Step::Fault(k) => PairRead::Fault(k),
+            }
+        }
+        Number::Fault(k) => PairRead::Fault(k),
+    }
+}
+
+// A rule's beginning: WHEN, its trigger, IF.
+pub fn trigger_next(
+    text: &[u8],
+    rest: &[u8],
+    heads: &[usize; 32],
+    bodies: &[usize],
+    at: usize,
+) -> PairRead
+    requires { ⌜ length (now bodies) ≡ 512 ⌝ }
+    ensures { λ r. ⌜ ((base : ℕ) (slots : List Slot) → Looked (now (text .entry)) slots (now (heads .entry)) (now (bodies .entry))
+        → read-trigger slots (tokens-past (now (rest .entry)) base at) ≡ pair-part (now (rest .entry)) base r) × Pair-lies (length (now (rest .entry))) at r ⌝ }
+{
+    let when = word_next(rest, at, text::WHEN);
+    match when {
+        Step::At(after) => {
+            let read = pair_next(text, rest, heads, bodies, after);
+            match read {
+                PairRead::Took(slot, value, end) => {
+                    let mark = word_next(rest, end, text::IF);
+                    match mark {
+                        Step::At(next) => PairRead::Took(slot, value, next),
+                        Step::Fault(k) => PairRead::Fault(k),
+                    }
+                }
+                PairRead::Fault(k) => PairRead::Fault(k),
+            }
+        }
+        Step::Fault(k) => PairRead::Fault(k),
+    }
+}
+
+// A rule in its places and the position after it; or a refusal.
+pub struct RuleRead {
+    pub outcome: Step,
+    pub rule: Rule,
+}
+
+// A rule of its parts; it has no stratum yet.
+fn rule_of(slot: usize, value: usize, literals: Literals, assignments: Assignments) -> Rule
+    requires { ⌜ (slot ≤ 31) × (value ≤ 15) ⌝ }
+    ensures { λ r. ⌜ r ≡ made-rule slot value literals assignments ⌝ }
+{
+    let tests = literals.places;
+    let sets = assignments.places;
+    Rule {
+        slot: byte(slot),
+        value: byte(value),
+        literals: tests,
+        tested: literals.count,
+        assignments: sets,
+        assigned: assignments.count,
+        stratum: 0,
+    }
+}
+
+// The rest of a rule, after its trigger and IF.
+fn rest_next(
+    text: &[u8],
+    rest: &[u8],
+    heads: &[usize; 32],
+    bodies: &[usize],
+    slot: usize,
+    value: usize,
+    at: usize,
+) -> RuleRead
+    requires { ⌜ (slot ≤ 31) × (value ≤ 15) × (length (now bodies) ≡ 512) ⌝ }
+    ensures { λ r. ⌜ ((base : ℕ) (slots : List Slot) → Looked (now (text .entry)) slots (now (heads .entry)) (now (bodies .entry))
+        → read-rest slots (pair slot value) (tokens-past (now (rest .entry)) base at) ≡ rule-part (now (rest .entry)) base (r .rule) (r .outcome))
+        × Step-lies (length (now (rest .entry))) at (r .outcome) × Plain-rule (r .rule) ⌝ }
+{
+    let condition = condition_next(text, rest, heads, bodies, at);
+    let literals = condition.list;
+    let first = condition.outcome;
+    match first {
+        Step::At(after) => {
+            let assigned = assign_next(text, rest, heads, bodies, after);
+            let assignments = assigned.list;
+            let second = assigned.outcome;
+            match second {
+                Step::At(end) => {
+                    let last = word_next(rest, end, text::SEMICOLON);
+                    RuleRead {
+                        outcome: last,
+                        rule: rule_of(slot, value, literals, assignments),
+                    }
+                }
+                Step::Fault(k) => RuleRead {
+                    outcome: Step::Fault(k),
+                    rule: table::empty_rule(),
+                },
+            }
+        }
+        Step::Fault(k) => RuleRead {
+            outcome: Step::Fault(k),
+            rule: table::empty_rule(),
+        },
+    }
+}
+
+// A rule, from WHEN to after its `;`.
+pub fn rule_next(
+    text: &[u8],
+    rest: &[u8],
+    heads: &[usize; 32],
+    bodies: &[usize],
+    at: usize,
+) -> RuleRead
+    requires { ⌜ length (now bodies) ≡ 512 ⌝ }
+    ensures { λ r. ⌜ ((base : ℕ) (slots : List Slot) → Looked (now (text .entry)) slots (now (heads .entry)) (now (bodies .entry))
+        → read-rule slots (tokens-past (now (rest .entry)) base at) ≡ rule-part (now (rest .entry)) base (r .rule) (r .outcome))
+        × Step-lies (length (now (rest .entry))) at (r .outcome) × Plain-rule (r .rule) ⌝ }
+{
+    let trigger = trigger_next(text, rest, heads, bodies, at);
+    match trigger {
+        PairRead::Took(slot, value, after) => rest_next(
+            text,
+            rest,
+            heads,
+            bodies,
+            slot,
+            value,
+            after,
+        ),
+        PairRead::Fault(k) => RuleRead {
+            outcome: Step::Fault(k),
+            rule: table::empty_rule(),
+        },
+    }
+}

@@ -1,0 +1,161 @@
+// One statement at the front of the remainder: a slot line, a rule, or the end.
+ghost use mathlib.Core.Path.{_≡_};
+ghost use mathlib.Core.List.{List, []};
+ghost use Prim.Native.Nat.{ℕ, _≤_, _<_};
+ghost use lib.ListN.{length};
+ghost use Rattle.model.specs.Rules as model;
+ghost use Rattle.grammar.specs.Files.{Slot};
+ghost use Rattle.reader.specs.Places.{tokens-past};
+ghost use Rattle.reader.specs.Index.{Indexed};
+ghost use Rattle.reader.specs.Lines.{Remainder};
+ghost use Rattle.reader.specs.Statements.{read-on, Slot-next, Rule-next, statement-answer, Statement-lies};
+use crate::lines::Line;
+use crate::lines::line_next;
+use crate::rules::rule_next;
+use crate::step::Step;
+use crate::step::word_next;
+use table::Rule;
+use text::Token;
+
+// What stands at the front: a slot line or a rule with the position after it, the end, or a refusal.
+pub enum Kind {
+    End,
+    Slot(usize),
+    Rule(usize),
+    Refused(u8),
+}
+
+// A statement: the slot line and the rule are those read where the kind says so.
+pub struct Statement {
+    pub kind: Kind,
+    pub line: Line,
+    pub rule: Rule,
+}
+
+// No slot line.
+fn no_line() -> Line {
+    Line {
+        outcome: Step::Fault(0),
+        name: 0,
+        spans: [0; table::VALUES],
+        count: 0,
+    }
+}
+
+// A slot line after `width` others.
+fn slot_statement(
+    text: &[u8],
+    rest: &[u8],
+    base: usize,
+    heads: &[usize; 32],
+    width: usize,
+) -> Statement
+    requires { ⌜ Remainder (now text) (now rest) base ⌝ }
+    ensures { λ r. ⌜ ((slots : List Slot) (bodies : List ℕ) → Indexed (now (text .entry)) slots (now (heads .entry)) bodies → width ≡ length slots
+        → Slot-next (tokens-past (now (rest .entry)) base 0) → read-on slots [] (tokens-past (now (rest .entry)) base 0) ≡ statement-answer (now (text .entry)) (now (rest .entry)) base slots [] r)
+        × Statement-lies (now (text .entry)) (length (now (rest .entry))) width 0 r ⌝ }
+{
+    if table::SLOTS <= width {
+        return Statement {
+            kind: Kind::Refused(15),
+            line: no_line(),
+            rule: table::empty_rule(),
+        };
+    }
+    let line = line_next(text, rest, base, heads, 0);
+    let outcome = line.outcome;
+    match outcome {
+        Step::At(next) => Statement {
+            kind: Kind::Slot(next),
+            line: line,
+            rule: table::empty_rule(),
+        },
+        Step::Fault(k) => Statement {
+            kind: Kind::Refused(k),
+            line: line,
+            rule: table::empty_rule(),
+        },
+    }
+}
+
+// A rule after `count` others.
+fn rule_statement(
+    text: &[u8],
+    rest: &[u8],
+    heads: &[usize; 32],
+    bodies: &[usize],
+    count: usize,
+) -> Statement
+    requires { ⌜ length (now bodies) ≡ 512 ⌝ }
+    ensures { λ r. ⌜ ((base : ℕ) (slots : List Slot) (rules : List model.Rule) → Indexed (now (text .entry)) slots (now (heads .entry)) (now (bodies .entry)) → count ≡ length rules
+        → Rule-next rules (tokens-past (now (rest .entry)) base 0) → read-on slots rules (tokens-past (now (rest .entry)) base 0) ≡ statement-answer (now (text .entry)) (now (rest .entry)) base slots rules r)
+        × ((width : ℕ) → Statement-lies (now (text .entry)) (length (now (rest .entry))) width count r) ⌝ }
+{
+    if table::RULES <= count {
+        let when = word_next(rest, 0, text::WHEN);
+        match when {
+            Step::At(_) => {
+                return Statement {
+                    kind: Kind::Refused(15),
+                    line: no_line(),
+                    rule: table::empty_rule(),
+                };
+            }
+            Step::Fault(k) => {
+                return Statement {
+                    kind: Kind::Refused(k),
+                    line: no_line(),
+                    rule: table::empty_rule(),
+                };
+            }
+        }
+    }
+    let read = rule_next(text, rest, heads, bodies, 0);
+    let rule = read.rule;
+    let outcome = read.outcome;
+    match outcome {
+        Step::At(next) => Statement {
+            kind: Kind::Rule(next),
+            line: no_line(),
+            rule: rule,
+        },
+        Step::Fault(k) => Statement {
+            kind: Kind::Refused(k),
+            line: no_line(),
+            rule: rule,
+        },
+    }
+}
+
+// The statement at the front of the remainder, after `width` slot lines and `count` rules.
+pub fn statement_next(
+    text: &[u8],
+    rest: &[u8],
+    base: usize,
+    heads: &[usize; 32],
+    bodies: &[usize],
+    width: usize,
+    count: usize,
+) -> Statement
+    requires { ⌜ Remainder (now text) (now rest) base × (length (now bodies) ≡ 512) ⌝ }
+    ensures { λ r. ⌜ ((slots : List Slot) (rules : List model.Rule) → Indexed (now (text .entry)) slots (now (heads .entry)) (now (bodies .entry)) → width ≡ length slots → count ≡ length rules
+        → read-on slots rules (tokens-past (now (rest .entry)) base 0) ≡ statement-answer (now (text .entry)) (now (rest .entry)) base slots rules r)
+        × Statement-lies (now (text .entry)) (length (now (rest .entry))) width count r ⌝ }
+{
+    let next = text::token_at(rest, 0);
+    let token = next.token;
+    if let Token::End = token {
+        return Statement {
+            kind: Kind::End,
+            line: no_line(),
+            rule: table::empty_rule(),
+        };
+    }
+    if count == 0 {
+        let slot = word_next(rest, 0, text::SLOT);
+        if let Step::At(_) = slot {
+            return slot_statement(text, rest, base, heads, width);
+        }
+    }
+    rule_statement(text, rest, heads, bodies, count)
+}

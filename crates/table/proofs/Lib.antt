@@ -1,0 +1,4 @@
+pub mod Shape
+pub mod Link
+pub mod Flat
+pub mod Names

@@ -1,0 +1,34 @@
+-- Laws of the link from a table to the model.
+-- Assumes nothing.
+use mathlib.Core.Path.{_≡_, ap, _∙_}
+use Prim.Native.Nat.{ℕ, _≤_, _<_}
+use native.Mathlib.Omega.{arith}
+use lib.ListN.{length, getD, take, length-map, length-take, List·getD-map}
+use lib.Seq.{getD-take}
+use Rattle.table.specs.declared.Table.{Table}
+use Rattle.table.specs.Shape.{no-rule, no-slot}
+use Rattle.table.specs.Link.{rule-of, rules-of, carried-strata, value-counts}
+
+pub rules-length : (t : Table) → t .count ≤ length (t .rules) → length (rules-of t) ≡ t .count
+unfolding rules-of
+rules-length t h = simp (length-map, length-take) (omega arith)
+
+pub rule-is : (t : Table) (i : ℕ) → i < t .count → getD (rules-of t) i (rule-of no-rule) ≡ rule-of (getD (t .rules) i no-rule)
+unfolding rules-of
+rule-is t i h = List·getD-map rule-of (take (t .count) (t .rules)) i no-rule ∙ ap rule-of (getD-take (t .count) (t .rules) i no-rule h)
+
+pub strata-length : (t : Table) → t .count ≤ length (t .rules) → length (carried-strata t) ≡ t .count
+unfolding carried-strata
+strata-length t h = simp (length-map, length-take) (omega arith)
+
+pub stratum-is : (t : Table) (i : ℕ) → i < t .count → getD (carried-strata t) i 0 ≡ getD (t .rules) i no-rule .stratum
+unfolding carried-strata
+stratum-is t i h = List·getD-map (λ r. r .stratum) (take (t .count) (t .rules)) i no-rule ∙ rw (getD-take (t .count) (t .rules) i no-rule h)
+
+pub counts-length : (t : Table) → t .width ≤ length (t .slots) → length (value-counts t) ≡ t .width
+unfolding value-counts
+counts-length t h = simp (length-map, length-take) (omega arith)
+
+pub count-is : (t : Table) (i : ℕ) → i < t .width → getD (value-counts t) i 0 ≡ getD (t .slots) i no-slot .count
+unfolding value-counts
+count-is t i h = List·getD-map (λ s. s .count) (take (t .width) (t .slots)) i no-slot ∙ rw (getD-take (t .width) (t .slots) i no-slot h)

@@ -1,0 +1,52 @@
+-- `table::slot_name` meets its contract.
+-- Assumes nothing.
+use mathlib.Core.Path.{_≡_, refl, sym, _∙_}
+use mathlib.Core.Bool.{true}
+use Prim.Native.Nat.{_<_}
+use borrow.Author.Tests.{not-true, not-false}
+use Rattle.table.specs.Limits.{slot-limit}
+use Rattle.table.specs.Names.{has-slot}
+use Rattle.table.proofs.Names.{slot-inside, slot-shown, slot-lacking}
+use native.Mathlib.Omega.{arith}
+use borrow.Author.Needs.{needs}
+use Rattle.table.proofs.slot_name.Statement.{statement}
+use Rattle.table.proofs.slot_name.Tie as tie
+
+there : (c : tie.Else1) → has-slot (c .before .before .before .args .t2 .width) (c .before .before .before .args .slot) ≡ true
+there c = sym (c .before .has-slot .ensures) ∙ not-false (c .before .has-slot .result) (c .if1 .left)
+
+inside : (c : tie.Else1) → c .before .before .before .args .slot < slot-limit
+inside c = slot-inside _ _ (there c) .0
+
+has-slot-requires : tie.Need-has-slot-requires
+has-slot-requires c κs = search needs
+
+slice-aggregate-result : tie.Need-slice-aggregate-result
+slice-aggregate-result c = search needs
+
+returns : tie.Need-returns
+returns c = let s = c .before .before .before .before in rw (slot-lacking (s .args .text .now) (s .args .t2) (s .args .slot) (sym (c .before .before .has-slot .ensures) ∙ not-true (c .before .before .has-slot .result) (c .before .if1 .taken))) (refl, refl)
+
+mul-named : tie.Need-mul-named
+mul-named c = omega (arith, inside c)
+
+element-copy-out-named : tie.Need-element-copy-out-named
+element-copy-out-named c = inside c
+
+stretch-requires : tie.Need-stretch-requires
+stretch-requires c κs = search needs
+
+returns-2 : tie.Need-returns-2
+returns-2 c = let s = c .before .before .before .before .before .before .before in rw (slot-shown (s .args .text .now) (s .args .t2) (s .args .slot) (there (c .before .before .before .before))) (c .stretch .ensures)
+
+pub slot-name-spec : {M : Type 1} → statement M
+slot-name-spec =
+    tie.close
+    (tie.spec
+    has-slot-requires
+    slice-aggregate-result
+    returns
+    mul-named
+    element-copy-out-named
+    stretch-requires
+    returns-2)

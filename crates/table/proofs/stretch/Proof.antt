@@ -1,0 +1,43 @@
+-- `table::stretch` meets its contract.
+-- Assumes nothing.
+use mathlib.Core.Path.{refl}
+use mathlib.Core.Logic.{⊎-elim}
+use native.Mathlib.Nat.{add-sub-cancel-left}
+use Rattle.table.proofs.Names.{name-inside, name-outside}
+use native.Mathlib.Omega.{arith}
+use borrow.Author.Needs.{needs}
+use Rattle.table.proofs.stretch.Statement.{statement}
+use Rattle.table.proofs.stretch.Tie as tie
+
+add-end : tie.Need-add-end
+add-end c = search needs
+
+sub-result : tie.Need-sub-result
+sub-result c = search needs
+
+part-result-start : tie.Need-part-result-start
+part-result-start c = search needs
+
+part-result-end : tie.Need-part-result-end
+part-result-end c = search needs
+
+returns : tie.Need-returns
+returns c = let s = c .before .before .before in rw (name-inside (s .args .text .now) (s .args .name) (omega arith), add-sub-cancel-left) (refl, refl)
+
+slice-aggregate-result : tie.Need-slice-aggregate-result
+slice-aggregate-result c = search needs
+
+returns-2 : tie.Need-returns-2
+returns-2 c = let s = c .before .before in rw (name-outside (s .args .text .now) (s .args .name) (⊎-elim (λ w. omega arith) (λ w. omega arith) (c .before .if1 .came))) (refl, refl)
+
+pub stretch-spec : {M : Type 1} → statement M
+stretch-spec =
+    tie.close
+    (tie.spec
+    add-end
+    sub-result
+    part-result-start
+    part-result-end
+    returns
+    slice-aggregate-result
+    returns-2)

@@ -1,0 +1,6 @@
+pub mod Limits
+pub mod Shape
+pub mod Empty
+pub mod Link
+pub mod Flat
+pub mod Names

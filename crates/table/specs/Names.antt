@@ -1,0 +1,46 @@
+-- Document 01, 'Rule text': a name is shown as the very stretch of text where it was declared; 31 where the table lacks the slot or value asked for or puts its name outside the text.
+-- A table has the slots and values that its numbers count, and at most the limits: a number above the limit gives it no more.
+use mathlib.Core.Bool.{Bool, cond}
+use mathlib.Core.List.{List, []}
+use Prim.Native.Nat.{ℕ, _+_, _-_}
+use lib.Dec.{leb, ltb}
+use lib.ListN.{length, take, drop, getD}
+use Rattle.laws.specs.Truth.{_∧ᵇ_}
+use Rattle.table.specs.declared.Name.{Name}
+use Rattle.table.specs.declared.Slot.{Slot}
+use Rattle.table.specs.declared.Table.{Table}
+use Rattle.table.specs.Limits.{slot-limit, value-limit}
+use Rattle.table.specs.Shape.{no-name, no-slot}
+
+-- An answer: 0 and a part of the text, or a refusal's number and no part.
+pub record Showing : Type 0 where
+  pub code : ℕ
+  pub part : List ℕ
+
+-- Refusal 31.
+abbrev pub refused : Showing
+refused = record { code = 31; part = [] }
+
+-- A name: the stretch of text from its start, as long as its size.
+unfoldable pub show-name : List ℕ → Name → Showing
+show-name text n = cond (leb (n .start + n .size) (length text)) (record { code = 0; part = take (n .size) (drop (n .start) text) }) refused
+
+-- A table with so many slots has this one.
+unfoldable pub has-slot : ℕ → ℕ → Bool
+has-slot width slot = ltb slot slot-limit ∧ᵇ ltb slot width
+
+-- A slot with so many values has this one; values count from 1.
+unfoldable pub has-value : ℕ → ℕ → Bool
+has-value count value = leb 1 value ∧ᵇ leb value value-limit ∧ᵇ leb value count
+
+-- The name of a slot.
+unfoldable pub show-slot : List ℕ → Table → ℕ → Showing
+show-slot text t slot = cond (has-slot (t .width) slot) (show-name text (getD (t .slots) slot no-slot .name)) refused
+
+-- The name of a value of a slot that the table has.
+unfoldable pub show-value-of : List ℕ → Slot → ℕ → Showing
+show-value-of text s value = cond (has-value (s .count) value) (show-name text (getD (s .values) (value - 1) no-name)) refused
+
+-- The name of a value.
+unfoldable pub show-value : List ℕ → Table → ℕ → ℕ → Showing
+show-value text t slot value = cond (has-slot (t .width) slot) (show-value-of text (getD (t .slots) slot no-slot) value) refused

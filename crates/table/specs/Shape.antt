@@ -1,0 +1,64 @@
+-- What the types of the code give every table: the lengths of its arrays and the ranges of its bytes.
+use mathlib.Core.Path.{_≡_}
+use mathlib.Core.Bool.{false}
+use mathlib.Core.List.{[]}
+use Prim.Native.Nat.{ℕ, _<_}
+use lib.ListN.{length, getD}
+use Rattle.table.specs.declared.Literal.{Literal}
+use Rattle.table.specs.declared.Assignment.{Assignment}
+use Rattle.table.specs.declared.Rule.{Rule}
+use Rattle.table.specs.declared.Name.{Name}
+use Rattle.table.specs.declared.Slot.{Slot}
+use Rattle.table.specs.declared.Table.{Table}
+use Rattle.table.specs.Limits.{slot-limit, value-limit, rule-limit, literal-limit, assignment-limit}
+
+-- What reading a list of literals past its end gives.
+abbrev pub no-literal : Literal
+no-literal = record { becomes = false; negated = false; slot = 0; value = 0 }
+
+-- The same for assignments.
+abbrev pub no-assignment : Assignment
+no-assignment = record { slot = 0; value = 0 }
+
+-- The same for rules.
+abbrev pub no-rule : Rule
+no-rule = record { slot = 0; value = 0; literals = []; tested = 0; assignments = []; assigned = 0; stratum = 0 }
+
+-- The same for names.
+abbrev pub no-name : Name
+no-name = record { start = 0; size = 0 }
+
+-- The same for slots.
+abbrev pub no-slot : Slot
+no-slot = record { name = no-name; values = []; count = 0 }
+
+-- A literal names its pair in bytes.
+pub record LiteralShaped (l : Literal) : Type 0 where
+  pub slot-byte : l .slot < 256
+  pub value-byte : l .value < 256
+
+-- So does an assignment.
+pub record AssignmentShaped (a : Assignment) : Type 0 where
+  pub slot-byte : a .slot < 256
+  pub value-byte : a .value < 256
+
+-- A rule has eight literal places and four assignment places; its trigger and its stratum are bytes.
+pub record RuleShaped (r : Rule) : Type 0 where
+  pub slot-byte : r .slot < 256
+  pub value-byte : r .value < 256
+  pub literal-places : length (r .literals) ≡ literal-limit
+  pub each-literal : (j : ℕ) → j < literal-limit → LiteralShaped (getD (r .literals) j no-literal)
+  pub assignment-places : length (r .assignments) ≡ assignment-limit
+  pub each-assignment : (j : ℕ) → j < assignment-limit → AssignmentShaped (getD (r .assignments) j no-assignment)
+  pub stratum-byte : r .stratum < 256
+
+-- A slot has fifteen places for names of values.
+pub record SlotShaped (s : Slot) : Type 0 where
+  pub value-places : length (s .values) ≡ value-limit
+
+-- A table has 32 places for slots and 255 for rules.
+pub record Shaped (t : Table) : Type 0 where
+  pub slot-places : length (t .slots) ≡ slot-limit
+  pub each-slot : (i : ℕ) → i < slot-limit → SlotShaped (getD (t .slots) i no-slot)
+  pub rule-places : length (t .rules) ≡ rule-limit
+  pub each-rule : (i : ℕ) → i < rule-limit → RuleShaped (getD (t .rules) i no-rule)

@@ -1,0 +1,217 @@
+// The table of document 01, 'Rule text': slots, values and rules by value, and names shown as parts of the caller's text.
+ghost use mathlib.Core.Path.{_≡_};
+ghost use Prim.Native.Nat.{ℕ};
+ghost use Rattle.table.specs.Empty.{unused-rule, empty-table};
+ghost use Rattle.table.specs.Flat.{Placed, At};
+ghost use Rattle.table.specs.Names.{has-slot, has-value, show-name, show-slot, show-value-of, show-value};
+
+// The limits of document 01; specs/Limits.antt has the same numbers.
+pub const SLOTS: usize = 32;
+
+pub const VALUES: usize = 15;
+
+pub const RULES: usize = 255;
+
+pub const LITERALS: usize = 8;
+
+pub const ASSIGNMENTS: usize = 4;
+
+// The places of one slot in an array indexed by pair (its values from 1, and 0), and of all slots.
+pub const ROW: usize = 16;
+
+pub const PAIRS: usize = 512;
+
+// A rule's number, from 1.
+pub type RuleNumber = u8;
+
+// A test in a condition: `slot *= value` (becomes) or `slot |= value`, plain or under NOT.
+pub struct Literal {
+    pub becomes: bool,
+    pub negated: bool,
+    pub slot: u8,
+    pub value: u8,
+}
+
+// `slot := value`.
+pub struct Assignment {
+    pub slot: u8,
+    pub value: u8,
+}
+
+// A rule: its trigger `slot *= value`, the literal places with the number used, the assignment places with the number used, its stratum.
+pub struct Rule {
+    pub slot: u8,
+    pub value: u8,
+    pub literals: [Literal; LITERALS],
+    pub tested: usize,
+    pub assignments: [Assignment; ASSIGNMENTS],
+    pub assigned: usize,
+    pub stratum: RuleNumber,
+}
+
+// Where a name stands in the rule text.
+pub struct Name {
+    pub start: usize,
+    pub size: usize,
+}
+
+// A slot: its name, and the names of its values with the number used.
+pub struct Slot {
+    pub name: Name,
+    pub values: [Name; VALUES],
+    pub count: usize,
+}
+
+// The slots with the number used, and the rules with the number used.
+pub struct Table {
+    pub slots: [Slot; SLOTS],
+    pub width: usize,
+    pub rules: [Rule; RULES],
+    pub count: usize,
+}
+
+// A rule's place that is not used: zero throughout.
+pub fn empty_rule() -> Rule
+    ensures { λ r. ⌜ r ≡ unused-rule ⌝ }
+{
+    let literal = Literal {
+        becomes: false,
+        negated: false,
+        slot: 0,
+        value: 0,
+    };
+    let assignment = Assignment { slot: 0, value: 0 };
+    Rule {
+        slot: 0,
+        value: 0,
+        literals: [literal; LITERALS],
+        tested: 0,
+        assignments: [assignment; ASSIGNMENTS],
+        assigned: 0,
+        stratum: 0,
+    }
+}
+
+// The table without slots or rules: zero throughout.
+pub fn empty_table() -> Table
+    ensures { λ t. ⌜ t ≡ empty-table ⌝ }
+{
+    let name = Name { start: 0, size: 0 };
+    let slot = Slot {
+        name: name,
+        values: [name; VALUES],
+        count: 0,
+    };
+    let rule = empty_rule();
+    Table {
+        slots: [slot; SLOTS],
+        width: 0,
+        rules: [rule; RULES],
+        count: 0,
+    }
+}
+
+// A byte as an index.
+pub fn wide(x: u8) -> usize
+    ensures { λ r. ⌜ r ≡ x ⌝ }
+{
+    x as usize
+}
+
+// The place of a pair in an array indexed by pair.
+pub fn place(slot: u8, value: u8) -> usize
+    requires { ⌜ Placed slot value ⌝ }
+    ensures { λ r. ⌜ At slot value r ⌝ }
+{
+    let s = slot as usize;
+    let v = value as usize;
+    s * ROW + v
+}
+
+// The part of the text where a name stands; `code` gets 0, or 31 with an empty part where the name stands outside the text.
+fn stretch<'a>(text: &'a [u8], name: Name, code: &mut u8) -> &'a [u8]
+    ensures { λ r. ⌜ (now (code .exit) ≡ show-name (now (text .entry)) name .code) × (now r ≡ show-name (now (text .entry)) name .part) ⌝ }
+{
+    let start = name.start;
+    let size = name.size;
+    let length = text.len();
+    if start <= length {
+        if size <= length - start {
+            *code = 0;
+            let end = start + size;
+            return &text[start..end];
+        }
+    }
+    *code = 31;
+    &text[..0]
+}
+
+// Whether a table with so many slots has this one; a number above the limit gives it no more than the limit.
+pub fn has_slot(width: usize, slot: usize) -> bool
+    ensures { λ r. ⌜ r ≡ has-slot width slot ⌝ }
+{
+    if SLOTS <= slot {
+        return false;
+    }
+    slot < width
+}
+
+// Whether a slot with so many values has this one, values counted from 1; a number above the limit gives it no more than the limit.
+pub fn has_value(count: usize, value: usize) -> bool
+    ensures { λ r. ⌜ r ≡ has-value count value ⌝ }
+{
+    if value < 1 {
+        return false;
+    }
+    if VALUES < value {
+        return false;
+    }
+    value <= count
+}
+
+// A slot's name: the very stretch of the text where it was declared; `code` gets 0, or 31 with an empty part.
+pub fn slot_name<'a>(text: &'a [u8], t: Table, slot: usize, code: &mut u8) -> &'a [u8]
+    ensures { λ r. ⌜ (now (code .exit) ≡ show-slot (now (text .entry)) t slot .code) × (now r ≡ show-slot (now (text .entry)) t slot .part) ⌝ }
+{
+    let width = t.width;
+    if !has_slot(width, slot) {
+        *code = 31;
+        return &text[..0];
+    }
+    let named = t.slots[slot];
+    let name = named.name;
+    stretch(text, name, code)
+}
+
+// The name of a value of this slot, values counted from 1; `code` gets 0, or 31 with an empty part.
+fn value_of<'a>(text: &'a [u8], s: Slot, value: usize, code: &mut u8) -> &'a [u8]
+    ensures { λ r. ⌜ (now (code .exit) ≡ show-value-of (now (text .entry)) s value .code) × (now r ≡ show-value-of (now (text .entry)) s value .part) ⌝ }
+{
+    let count = s.count;
+    if !has_value(count, value) {
+        *code = 31;
+        return &text[..0];
+    }
+    let k = value - 1;
+    let name = s.values[k];
+    stretch(text, name, code)
+}
+
+// A value's name, values counted from 1: the very stretch of the text where it was declared; `code` gets 0, or 31 with an empty part.
+pub fn value_name<'a>(
+    text: &'a [u8],
+    t: Table,
+    slot: usize,
+    value: usize,
+    code: &mut u8,
+) -> &'a [u8]
+    ensures { λ r. ⌜ (now (code .exit) ≡ show-value (now (text .entry)) t slot value .code) × (now r ≡ show-value (now (text .entry)) t slot value .part) ⌝ }
+{
+    let width = t.width;
+    if !has_slot(width, slot) {
+        *code = 31;
+        return &text[..0];
+    }
+    let s = t.slots[slot];
+    value_of(text, s, value, code)
+}
