@@ -1,0 +1,86 @@
+-- `write_literals` is safe and ends.
+-- Assumes nothing.
+use Prim.Native.Nat.{_-_, _≤_}
+use lib.ListN.{length}
+use borrow.Author.Needs.{needs}
+use Rattle.read_cases.proofs.write_literals.Statement.{statement}
+use Rattle.read_cases.proofs.write_literals.Tie as tie
+use Rattle.read_cases.proofs.write_literals.Reads as reads
+use Rattle.read_cases.proofs.write_literals.Lts as lts
+use Rattle.io.proofs.write_all.Reads as write-all-reads
+use Rattle.read_cases.proofs.write_flag.Reads as write-flag-reads
+use Rattle.read_cases.proofs.write_number.Reads as write-number-reads
+use Rattle.table.proofs.wide.Reads as wide-reads
+
+abbrev Inv-loop : tie.InvT-loop
+Inv-loop r i₀ t5 i = Unit
+
+abbrev μ-loop : tie.MeasureT-loop
+μ-loop r i₀ t5 i = 8 - i
+
+loop-holds : tie.Need-loop-holds Inv-loop μ-loop
+loop-holds c = search needs
+
+mul-l : tie.Need-mul-l Inv-loop μ-loop
+mul-l c = search needs
+
+element-copy-out-l : tie.Need-element-copy-out-l Inv-loop μ-loop
+element-copy-out-l c = search needs
+
+slice-aggregate-write-all : tie.Need-slice-aggregate-write-all Inv-loop μ-loop
+slice-aggregate-write-all c = search needs
+
+write-all-requires : tie.Need-write-all-requires Inv-loop μ-loop
+write-all-requires c κs = search needs
+
+write-flag-requires : tie.Need-write-flag-requires Inv-loop μ-loop
+write-flag-requires c κs = search needs
+
+write-flag-requires-2 : tie.Need-write-flag-requires-2 Inv-loop μ-loop
+write-flag-requires-2 c κs = search needs
+
+wide-requires : tie.Need-wide-requires Inv-loop μ-loop
+wide-requires c κs = search needs
+
+write-number-requires : tie.Need-write-number-requires Inv-loop μ-loop
+write-number-requires c κs = search needs
+
+wide-requires-2 : tie.Need-wide-requires-2 Inv-loop μ-loop
+wide-requires-2 c κs = search needs
+
+write-number-requires-2 : tie.Need-write-number-requires-2 Inv-loop μ-loop
+write-number-requires-2 c κs = search needs
+
+add-i : tie.Need-add-i Inv-loop μ-loop
+add-i c = search needs
+
+loop-less : tie.Need-loop-less Inv-loop μ-loop
+loop-less c = search needs
+
+loop-again : tie.Need-loop-again Inv-loop μ-loop
+loop-again c = search needs
+
+returns : tie.Need-returns Inv-loop μ-loop
+returns c = search needs
+
+pub write-literals-spec : {M : Type 1} → statement M
+write-literals-spec =
+    tie.close
+    (tie.spec
+    Inv-loop
+    μ-loop
+    loop-holds
+    mul-l
+    element-copy-out-l
+    slice-aggregate-write-all
+    write-all-requires
+    write-flag-requires
+    write-flag-requires-2
+    wide-requires
+    write-number-requires
+    wide-requires-2
+    write-number-requires-2
+    add-i
+    loop-less
+    loop-again
+    returns)

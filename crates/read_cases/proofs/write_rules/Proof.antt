@@ -1,0 +1,55 @@
+-- `write_rules` is safe and ends.
+-- Assumes nothing.
+use Prim.Native.Nat.{_-_, _≤_}
+use lib.ListN.{length}
+use borrow.Author.Needs.{needs}
+use Rattle.read_cases.proofs.write_rules.Statement.{statement}
+use Rattle.read_cases.proofs.write_rules.Tie as tie
+use Rattle.read_cases.proofs.write_rules.Reads as reads
+use Rattle.read_cases.proofs.write_rules.Lts as lts
+use Rattle.read_cases.proofs.write_rule.Reads as write-rule-reads
+
+abbrev Inv-loop : tie.InvT-loop
+Inv-loop t i₀ i = Unit
+
+abbrev μ-loop : tie.MeasureT-loop
+μ-loop t i₀ i = 255 - i
+
+loop-holds : tie.Need-loop-holds Inv-loop μ-loop
+loop-holds c = search needs
+
+mul-r : tie.Need-mul-r Inv-loop μ-loop
+mul-r c = search needs
+
+element-copy-out-r : tie.Need-element-copy-out-r Inv-loop μ-loop
+element-copy-out-r c = search needs
+
+write-rule-requires : tie.Need-write-rule-requires Inv-loop μ-loop
+write-rule-requires c κs = search needs
+
+add-i : tie.Need-add-i Inv-loop μ-loop
+add-i c = search needs
+
+loop-less : tie.Need-loop-less Inv-loop μ-loop
+loop-less c = search needs
+
+loop-again : tie.Need-loop-again Inv-loop μ-loop
+loop-again c = search needs
+
+returns : tie.Need-returns Inv-loop μ-loop
+returns c = search needs
+
+pub write-rules-spec : {M : Type 1} → statement M
+write-rules-spec =
+    tie.close
+    (tie.spec
+    Inv-loop
+    μ-loop
+    loop-holds
+    mul-r
+    element-copy-out-r
+    write-rule-requires
+    add-i
+    loop-less
+    loop-again
+    returns)

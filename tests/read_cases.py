@@ -1,0 +1,227 @@
+#!/usr/bin/env python3
+"""The stored texts of the crate read_cases, and what their reading should give, by a reader of its own made from document 01 and the appendix of the RL paper.
+
+  tests/read_cases.py          writes crates/read_cases/stdin and stdout
+  tests/read_cases.py --check  says whether they are what it would write; exit status 1 where they are not
+"""
+import os
+import random
+import re
+import sys
+
+TOKEN = re.compile(rb'[0-9A-Za-z][0-9A-Za-z-]*|[*|:]=|[{},;]')
+RESERVED = {b'SLOT', b'WHEN', b'IF', b'THEN', b'AND', b'NOT', b'TRUE'}
+
+
+class Refused(Exception):
+    """A refusal by its number."""
+
+
+def tokens(text):
+    """Each token as (kind, bytes): a word or mark is its own kind; at last the end."""
+    at = 0
+    while at < len(text):
+        if text[at] in b'\t\n\r ':
+            at += 1
+            continue
+        found = TOKEN.match(text, at)
+        if not found:
+            yield 'bad', b''
+            at += 1
+            continue
+        part, at = found.group(), found.end()
+        if part in RESERVED or not part[:1].isalnum():
+            yield part.decode(), part
+        else:
+            yield ('name' if len(part) <= 24 else 'long'), part
+    yield 'end', b''
+
+
+class File:
+    """One reading, token by token: the first token that is refused decides."""
+
+    def __init__(self, text):
+        self.all = list(tokens(text))
+        self.at = 0
+        self.slots, self.rules = [], []
+
+    def kind(self):
+        return self.all[self.at][0]
+
+    def take(self, *kinds, also=None):
+        """The next token, which must be of one of these kinds; `also` gives the refusals 14 to 17 of a name in their order."""
+        kind, part = self.all[self.at]
+        if kind == 'bad':
+            raise Refused(11)
+        if kind == 'long' and 'name' in kinds:
+            raise Refused(13)
+        if kind not in kinds:
+            raise Refused(12)
+        for number, wrong in (also(part) if also else []):
+            if wrong:
+                raise Refused(number)
+        self.at += 1
+        return kind, part
+
+    def line(self):
+        self.take('SLOT', also=lambda part: [(15, len(self.slots) >= 32)])
+        name = self.take('name', also=lambda part: [(14, part in [s for s, _ in self.slots])])[1]
+        self.take('{')
+        values = []
+        while True:
+            values.append(self.take('name', also=lambda part: [(14, part in values), (15, len(values) >= 15)])[1])
+            if self.take(',', '}')[0] == '}':
+                break
+        self.take(';')
+        self.slots.append((name, values))
+
+    def slot(self, before=lambda part: [], after=lambda number: []):
+        names = [s for s, _ in self.slots]
+        part = self.take('name', also=lambda part: before(part) + [(16, part not in names)] + (after(names.index(part)) if part in names else []))[1]
+        return names.index(part)
+
+    def value(self, slot):
+        values = self.slots[slot][1]
+        return values.index(self.take('name', also=lambda part: [(16, part not in values)])[1]) + 1
+
+    def literal(self, room):
+        full = lambda part: [(15, not room)]
+        negated = 0
+        while self.kind() == 'NOT':
+            self.take('NOT', also=full)
+            negated = 1 - negated
+        slot = self.slot(before=full)
+        becomes = int(self.take('*=', '|=')[0] == '*=')
+        return becomes, negated, slot, self.value(slot)
+
+    def literals(self):
+        found = []
+        while True:
+            found.append(self.literal(len(found) < 8))
+            if self.take('AND', 'THEN')[0] == 'THEN':
+                return found
+
+    def condition(self):
+        if self.kind() != 'TRUE':
+            return self.literals()
+        self.take('TRUE')
+        return [] if self.take('AND', 'THEN')[0] == 'THEN' else self.literals()
+
+    def assignment(self, found):
+        slot = self.slot(before=lambda part: [(15, len(found) >= 4)], after=lambda number: [(17, number in [s for s, _ in found])])
+        self.take(':=')
+        return slot, self.value(slot)
+
+    def assignments(self):
+        if self.kind() != '{':
+            return [self.assignment([])]
+        self.take('{')
+        found = []
+        while True:
+            found.append(self.assignment(found))
+            if self.take(',', '}')[0] == '}':
+                return found
+
+    def rule(self):
+        self.take('WHEN', also=lambda part: [(15, len(self.rules) >= 255)])
+        slot = self.slot()
+        self.take('*=')
+        value = self.value(slot)
+        self.take('IF')
+        literals = self.condition()
+        assignments = self.assignments()
+        self.take(';')
+        self.rules.append((slot, value, literals, assignments))
+
+    def read(self):
+        while self.kind() == 'SLOT':
+            self.line()
+        while self.kind() != 'end':
+            self.rule()
+
+
+def reading(text):
+    """The lines owed for a text."""
+    if len(text) > 65535:
+        return [b'refused 10 0']
+    file = File(text)
+    try:
+        file.read()
+    except Refused as refusal:
+        return [b'refused %d %d' % (refusal.args[0], len(file.rules))]
+    lines = [b'accepted %d %d' % (len(file.slots), len(file.rules))]
+    lines += [b' '.join([b'slot', name] + values) for name, values in file.slots]
+    for slot, value, literals, assignments in file.rules:
+        lines.append(b'rule %d %d' % (slot, value) + b''.join(b' : %d %d %d %d' % l for l in literals) + b''.join(b' = %d %d' % a for a in assignments))
+    return lines
+
+
+XYZ = b'SLOT x {0,1}; SLOT y {0,1}; SLOT z {0,1}; '
+RULE = b'WHEN x *= 1 IF TRUE THEN y := 1;'
+
+
+def rule(condition=b'TRUE', assign=b'y := 1', trigger=b'x *= 1'):
+    return XYZ + b'WHEN ' + trigger + b' IF ' + condition + b' THEN ' + assign + b';'
+
+
+def texts():
+    """The cases and limits of document 01, each place's faults and their precedence, and texts damaged at random."""
+    a, b = b'WHEN x *= 1 IF y |= 0 THEN z := 1;', b'WHEN z *= 1 IF y |= 0 THEN y := 1;'
+    many = lambda n: b','.join(b'v%d' % i for i in range(n))
+    yield from [b'', b' \t\r\n', XYZ, XYZ + a + b, rule(b'TRUE AND y |= 0'), rule(b'y |= 0 AND TRUE'), b'(', XYZ + b'(', XYZ + RULE + b'(', XYZ + RULE + b'*', XYZ + RULE + b'WHEN x *']
+    yield from [b'SLOT ' + b'a' * 24 + b' {b};', b'SLOT ' + b'a' * 25 + b' {b};', b'SLOT x {' + b'b' * 24 + b'};', b'SLOT x {' + b'b' * 25 + b'};', b'a' * 25, b'SLOT x ' + b'a' * 25, XYZ + RULE + b'a' * 25]
+    short = b'WHEN x*=1 IF TRUE THEN y:=1;'
+    yield from [XYZ + RULE * 2, XYZ + short * 255 + b' ', XYZ + short * 256, XYZ + short * 255 + b'SLOT']
+    yield from [b''.join(b'SLOT s%d {v};' % i for i in range(n)) for n in (32, 33)] + [b''.join(b'SLOT s%d {v};' % i for i in range(32)) + b'SLOT s1 (']
+    yield from [b'SLOT x {' + many(n) + b'};' for n in (15, 16)] + [b'SLOT x {' + many(15) + b',v3};', b'SLOT x {' + many(15) + b',' + b'v' * 25 + b'};', b'SLOT x {v,v};', b'SLOT x {x};', b'SLOT x {a}; SLOT x {b};', b'SLOT x {a}; SLOT y {a};']
+    yield from [rule(b' AND '.join([b'y |= 0'] * n)) for n in (1, 8, 9)] + [rule(b'TRUE AND ' + b' AND '.join([b'y |= 0'] * n)) for n in (8, 9)]
+    yield from [rule(b' AND '.join([b'y |= 0'] * 8 + [last])) for last in (b'NOT y |= 0', b'q', b'TRUE', b'THEN', b'a' * 25, b'(')]
+    yield from [rule(assign=b'{' + b','.join(s + b' := 1' for s in parts) + b'}') for parts in ([b'x'], [b'x', b'y', b'z'], [b'x', b'x'], [b'x', b'y', b'x'], [b'x', b'y', b'z', b'q'], [b'x', b'y', b'z', b'x'])]
+    five = b'SLOT a {1}; SLOT b {1}; SLOT c {1}; SLOT d {1}; SLOT e {1}; WHEN a *= 1 IF TRUE THEN {a := 1, b := 1, c := 1, d := 1'
+    yield from [five + end for end in (b'};', b', e := 1};', b', a := 1};', b', q := 1};', b', };', b', ' + b'q' * 25 + b' := 1};')]
+    yield from [rule(assign=w) for w in (b'{}', b'{x := 1,}', b'x := 1, y := 1', b'x *= 1', b'x := 2', b'x := TRUE', b'q := 1', b'')]
+    yield from [rule(trigger=w) for w in (b'x |= 1', b'NOT x *= 1', b'x *= 2', b'q *= 1', b'WHEN', b'y *= 1', b'TRUE')]
+    yield from [rule(w) for w in (b'NOT y |= 0', b'NOT NOT y *= 0', b'NOT NOT NOT y *= 1', b'NOT TRUE', b'TRUE AND TRUE', b'TRUE AND NOT y |= 0 AND x *= 0', b'', b'NOT', b'y', b'y := 0', b'y |= 2', b'y |= 1 z', b'y |= 1 AND', b'q |= 1', b'NOT q |= 1')]
+    yield from [RULE, XYZ + RULE + b'SLOT w {0};', b'SLOT', b'SLOT x', b'SLOT x {', b'SLOT x {a', b'SLOT x {a}', b'SLOT x {};', b'SLOT x {a,};', b'SLOT TRUE {a};', b'SLOT x {IF};', b'SLOT x {-a};', b'slot x {a};', b'SLOT x {a}', b'x', b';', XYZ + b';', XYZ + RULE + RULE + b'WHEN x *= 1 IF TRUE THEN q', XYZ + RULE * 3 + b'WHEN x *= 1 IF']
+    for fault in (b'(', b'IF', b'a' * 25 + b' *= 1', b'q *= 1', b'x *= 1 IF TRUE THEN { x := 0, x := 1 };', b'x *= 1 IF ' + b' AND '.join([b'y |= 0'] * 9), b'x *= 1 IF TRUE THEN y := ' + b'a' * 25):
+        yield XYZ + RULE * 2 + b'WHEN ' + fault
+    chance = random.Random(1902)
+    pieces = [b'SLOT', b'WHEN', b'IF', b'THEN', b'AND', b'NOT', b'TRUE', b'{', b'}', b',', b';', b'*=', b'|=', b':=', b'x', b'y', b'0', b'1', b'q', b'(', b'a' * 25, b'-']
+    for _ in range(150):
+        words = re.findall(rb'[^ ,;{}]+|[,;{}]', XYZ + a + b + rule(b'NOT y |= 0 AND z *= 1', b'{ x := 0 , y := 1 }')[len(XYZ):])
+        for _ in range(chance.randrange(1, 4)):
+            spot = chance.randrange(21 if chance.randrange(3) else 0, len(words))
+            words[spot:spot + chance.randrange(2)] = [chance.choice(pieces)] if chance.randrange(4) else []
+        yield b' '.join(words)[:chance.choice([10000, 10000, chance.randrange(160)])]
+
+
+def stored():
+    """Each file with what it should hold."""
+    cases, written = b'', []
+    for number, text in enumerate(texts(), 1):
+        cases += len(text).to_bytes(2, 'big') + text
+        written += [b'text %d' % number] + reading(text)
+    assert len(cases) <= 65536
+    for size in (65535, 65536):
+        written += reading(b' ' * size)
+    yield 'crates/read_cases/stdin', cases
+    yield 'crates/read_cases/stdout', b'\n'.join(written) + b'\n'
+
+
+def main():
+    os.chdir(os.path.dirname(os.path.dirname(os.path.abspath(__file__))))
+    wrong = 0
+    for path, content in stored():
+        if '--check' not in sys.argv:
+            with open(path, 'wb') as file:
+                file.write(content)
+            continue
+        with open(path, 'rb') as file:
+            if file.read() != content:
+                print(f'{path} is not what tests/read_cases.py writes')
+                wrong = 1
+    return wrong
+
+
+if __name__ == '__main__':
+    sys.exit(main())
