@@ -4,10 +4,11 @@
   tests/token_cases.py          writes crates/token_cases/stdin and stdout, crates/tokens/stdin and stdout
   tests/token_cases.py --check  says whether they are what it would write; exit status 1 where they are not
 """
-import os
 import random
 import re
 import sys
+
+from stored import run
 
 WORDS = [b'SLOT', b'WHEN', b'IF', b'THEN', b'AND', b'NOT', b'TRUE']
 MARKS = [b'{', b'}', b',', b';', b'*=', b'|=', b':=']
@@ -69,20 +70,5 @@ def stored():
     yield 'crates/tokens/stdout', b'\n'.join(tokens(CASE_C)) + b'\n'
 
 
-def main():
-    os.chdir(os.path.dirname(os.path.dirname(os.path.abspath(__file__))))
-    wrong = 0
-    for path, content in stored():
-        if '--check' not in sys.argv:
-            with open(path, 'wb') as file:
-                file.write(content)
-            continue
-        with open(path, 'rb') as file:
-            if file.read() != content:
-                print(f'{path} is not what tests/token_cases.py writes')
-                wrong = 1
-    return wrong
-
-
 if __name__ == '__main__':
-    sys.exit(main())
+    sys.exit(run(stored()))
