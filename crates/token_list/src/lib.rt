@@ -29,7 +29,7 @@ fn write_name(text: &[u8], start: usize, size: usize, at: usize) {
     write_position(at);
 }
 
-// One token; whether it is the end.
+// One token.
 fn write_token(text: &[u8], token: Token, at: usize) {
     match token {
         Token::End => {
