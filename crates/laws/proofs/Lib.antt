@@ -1,8 +1,11 @@
 pub mod Truth
 pub mod Equations
 pub mod Numbers
+pub mod First
 pub mod Below
 pub mod Tabulated
+pub mod Listed
+pub mod Words
 pub mod Flags
 pub mod Filled
 pub mod Rearranged

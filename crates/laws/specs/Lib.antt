@@ -2,6 +2,8 @@ pub mod Truth
 pub mod Numbers
 pub mod Below
 pub mod Tabulated
+pub mod Listed
+pub mod Words
 pub mod Filled
 pub mod Rearranged
 pub mod Quoted

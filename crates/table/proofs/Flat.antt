@@ -16,9 +16,9 @@ use Rattle.laws.proofs.Equations.{and-false, or-swap}
 use Rattle.laws.proofs.Flags.{flag-here, flag-inside, flag-kept, flag-from, no-flag}
 use Rattle.laws.proofs.Tabulated.{is-tabulate}
 use Rattle.model.specs.Rules.{Pair, Pairs, same, among}
+use Rattle.model.proofs.Pairs.{same-refl, same-eq}
 use Rattle.table.specs.Limits.{row, pair-places}
 use Rattle.table.specs.Flat.{Placed, place-of, pair-at, set-of, flags-of, pairs-below, pairs-of, add-pairs}
-use Rattle.model.proofs.Pairs.{same-refl, same-eq}
 
 -- Two pairs that have a place stand at the same one only where they are the same.
 pub same-place : (p q : Pair) → p .value < row → q .value < row → place-of p ≡ place-of q → p ≡ q

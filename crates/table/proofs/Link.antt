@@ -1,13 +1,15 @@
 -- Laws of the link from a table to the model.
 -- Assumes nothing.
 use mathlib.Core.Path.{_≡_, ap, _∙_}
-use Prim.Native.Nat.{ℕ, _≤_, _<_}
+use Prim.Native.Nat.{ℕ, suc, _≤_, _<_}
 use native.Mathlib.Omega.{arith}
 use lib.ListN.{length, getD, take, length-map, length-take, List·getD-map}
 use lib.Seq.{getD-take}
+use Rattle.model.specs.Orders.{rule-at}
+use Rattle.model.specs.Orders as orders
 use Rattle.table.specs.declared.Table.{Table}
 use Rattle.table.specs.Shape.{no-rule, no-slot}
-use Rattle.table.specs.Link.{rule-of, rules-of, carried-strata, value-counts}
+use Rattle.table.specs.Link.{rule-of, rules-of, carried-strata, stratum-at, value-counts}
 
 pub rules-length : (t : Table) → t .count ≤ length (t .rules) → length (rules-of t) ≡ t .count
 unfolding rules-of
@@ -32,3 +34,12 @@ counts-length t h = simp (length-map, length-take) (omega arith)
 pub count-is : (t : Table) (i : ℕ) → i < t .width → getD (value-counts t) i 0 ≡ getD (t .slots) i no-slot .count
 unfolding value-counts
 count-is t i h = List·getD-map (λ s. s .count) (take (t .width) (t .slots)) i no-slot ∙ rw (getD-take (t .width) (t .slots) i no-slot h)
+
+-- The same by the rule's number.
+pub rule-at-is : (t : Table) (i : ℕ) → i < t .count → rule-at (rules-of t) (suc i) ≡ rule-of (getD (t .rules) i no-rule)
+unfolding rule-at orders.no-rule
+rule-at-is t i h = rule-is t i h
+
+pub stratum-at-is : (t : Table) (i : ℕ) → i < t .count → stratum-at t (suc i) ≡ getD (t .rules) i no-rule .stratum
+unfolding stratum-at
+stratum-at-is t i h = stratum-is t i h

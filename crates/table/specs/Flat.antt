@@ -8,8 +8,8 @@ use lib.ListN.{getD, set}
 use Rattle.laws.specs.Truth.{_∧ᵇ_}
 use Rattle.laws.specs.Tabulated.{tabulate}
 use Rattle.model.specs.Rules.{Pair, Pairs}
-use Rattle.table.specs.Limits.{slot-limit, row, pair-places}
 use Rattle.model.specs.Result.{pair}
+use Rattle.table.specs.Limits.{slot-limit, row, pair-places}
 
 -- The array has a place for a pair: the slot is one of 32, the value at most 15.
 pub record Placed (slot value : ℕ) : Type 0 where
@@ -21,10 +21,11 @@ pub record At (slot value k : ℕ) : Type 0 where
   pub is : k ≡ slot * row + value
   pub inside : k < pair-places
 
--- The place of a pair, and the pair of a place.
+-- The place of a pair.
 abbrev pub place-of : Pair → ℕ
 place-of p = p .slot * row + p .value
 
+-- The pair of a place.
 abbrev pub pair-at : ℕ → Pair
 pair-at k = pair (k / row) (k % row)
 

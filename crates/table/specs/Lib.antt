@@ -4,3 +4,4 @@ pub mod Empty
 pub mod Link
 pub mod Flat
 pub mod Names
+pub mod Fits

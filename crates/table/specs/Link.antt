@@ -1,10 +1,10 @@
 -- A table as the model has it: its slots with their values, its rules, the strata that it carries. Places beyond a used number are not looked at.
-use mathlib.Core.List.{List, map}
+use mathlib.Core.List.{List, _∷_, map}
 use Prim.Native.Nat.{ℕ}
-use lib.ListN.{take}
+use lib.ListN.{getD, take}
 use Rattle.model.specs.Rules.{Pair}
-use Rattle.model.specs.Result.{pair}
 use Rattle.model.specs.Rules as model
+use Rattle.model.specs.Result.{pair}
 use Rattle.table.specs.declared.Literal.{Literal}
 use Rattle.table.specs.declared.Assignment.{Assignment}
 use Rattle.table.specs.declared.Rule.{Rule}
@@ -43,6 +43,10 @@ rules-of t = map rule-of (used-rules t)
 -- The strata that a table carries, that of rule 1 first.
 unfoldable pub carried-strata : Table → List ℕ
 carried-strata t = map (λ r. r .stratum) (used-rules t)
+
+-- The stratum of the rule of a number, from 1.
+unfoldable pub stratum-at : Table → ℕ → ℕ
+stratum-at t n = getD (0 ∷ carried-strata t) n 0
 
 -- The slots of a table, slot 0 first.
 abbrev pub slots-of : Table → List Slot

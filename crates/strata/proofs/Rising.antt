@@ -1,0 +1,241 @@
+-- What the passes keep: no number exceeds any strata, and at rest the numbers are strata, so they are the least.
+-- Assumes nothing.
+use mathlib.Core.Path.{_≡_, refl, _∙_, ap}
+use mathlib.Core.Bool.{Bool, true, false, cond, true≢false}
+use mathlib.Core.List.{List, [], _∷_}
+use mathlib.Core.Logic.{_⊎_, inl, inr, ⊎-elim}
+use Prim.Native.Nat.{ℕ, zero, suc, _+_, _*_, _-_, _≤_, _<_}
+use native.Mathlib.Omega.{arith}
+use native.Mathlib.Nat.{eq-or-lt-of-le}
+use lib.Dec.{T, ltb}
+use lib.ListN.{length, getD, set, replicate, length-set, length-replicate, getD-replicate, List·getD-eq-default}
+use lib.Seq.{getD-set-same, getD-set-other}
+use borrow.Author.Tests.{eq-eqb, ne-eqb, lt-ltb, le-ltb}
+use Rattle.laws.specs.Numbers.{Numbered}
+use Rattle.laws.proofs.Truth.{le-or-lt}
+use Rattle.laws.proofs.Equations.{either}
+use Rattle.laws.proofs.Tabulated.{is-tabulate}
+use Rattle.model.specs.Rules.{Pair, among}
+use Rattle.model.specs.Orders.{rule-at}
+use Rattle.model.specs.Strata.{strict, tested, may-stay-level, must-fall, Strata}
+use Rattle.model.specs.Circles.{circle-of}
+use Rattle.model.specs.Least.{strata-of}
+use Rattle.model.proofs.Gradings.{depends-i, depends-e}
+use Rattle.model.proofs.Strata.{no-circle, least-strata, least-top, least-unique}
+use Rattle.table.specs.declared.Rule.{Rule}
+use Rattle.table.specs.declared.Table.{Table}
+use Rattle.table.specs.Limits.{rule-limit, pair-places}
+use Rattle.table.specs.Shape.{no-rule, Shaped}
+use Rattle.table.specs.Link.{assignments-of, rule-of, rules-of}
+use Rattle.table.specs.Flat.{place-of}
+use Rattle.table.specs.Fits.{RuleFits, TableFits}
+use Rattle.table.proofs.Link.{rule-at-is}
+use Rattle.table.proofs.Flat.{same-place, placed-inside}
+use Rattle.table.proofs.Fits.{assigned-placed, tested-placed, count-of, number, fits-at}
+use Rattle.strata.specs.declared.least.Found.{Found}
+use Rattle.strata.specs.Heights.{highest-at, raise-all, least-numbers, found}
+use Rattle.strata.proofs.Heights.{highest-ge, highest-lt, raise-ge, raise-hit, raise-below, raise-length}
+
+-- The sum of a list.
+unfoldable pub sum-of : List ℕ → ℕ
+sum-of [] = 0
+sum-of (x ∷ xs) = x + sum-of xs
+
+pub sum-set : (xs : List ℕ) (i v : ℕ) → i < length xs → sum-of (set xs i v) + getD xs i 0 ≡ sum-of xs + v
+unfolding sum-of
+sum-set [] i v h = absurd (omega arith)
+sum-set (x ∷ xs) zero v h = omega arith
+sum-set (x ∷ xs) (suc i) v h = omega (arith, sum-set xs i v (omega arith))
+
+pub sum-top : (xs : List ℕ) (b : ℕ) → ((i : ℕ) → getD xs i 0 ≤ b) → sum-of xs ≤ length xs * b
+unfolding sum-of
+sum-top [] b h = omega arith
+sum-top (x ∷ xs) b h = omega (arith, h 0, sum-top xs b (λ i. h (suc i)))
+
+-- The number of rule n, from 1.
+pub number-of : List ℕ → ℕ → ℕ
+number-of ns n = getD (0 ∷ ns) n 0
+
+zeros : (n i : ℕ) → _≡_ {A = ℕ} (getD (replicate n 0) i 0) 0
+zeros n i = ⊎-elim (λ le. List·getD-eq-default (replicate n 0) 0 {n = i} (rw length-replicate le)) (λ lt. getD-replicate n i 0 0 lt) (le-or-lt n i)
+
+number-zeros : (n m : ℕ) → number-of (replicate n 0) m ≡ 0
+unfolding number-of
+number-zeros n zero = refl
+number-zeros n (suc m) = zeros n m
+
+number-same : (ns : List ℕ) (i s : ℕ) → i < length ns → number-of (set ns i s) (suc i) ≡ s
+unfolding number-of
+number-same ns i s l = getD-set-same ns i s 0 l
+
+number-other : (ns : List ℕ) (i s m : ℕ) → (m ≡ suc i → ⊥) → number-of (set ns i s) m ≡ number-of ns m
+unfolding number-of
+number-other ns i s zero e = refl
+number-other ns i s (suc m) e = getD-set-other ns i m s 0 (λ q. e (ap suc q))
+
+module _ (t : Table) where
+  -- Between two steps of a pass: ns are the numbers of the rules, hs those at the pairs.
+  pub record Rising (ns hs : List ℕ) : Type 0 where
+    pub covers : (m : ℕ) (p : Pair) → Numbered (length (rules-of t)) m → T (among p (rule-at (rules-of t) m .assignments)) → number-of ns m ≤ getD hs (place-of p) 0
+    pub below : (u : ℕ → ℕ) → Strata strict (rules-of t) u → (m : ℕ) → Numbered (length (rules-of t)) m → number-of ns m ≤ u m
+    pub under : (u : ℕ → ℕ) → Strata strict (rules-of t) u → (n : ℕ) (p : Pair) → Numbered (length (rules-of t)) n → T (among p (tested (rule-at (rules-of t) n))) → getD hs (place-of p) 0 < u n
+    pub small : (i : ℕ) → getD ns i 0 ≤ rule-limit
+    pub beyond : (i : ℕ) → t .count ≤ i → getD ns i 0 ≡ 0
+    pub numbers-length : length ns ≡ rule-limit
+    pub high-length : length hs ≡ pair-places
+
+  -- Each of the rules 1 to k stands above all that it tests.
+  pub Quiet : ℕ → List ℕ → List ℕ → Type 0
+  Quiet k ns hs = (m : ℕ) → m ≤ k → Numbered (length (rules-of t)) m → highest-at hs (tested (rule-at (rules-of t) m)) < number-of ns m
+
+  -- What one pass keeps, from the numbers that it started at.
+  pub record Kept (ns₀ : List ℕ) (i : ℕ) (ns hs : List ℕ) (moved : Bool) : Type 0 where
+    pub rising : Rising ns hs
+    pub quiet : moved ≡ false → Quiet i ns hs
+    pub not-less : sum-of ns₀ ≤ sum-of ns
+    pub more : moved ≡ true → sum-of ns₀ < sum-of ns
+
+module _ (t : Table) (fits : TableFits t) (sh : Shaped t) where
+  pub rising-start : Rising t (replicate rule-limit 0) (replicate pair-places 0)
+  rising-start = record {
+    covers = λ m p i a. rw number-zeros (omega arith);
+    below = λ u L m i. rw number-zeros (omega arith);
+    under = λ u L n p i a. rw zeros (omega (arith, L .from-one n i));
+    small = λ i. rw zeros (omega arith);
+    beyond = λ i h. zeros rule-limit i;
+    numbers-length = length-replicate {A = ℕ} rule-limit 0;
+    high-length = length-replicate {A = ℕ} pair-places 0;
+  }
+
+  -- Rule m assigns a pair that rule n tests, so it must stand below.
+  below-it : (u : ℕ → ℕ) → Strata strict (rules-of t) u → (n m : ℕ) (p : Pair) → Numbered (length (rules-of t)) n → Numbered (length (rules-of t)) m
+      → T (among p (tested (rule-at (rules-of t) n))) → T (among p (rule-at (rules-of t) m .assignments)) → u m < u n
+  unfolding must-fall
+  below-it u L n m p i j a b = L .smaller n m i j (depends-i (rules-of t) n m p a b)
+
+  -- One rule raised to what it asks.
+  raised : (i : ℕ) (ns hs : List ℕ) (r : Rule) (s : ℕ) → i < t .count → rule-at (rules-of t) (suc i) ≡ rule-of r → RuleFits r
+      → s ≡ highest-at hs (tested (rule-of r)) + 1 → s ≤ t .count → Rising t ns hs → Rising t (set ns i s) (raise-all (assignments-of r) s hs)
+  raised i ns hs r s h is f e top g = record {
+    covers = λ m p im a. ⊎-elim
+        (λ (q : m ≡ suc i). rw (q, number-same ns i s l) (hit p (rw (q, is) at a)))
+        (λ q. rw (number-other ns i s m q) (omega (arith, g .covers m p im a, raise-ge (assignments-of r) s hs (place-of p))))
+        (either m (suc i));
+    below = λ u L m im. ⊎-elim
+        (λ (q : m ≡ suc i). rw (q, number-same ns i s l) (top-of u L))
+        (λ q. rw (number-other ns i s m q) (g .below u L m im))
+        (either m (suc i));
+    under = λ u L n p jn a. raise-below (assignments-of r) s hs (place-of p) (u n) (g .under u L n p jn a)
+        (λ q b w. omega (arith, top-of u L, below-it u L n (suc i) p jn (number t fits sh i h) a (rw is (rw (one-pair n p q jn a b w) at b))));
+    small = λ k. ⊎-elim
+        (λ (q : k ≡ i). rw (q, getD-set-same ns i s 0 l) (omega (arith, fits .rules-fit)))
+        (λ q. rw (getD-set-other ns i k s 0 q) (g .small k))
+        (either k i);
+    beyond = λ k le. getD-set-other ns i k s 0 (λ (q : k ≡ i). omega arith) ∙ g .beyond k le;
+    numbers-length = length-set ns i s ∙ g .numbers-length;
+    high-length = raise-length (assignments-of r) s hs ∙ g .high-length;
+  }
+    where
+      l : i < length ns
+      l = omega (arith, g .numbers-length, fits .rules-fit)
+
+      hit : (p : Pair) → T (among p (assignments-of r)) → s ≤ getD (raise-all (assignments-of r) s hs) (place-of p) 0
+      hit p a = raise-hit (assignments-of r) s hs p (omega (arith, placed-inside p (assigned-placed r p f a), g .high-length)) a
+
+      top-of : (u : ℕ → ℕ) → Strata strict (rules-of t) u → s ≤ u (suc i)
+      top-of u L = omega (arith, e, highest-lt hs (tested (rule-of r)) (u (suc i)) (L .from-one (suc i) (number t fits sh i h)) (λ p a. g .under u L (suc i) p (number t fits sh i h) (rw is a)))
+
+      one-pair : (n : ℕ) (p q : Pair) → Numbered (length (rules-of t)) n → T (among p (tested (rule-at (rules-of t) n))) → T (among q (assignments-of r)) → place-of q ≡ place-of p → q ≡ p
+      one-pair n p q jn a b w =
+          let x = fits-at t fits sh n jn in
+          same-place q p (assigned-placed r q f b .in-row) (tested-placed (x .0) p (x .1) (rw (x .2) at a) .in-row) w
+
+  rising-step : (i : ℕ) (ns hs : List ℕ) (h : ℕ) → i < t .count → h ≡ highest-at hs (tested (rule-of (getD (t .rules) i no-rule))) → h < t .count
+      → Rising t ns hs → Rising t (set ns i (h + 1)) (raise-all (assignments-of (getD (t .rules) i no-rule)) (h + 1) hs)
+  rising-step i ns hs h l e top g = raised i ns hs (getD (t .rules) i no-rule) (h + 1) l (rule-at-is t i l) (fits .each-fits i l) (omega (arith, e)) (omega arith) g
+
+  pub quiet-start : (ns hs : List ℕ) → Quiet t 0 ns hs
+  unfolding Quiet
+  quiet-start ns hs m le i = absurd (omega (arith, i .first))
+
+  quiet-more : (i : ℕ) (ns hs : List ℕ) (h : ℕ) → i < t .count → h ≡ highest-at hs (tested (rule-of (getD (t .rules) i no-rule))) → h < getD ns i 0
+      → Quiet t i ns hs → Quiet t (i + 1) ns hs
+  unfolding Quiet number-of
+  quiet-more i ns hs h l e lt q = λ m le im. ⊎-elim
+      (λ (z : m ≡ suc i). rw (z, rule-at-is t i l) (omega (arith, e)))
+      (λ (z : m < suc i). q m (omega arith) im)
+      (eq-or-lt-of-le (let w : m ≤ suc i = omega arith in w))
+
+  pub kept-raise : (ns₀ : List ℕ) (i h : ℕ) (ns hs : List ℕ) (moved : Bool) → i < t .count → h ≡ highest-at hs (tested (rule-of (getD (t .rules) i no-rule))) → h < t .count → getD ns i 0 < h + 1
+      → Kept t ns₀ i ns hs moved → Kept t ns₀ (i + 1) (set ns i (h + 1)) (raise-all (assignments-of (getD (t .rules) i no-rule)) (h + 1) hs) true
+  kept-raise ns₀ i h ns hs moved l e top lt k =
+      let s = sum-set ns i (h + 1) (omega (arith, k .rising .numbers-length, fits .rules-fit)) in
+      record {
+        rising = rising-step i ns hs h l e top (k .rising);
+        quiet = λ z. absurd (true≢false z);
+        not-less = omega (arith, s, k .not-less);
+        more = λ z. omega (arith, s, k .not-less);
+      }
+
+  pub kept-over : (ns₀ : List ℕ) (i h : ℕ) (ns hs : List ℕ) (moved : Bool) → i < t .count → h ≡ highest-at hs (tested (rule-of (getD (t .rules) i no-rule))) → h + 1 ≤ getD ns i 0
+      → Kept t ns₀ i ns hs moved → Kept t ns₀ (i + 1) ns hs moved
+  kept-over ns₀ i h ns hs moved l e le k = record {
+    rising = k .rising;
+    quiet = λ z. quiet-more i ns hs h l e (omega arith) (k .quiet z);
+    not-less = k .not-less;
+    more = k .more;
+  }
+
+  -- At rest the numbers are strata.
+  rest-strata : (ns hs : List ℕ) → Rising t ns hs → Quiet t (t .count) ns hs → Strata strict (rules-of t) (number-of ns)
+  unfolding Quiet may-stay-level must-fall
+  rest-strata ns hs g q = record {
+    from-one = λ n i. omega (arith, q n (last n i) i);
+    no-higher = λ n m i j w. absurd w;
+    smaller = λ n m i j w.
+        let x = depends-e (rules-of t) n m w in
+        omega (arith, g .covers m (x .0) j (x .2), highest-ge hs (tested (rule-at (rules-of t) n)) (x .0) (x .1), q n (last n i) i);
+  }
+    where
+      last : (n : ℕ) → Numbered (length (rules-of t)) n → n ≤ t .count
+      last n i = omega (arith, i .last, count-of t fits sh)
+
+  -- They are the least, since no strata are lower.
+  pub found-least : (ns hs : List ℕ) → Rising t ns hs → Quiet t (t .count) ns hs → _≡_ {A = Found} (record { circled = false; numbers = ns }) (found t)
+  unfolding found least-numbers number-of
+  found-least ns hs g q =
+      rw (eq-eqb (circle-of strict (rules-of t)) 0 (no-circle strict (rules-of t) (number-of ns) (rest-strata ns hs g q)))
+      (ap (λ (xs : List ℕ). record { circled = false; numbers = xs }) (is-tabulate (λ i. cond (ltb i (t .count)) (strata-of strict (rules-of t) (suc i)) 0) rule-limit 0 ns (g .numbers-length) (λ i h. by-count i (le-or-lt (t .count) i))))
+    where
+      by-count : (i : ℕ) → (t .count ≤ i) ⊎ (i < t .count) → getD ns i 0 ≡ cond (ltb i (t .count)) (strata-of strict (rules-of t) (suc i)) 0
+      by-count i (inl le) = rw (le-ltb i (t .count) le) (g .beyond i le)
+      by-count i (inr lt) = rw (lt-ltb i (t .count) lt) (least-unique strict (rules-of t) (number-of ns) (rest-strata ns hs g q) (λ u s n j. g .below u s n j) (suc i) (number t fits sh i lt))
+
+  -- A number as high as the rules are many is no least stratum, so there is a circle.
+  pub found-circle : (i h : ℕ) (ns hs : List ℕ) → Rising t ns hs → i < t .count → h ≡ highest-at hs (tested (rule-of (getD (t .rules) i no-rule))) → t .count ≤ h
+      → _≡_ {A = Found} (record { circled = true; numbers = replicate rule-limit 0 }) (found t)
+  unfolding found
+  found-circle i h ns hs g l e top = rw (ne-eqb (circle-of strict (rules-of t)) 0 (λ z.
+      let L = least-strata strict (rules-of t) z in
+      omega (
+        arith,
+        e,
+        count-of t fits sh,
+        least-top strict (rules-of t) z (suc i) (number t fits sh i l),
+        highest-lt hs (tested (rule-of (getD (t .rules) i no-rule))) _ (L .from-one (suc i) (number t fits sh i l)) (λ p a. g .under _ L (suc i) p (number t fits sh i l) (rw (rule-at-is t i l) a)),
+      )))
+
+-- The measure of the passes: 255 numbers of at most 255 can rise 65,025 times in all; a pass that moves something raises the sum, and one that moves nothing is the last.
+unfoldable pub passes-left : List ℕ → Bool → ℕ
+passes-left ns moved = 2 * (65025 - sum-of ns) + cond moved 1 0
+
+pub pass-falls : (t : Table) (ns₀ : List ℕ) (i : ℕ) (ns hs : List ℕ) (moved : Bool) → Kept t ns₀ i ns hs moved → passes-left ns moved < passes-left ns₀ true
+unfolding passes-left
+pass-falls t ns₀ i ns hs moved k = go moved (k .more)
+  where
+    top : sum-of ns ≤ 65025
+    top = omega (arith, sum-top ns rule-limit (k .rising .small), k .rising .numbers-length)
+
+    go : (m : Bool) → (m ≡ true → sum-of ns₀ < sum-of ns) → 2 * (65025 - sum-of ns) + cond m 1 0 < 2 * (65025 - sum-of ns₀) + 1
+    go true f = omega (arith, f refl, top)
+    go false f = omega (arith, k .not-less, top)

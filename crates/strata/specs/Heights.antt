@@ -1,0 +1,37 @@
+-- Numbers at pairs, in an array indexed by pair.
+use mathlib.Core.Bool.{true, false, cond}
+use mathlib.Core.List.{List, [], _∷_}
+use Prim.Native.Nat.{ℕ, suc, max}
+use lib.Dec.{eqb, ltb}
+use lib.ListN.{getD, set, replicate}
+use Rattle.laws.specs.Tabulated.{tabulate}
+use Rattle.model.specs.Rules.{Pair}
+use Rattle.model.specs.Strata.{strict}
+use Rattle.model.specs.Circles.{circle-of}
+use Rattle.model.specs.Least.{strata-of}
+use Rattle.table.specs.declared.Table.{Table}
+use Rattle.table.specs.Limits.{rule-limit}
+use Rattle.table.specs.Link.{rules-of}
+use Rattle.table.specs.Flat.{place-of}
+use Rattle.strata.specs.declared.least.Found.{Found}
+
+-- The highest number at the places of some pairs.
+unfoldable pub highest-at : List ℕ → List Pair → ℕ
+highest-at hs [] = 0
+highest-at hs (p ∷ ps) = max (getD hs (place-of p) 0) (highest-at hs ps)
+
+-- The places of some pairs raised to s.
+unfoldable pub raise-all : List Pair → ℕ → List ℕ → List ℕ
+raise-all [] s hs = hs
+raise-all (p ∷ ps) s hs = raise-all ps s (set hs (place-of p) (max (getD hs (place-of p) 0) s))
+
+-- The least strata of a table's rules, with 0 beyond the rules used.
+unfoldable pub least-numbers : Table → List ℕ
+least-numbers t = tabulate (λ i. cond (ltb i (t .count)) (strata-of strict (rules-of t) (suc i)) 0) rule-limit
+
+-- What the passes find: the least strata, or that there is a circle.
+unfoldable pub found : Table → Found
+found t =
+    cond (eqb (circle-of strict (rules-of t)) 0)
+    (record { circled = false; numbers = least-numbers t })
+    (record { circled = true; numbers = replicate rule-limit 0 })

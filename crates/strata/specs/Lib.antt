@@ -1,0 +1,4 @@
+pub mod Layered
+pub mod Sound
+pub mod Heights
+pub mod Links

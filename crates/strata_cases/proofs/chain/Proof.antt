@@ -1,0 +1,115 @@
+-- `strata_cases::chain` is safe and ends.
+-- Assumes nothing.
+use Prim.Native.Nat.{_-_, _≤_}
+use borrow.Author.Needs.{needs}
+use Rattle.strata_cases.proofs.chain.Statement.{statement}
+use Rattle.strata_cases.proofs.chain.Tie as tie
+
+abbrev Inv-slots : tie.InvT-slots
+Inv-slots n backward t₀ k₀ t k = k ≤ 32
+
+abbrev μ-slots : tie.MeasureT-slots
+μ-slots n backward t₀ k₀ t k = 32 - k
+
+abbrev Inv-rules : tie.InvT-rules
+Inv-rules n backward t₀ k i₀ t i = i ≤ 255
+
+abbrev μ-rules : tie.MeasureT-rules
+μ-rules n backward t₀ k i₀ t i = 255 - i
+
+empty-table-requires : tie.Need-empty-table-requires Inv-slots μ-slots Inv-rules μ-rules
+empty-table-requires c κs = search needs
+
+slots-holds : tie.Need-slots-holds Inv-slots μ-slots Inv-rules μ-rules
+slots-holds c = search needs
+
+mul-slot : tie.Need-mul-slot Inv-slots μ-slots Inv-rules μ-rules
+mul-slot c = search needs
+
+element-copy-out-slot : tie.Need-element-copy-out-slot Inv-slots μ-slots Inv-rules μ-rules
+element-copy-out-slot c = search needs
+
+mul-slot-2 : tie.Need-mul-slot-2 Inv-slots μ-slots Inv-rules μ-rules
+mul-slot-2 c = search needs
+
+element-set-from-slot : tie.Need-element-set-from-slot Inv-slots μ-slots Inv-rules μ-rules
+element-set-from-slot c = search needs
+
+add-k : tie.Need-add-k Inv-slots μ-slots Inv-rules μ-rules
+add-k c = search needs
+
+slots-less : tie.Need-slots-less Inv-slots μ-slots Inv-rules μ-rules
+slots-less c = search needs
+
+slots-again : tie.Need-slots-again Inv-slots μ-slots Inv-rules μ-rules
+slots-again c = search needs
+
+rules-holds : tie.Need-rules-holds Inv-slots μ-slots Inv-rules μ-rules
+rules-holds c = search needs
+
+add-link : tie.Need-add-link Inv-slots μ-slots Inv-rules μ-rules
+add-link c = search needs
+
+link-requires : tie.Need-link-requires Inv-slots μ-slots Inv-rules μ-rules
+link-requires c κs = search needs
+
+mul-r : tie.Need-mul-r Inv-slots μ-slots Inv-rules μ-rules
+mul-r c = search needs
+
+element-set-from-r : tie.Need-element-set-from-r Inv-slots μ-slots Inv-rules μ-rules
+element-set-from-r c = search needs
+
+add-link-2 : tie.Need-add-link-2 Inv-slots μ-slots Inv-rules μ-rules
+add-link-2 c = search needs
+
+link-requires-2 : tie.Need-link-requires-2 Inv-slots μ-slots Inv-rules μ-rules
+link-requires-2 c κs = search needs
+
+mul-r-2 : tie.Need-mul-r-2 Inv-slots μ-slots Inv-rules μ-rules
+mul-r-2 c = search needs
+
+element-set-from-r-2 : tie.Need-element-set-from-r-2 Inv-slots μ-slots Inv-rules μ-rules
+element-set-from-r-2 c = search needs
+
+add-i : tie.Need-add-i Inv-slots μ-slots Inv-rules μ-rules
+add-i c = search needs
+
+rules-less : tie.Need-rules-less Inv-slots μ-slots Inv-rules μ-rules
+rules-less c = search needs
+
+rules-again : tie.Need-rules-again Inv-slots μ-slots Inv-rules μ-rules
+rules-again c = search needs
+
+returns : tie.Need-returns Inv-slots μ-slots Inv-rules μ-rules
+returns c = search needs
+
+pub chain-spec : {M : Type 1} → statement M
+chain-spec =
+    tie.close
+    (tie.spec
+    Inv-slots
+    μ-slots
+    Inv-rules
+    μ-rules
+    empty-table-requires
+    slots-holds
+    mul-slot
+    element-copy-out-slot
+    mul-slot-2
+    element-set-from-slot
+    add-k
+    slots-less
+    slots-again
+    rules-holds
+    add-link
+    link-requires
+    mul-r
+    element-set-from-r
+    add-link-2
+    link-requires-2
+    mul-r-2
+    element-set-from-r-2
+    add-i
+    rules-less
+    rules-again
+    returns)

@@ -1,0 +1,79 @@
+-- `strata_cases::read_literals` is safe and ends.
+-- Assumes nothing.
+use Prim.Native.Nat.{_-_, _≤_}
+use borrow.Author.Needs.{needs}
+use Rattle.strata_cases.proofs.read_literals.Statement.{statement}
+use Rattle.strata_cases.proofs.read_literals.Tie as tie
+
+abbrev Inv-loop : tie.InvT-loop
+Inv-loop s start fill size at₀ r₀ tested j₀ at r j = j ≤ 8
+
+abbrev μ-loop : tie.MeasureT-loop
+μ-loop s start fill size at₀ r₀ tested j₀ at r j = 8 - j
+
+loop-holds : tie.Need-loop-holds Inv-loop μ-loop
+loop-holds c = search needs
+
+byte-requires : tie.Need-byte-requires Inv-loop μ-loop
+byte-requires c κs = search needs
+
+next-requires : tie.Need-next-requires Inv-loop μ-loop
+next-requires c κs = search needs
+
+byte-requires-2 : tie.Need-byte-requires-2 Inv-loop μ-loop
+byte-requires-2 c κs = search needs
+
+next-requires-2 : tie.Need-next-requires-2 Inv-loop μ-loop
+next-requires-2 c κs = search needs
+
+byte-requires-3 : tie.Need-byte-requires-3 Inv-loop μ-loop
+byte-requires-3 c κs = search needs
+
+next-requires-3 : tie.Need-next-requires-3 Inv-loop μ-loop
+next-requires-3 c κs = search needs
+
+mul-t18 : tie.Need-mul-t18 Inv-loop μ-loop
+mul-t18 c = search needs
+
+element-set-from-r : tie.Need-element-set-from-r Inv-loop μ-loop
+element-set-from-r c = search needs
+
+mul-t22 : tie.Need-mul-t22 Inv-loop μ-loop
+mul-t22 c = search needs
+
+element-set-from-r-2 : tie.Need-element-set-from-r-2 Inv-loop μ-loop
+element-set-from-r-2 c = search needs
+
+add-j : tie.Need-add-j Inv-loop μ-loop
+add-j c = search needs
+
+loop-less : tie.Need-loop-less Inv-loop μ-loop
+loop-less c = search needs
+
+loop-again : tie.Need-loop-again Inv-loop μ-loop
+loop-again c = search needs
+
+returns : tie.Need-returns Inv-loop μ-loop
+returns c = search needs
+
+pub read-literals-spec : {M : Type 1} → statement M
+read-literals-spec =
+    tie.close
+    (tie.spec
+    Inv-loop
+    μ-loop
+    loop-holds
+    byte-requires
+    next-requires
+    byte-requires-2
+    next-requires-2
+    byte-requires-3
+    next-requires-3
+    mul-t18
+    element-set-from-r
+    mul-t22
+    element-set-from-r-2
+    add-j
+    loop-less
+    loop-again
+    returns)

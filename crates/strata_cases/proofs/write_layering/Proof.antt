@@ -1,0 +1,86 @@
+-- `strata_cases::write_layering` is safe and ends.
+-- Assumes nothing.
+use mathlib.Core.Path.{sym, _∙_}
+use borrow.Author.Tests.{not-false}
+use Rattle.laws.proofs.Equations.{from-true}
+use Rattle.table.proofs.Shape.{shaped}
+use Rattle.strata.proofs.WellFormed.{well-formed-fits}
+use borrow.Author.Needs.{needs}
+use Rattle.strata_cases.proofs.write_layering.Statement.{statement}
+use Rattle.strata_cases.proofs.write_layering.Tie as tie
+
+is-well-formed-requires : tie.Need-is-well-formed-requires
+is-well-formed-requires c κs = search needs
+
+returns : tie.Need-returns
+returns c = search needs
+
+layer-requires : tie.Need-layer-requires
+layer-requires c κs =
+    let g = c .before in
+    let s = g .before in
+    well-formed-fits (s .args .t) (shaped (s .args .t) _ (s .good .0)) (from-true _ (sym (g .is-well-formed .ensures) ∙ not-false (g .is-well-formed .result) (c .if1 .left)))
+
+enum-told : tie.Need-enum-told
+enum-told c = search needs
+
+slice-aggregate-write-all : tie.Need-slice-aggregate-write-all
+slice-aggregate-write-all c = search needs
+
+write-all-requires : tie.Need-write-all-requires
+write-all-requires c κs = search needs
+
+write-strata-requires : tie.Need-write-strata-requires
+write-strata-requires c κs = search needs
+
+enum-known-outcome : tie.Need-enum-known-outcome
+enum-known-outcome c = search needs
+
+slice-aggregate-write-all-2 : tie.Need-slice-aggregate-write-all-2
+slice-aggregate-write-all-2 c = search needs
+
+write-all-requires-2 : tie.Need-write-all-requires-2
+write-all-requires-2 c κs = search needs
+
+wide-requires : tie.Need-wide-requires
+wide-requires c κs = search needs
+
+write-number-requires : tie.Need-write-number-requires
+write-number-requires c κs = search needs
+
+slice-aggregate-write-all-3 : tie.Need-slice-aggregate-write-all-3
+slice-aggregate-write-all-3 c = search needs
+
+write-all-requires-3 : tie.Need-write-all-requires-3
+write-all-requires-3 c κs = search needs
+
+is-sound-requires : tie.Need-is-sound-requires
+is-sound-requires c κs = search needs
+
+write-answer-requires : tie.Need-write-answer-requires
+write-answer-requires c κs = search needs
+
+returns-2 : tie.Need-returns-2
+returns-2 c = search needs
+
+pub write-layering-spec : {M : Type 1} → statement M
+write-layering-spec =
+    tie.close
+    (tie.spec
+    is-well-formed-requires
+    returns
+    layer-requires
+    enum-told
+    slice-aggregate-write-all
+    write-all-requires
+    write-strata-requires
+    enum-known-outcome
+    slice-aggregate-write-all-2
+    write-all-requires-2
+    wide-requires
+    write-number-requires
+    slice-aggregate-write-all-3
+    write-all-requires-3
+    is-sound-requires
+    write-answer-requires
+    returns-2)

@@ -1,0 +1,323 @@
+// Writes what the crate strata says of each table on standard input, then of chains of every length.
+use libc::STDOUT_FILENO;
+use strata::Layering;
+use strata::Outcome;
+use table::ASSIGNMENTS;
+use table::Assignment;
+use table::LITERALS;
+use table::Literal;
+use table::Name;
+use table::RULES;
+use table::Rule;
+use table::SLOTS;
+use table::Slot;
+use table::Table;
+
+// A byte of the input, 0 after its end.
+fn byte(s: &[u8], at: usize) -> u8 {
+    if at < s.len() { s[at] } else { 0 }
+}
+
+// The next place of an input of this size.
+fn next(at: usize, size: usize) -> usize {
+    if at < size { at + 1 } else { size }
+}
+
+// A rule and the place after it.
+struct ReadRule {
+    rule: Rule,
+    at: usize,
+}
+
+// A table and the place after it.
+struct ReadTable {
+    table: Table,
+    at: usize,
+}
+
+// The literal places of a rule: those used as the input has them, the others filled with one number.
+fn read_literals(s: &[u8], start: usize, before: Rule, fill: u8) -> ReadRule {
+    let size = s.len();
+    let mut at = start;
+    let mut r = before;
+    let tested = r.tested;
+    let mut j: usize = 0;
+    while j < LITERALS {
+        if j < tested {
+            let flags = byte(s, at);
+            at = next(at, size);
+            let slot = byte(s, at);
+            at = next(at, size);
+            let value = byte(s, at);
+            at = next(at, size);
+            r.literals[j] = Literal {
+                becomes: flags % 2 == 1,
+                negated: 2 <= flags,
+                slot: slot,
+                value: value,
+            };
+        } else {
+            r.literals[j] = Literal {
+                becomes: true,
+                negated: true,
+                slot: fill,
+                value: fill,
+            };
+        }
+        j += 1;
+    }
+    ReadRule { rule: r, at: at }
+}
+
+// The assignment places of a rule, in the same manner.
+fn read_assignments(s: &[u8], start: usize, before: Rule, fill: u8) -> ReadRule {
+    let size = s.len();
+    let mut at = start;
+    let mut r = before;
+    let assigned = r.assigned;
+    let mut j: usize = 0;
+    while j < ASSIGNMENTS {
+        if j < assigned {
+            let slot = byte(s, at);
+            at = next(at, size);
+            let value = byte(s, at);
+            at = next(at, size);
+            r.assignments[j] = Assignment {
+                slot: slot,
+                value: value,
+            };
+        } else {
+            r.assignments[j] = Assignment {
+                slot: fill,
+                value: fill,
+            };
+        }
+        j += 1;
+    }
+    ReadRule { rule: r, at: at }
+}
+
+// A rule: trigger, stratum, literals used, assignments used, each number before what it counts.
+fn read_rule(s: &[u8], start: usize, fill: u8) -> ReadRule {
+    let size = s.len();
+    let mut at = start;
+    let mut r = table::empty_rule();
+    r.slot = byte(s, at);
+    at = next(at, size);
+    r.value = byte(s, at);
+    at = next(at, size);
+    r.stratum = byte(s, at);
+    at = next(at, size);
+    r.tested = table::wide(byte(s, at));
+    at = next(at, size);
+    let half = read_literals(s, at, r, fill);
+    let mut q = half.rule;
+    at = half.at;
+    q.assigned = table::wide(byte(s, at));
+    at = next(at, size);
+    read_assignments(s, at, q, fill)
+}
+
+// A table: what fills unused places, the number of slots and the values of each, the number of rules (high byte first) and the rules.
+fn read_table(s: &[u8], start: usize) -> ReadTable {
+    let size = s.len();
+    let mut at = start;
+    let fill = byte(s, at);
+    at = next(at, size);
+    let width = table::wide(byte(s, at));
+    at = next(at, size);
+    let mut t = table::empty_table();
+    t.width = width;
+    let mut k: usize = 0;
+    'slots: while k < SLOTS {
+        let mut slot = t.slots[k];
+        if k < width {
+            slot.count = table::wide(byte(s, at));
+            at = next(at, size);
+        } else {
+            slot.count = table::wide(fill);
+        }
+        t.slots[k] = slot;
+        k += 1;
+    }
+    let high = table::wide(byte(s, at));
+    at = next(at, size);
+    let low = table::wide(byte(s, at));
+    at = next(at, size);
+    let count = high * 256 + low;
+    t.count = count;
+    let mut i: usize = 0;
+    'rules: while i < RULES {
+        if i < count {
+            let got = read_rule(s, at, fill);
+            let r = got.rule;
+            at = got.at;
+            t.rules[i] = r;
+        }
+        i += 1;
+    }
+    ReadTable { table: t, at: at }
+}
+
+// A space and a number.
+fn write_number(n: usize) {
+    io::write_all(STDOUT_FILENO, b" ");
+    io::print_decimal(STDOUT_FILENO, n as u64);
+}
+
+// A space and 1 for yes, 0 for no.
+fn write_answer(yes: bool) {
+    if yes {
+        write_number(1);
+    } else {
+        write_number(0);
+    }
+}
+
+// The strata that a table carries.
+fn write_strata(t: Table) {
+    let n = t.count;
+    let mut i: usize = 0;
+    while i < RULES {
+        if i < n {
+            let r = t.rules[i];
+            let x = r.stratum;
+            write_number(table::wide(x));
+        }
+        i += 1;
+    }
+}
+
+// What `layer` says of a table, and whether the table that it hands out passes.
+fn write_layering(t: Table) {
+    let ok = strata::is_well_formed(t);
+    if !ok {
+        return;
+    }
+    let answer = strata::layer(t);
+    let u = answer.table;
+    let outcome = answer.outcome;
+    match outcome {
+        Outcome::Layered => {
+            io::write_all(STDOUT_FILENO, b" layered");
+            write_strata(u);
+        }
+        Outcome::Circle(k) => {
+            io::write_all(STDOUT_FILENO, b" circle");
+            write_number(table::wide(k));
+        }
+    }
+    io::write_all(STDOUT_FILENO, b" passes");
+    write_answer(strata::is_sound(u));
+}
+
+// All that is said of a table.
+fn write_table(t: Table) {
+    io::write_all(STDOUT_FILENO, b" form");
+    write_answer(strata::is_well_formed(t));
+    io::write_all(STDOUT_FILENO, b" sound");
+    write_answer(strata::is_sound(t));
+    write_layering(t);
+    io::write_all(STDOUT_FILENO, b"\n");
+}
+
+// The tables of the input.
+fn write_cases(s: &[u8]) {
+    let size = s.len();
+    let cases = table::wide(byte(s, 0));
+    let mut at = next(0, size);
+    let mut number: usize = 0;
+    while number < cases {
+        number += 1;
+        let got = read_table(s, at);
+        at = got.at;
+        let t = got.table;
+        io::write_all(STDOUT_FILENO, b"case");
+        write_number(number);
+        write_table(t);
+    }
+}
+
+// The rule that tests pair a and assigns pair b, of 480 pairs that go round the 32 slots.
+fn link(a: usize, b: usize) -> Rule {
+    let mut r = table::empty_rule();
+    r.slot = (a % 32) as u8;
+    r.value = (a / 32 % 15 + 1) as u8;
+    let x = Assignment {
+        slot: (b % 32) as u8,
+        value: (b / 32 % 15 + 1) as u8,
+    };
+    r.assignments[0] = x;
+    r.assigned = 1;
+    r
+}
+
+// A chain of n rules: each waits for the one before it, or for the one after it.
+fn chain(n: usize, backward: bool) -> Table {
+    let mut t = table::empty_table();
+    t.width = SLOTS;
+    t.count = n;
+    let mut k: usize = 0;
+    'slots: while k < SLOTS {
+        let mut slot = t.slots[k];
+        slot.count = 15;
+        t.slots[k] = slot;
+        k += 1;
+    }
+    let mut i: usize = 0;
+    'rules: while i < RULES {
+        if i < n {
+            if backward {
+                let r = link(i + 1, i);
+                t.rules[i] = r;
+            } else {
+                let r = link(i, i + 1);
+                t.rules[i] = r;
+            }
+        }
+        i += 1;
+    }
+    t
+}
+
+// What `layer` says of a chain: the strata of its first and its last rule, and whether the table then passes.
+fn write_chain(t: Table) {
+    let ok = strata::is_well_formed(t);
+    if !ok {
+        return;
+    }
+    let answer = strata::layer(t);
+    let u = answer.table;
+    let n = u.count;
+    let first = u.rules[0];
+    write_number(table::wide(first.stratum));
+    if 0 < n {
+        if n <= RULES {
+            let last = u.rules[n - 1];
+            write_number(table::wide(last.stratum));
+        }
+    }
+    write_answer(strata::is_sound(u));
+    io::write_all(STDOUT_FILENO, b"\n");
+}
+
+// Chains of every length, both ways.
+fn write_chains() {
+    let mut n: usize = 0;
+    while n < RULES {
+        n += 1;
+        io::write_all(STDOUT_FILENO, b"forward");
+        write_number(n);
+        write_chain(chain(n, false));
+        io::write_all(STDOUT_FILENO, b"backward");
+        write_number(n);
+        write_chain(chain(n, true));
+    }
+}
+
+fn main() {
+    let mut buffer = io::large_buffer();
+    let n = io::read_full(libc::STDIN_FILENO, &mut buffer);
+    write_cases(&buffer[..n]);
+    write_chains();
+}
