@@ -9,6 +9,7 @@ import re
 import sys
 
 from stored import run
+from strata_cases import circle, dependences, strata
 
 TOKEN = re.compile(rb'[0-9A-Za-z][0-9A-Za-z-]*|[*|:]=|[{},;]')
 RESERVED = {b'SLOT', b'WHEN', b'IF', b'THEN', b'AND', b'NOT', b'TRUE'}
@@ -150,10 +151,13 @@ def reading(text):
         file.read()
     except Refused as refusal:
         return [b'refused %d %d' % (refusal.args[0], len(file.rules))]
+    edges = dependences([((slot, value), literals, assignments) for slot, value, literals, assignments in file.rules])
+    if circle(edges):
+        return [b'refused 18 %d' % circle(edges)]
     lines = [b'accepted %d %d' % (len(file.slots), len(file.rules))]
     lines += [b' '.join([b'slot', name] + values) for name, values in file.slots]
-    for slot, value, literals, assignments in file.rules:
-        lines.append(b'rule %d %d' % (slot, value) + b''.join(b' : %d %d %d %d' % l for l in literals) + b''.join(b' = %d %d' % a for a in assignments))
+    for stratum, (slot, value, literals, assignments) in zip(strata(edges), file.rules):
+        lines.append(b'rule %d %d %d' % (stratum, slot, value) + b''.join(b' : %d %d %d %d' % l for l in literals) + b''.join(b' = %d %d' % a for a in assignments))
     return lines
 
 
@@ -171,6 +175,8 @@ def texts():
     many = lambda n: b','.join(b'v%d' % i for i in range(n))
     yield from [b'', b' \t\r\n', XYZ, XYZ + a + b, rule(b'TRUE AND y |= 0'), rule(b'y |= 0 AND TRUE'), b'(', XYZ + b'(', XYZ + RULE + b'(', XYZ + RULE + b'*', XYZ + RULE + b'WHEN x *']
     yield from [b'SLOT ' + b'a' * 24 + b' {b};', b'SLOT ' + b'a' * 25 + b' {b};', b'SLOT x {' + b'b' * 24 + b'};', b'SLOT x {' + b'b' * 25 + b'};', b'a' * 25, b'SLOT x ' + b'a' * 25, XYZ + RULE + b'a' * 25]
+    c, d, e = b'WHEN z *= 1 IF y |= 0 THEN x := 1;', b'WHEN y *= 1 IF NOT x *= 1 THEN z := 1;', b'WHEN y *= 1 IF x |= 0 THEN x := 1;'
+    yield from [XYZ + a + c, XYZ + c + a, XYZ + d + e, XYZ + e + d, XYZ + e + a + c, XYZ + a + b + e, rule(assign=b'x := 1'), rule(b'NOT y *= 1'), rule(b'NOT NOT y *= 1'), rule(b'y |= 1'), rule(b'y *= 0'), XYZ + a + c + b'(']
     short = b'WHEN x*=1 IF TRUE THEN y:=1;'
     yield from [XYZ + RULE * 2, XYZ + short * 255 + b' ', XYZ + short * 256, XYZ + short * 255 + b'SLOT']
     yield from [b''.join(b'SLOT s%d {v};' % i for i in range(n)) for n in (32, 33)] + [b''.join(b'SLOT s%d {v};' % i for i in range(32)) + b'SLOT s1 (']

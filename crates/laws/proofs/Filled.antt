@@ -5,8 +5,8 @@ use native.Mathlib.Omega.{arith}
 use native.Mathlib.Numerals.{add-one}
 use mathlib.Core.Path.{_≡_, refl, sym, ap, _∙_}
 use mathlib.Core.List.{List, [], _∷_, _++_, append-assoc}
-use lib.ListN.{length, length-append, take, drop, set, replicate, length-set, length-replicate, take-append-drop}
-use lib.Seq.{drop-cons, length-take-le, take-suc-set}
+use lib.ListN.{length, getD, length-append, take, drop, set, replicate, length-set, length-replicate, take-append-drop}
+use lib.Seq.{drop-cons, length-take-le, take-suc-set, take-append-seam}
 use Rattle.laws.specs.Filled.{filled, Filled}
 
 -- No place is used.
@@ -62,3 +62,33 @@ filled-snoc n unused x xs h =
     let l : length (xs ++ x ∷ []) ≡ suc (length xs) = length-append xs (x ∷ []) ∙ omega arith in
     let z : n - length xs ≡ suc (n - length (xs ++ x ∷ [])) = omega arith in
     ap (λ (k : ℕ). set (xs ++ replicate k unused) (length xs) x) z ∙ set-end xs unused x (replicate (n - length (xs ++ x ∷ [])) unused) ∙ sym (append-assoc xs (x ∷ []) _)
+
+-- A list filled up has n places.
+pub filled-length : {A : Type 0} (n : ℕ) (unused : A) (xs : List A) → length xs ≤ n → length (filled n unused xs) ≡ n
+unfolding filled
+filled-length n unused xs h = length-append xs (replicate (n - length xs) unused) ∙ rw (length-replicate (n - length xs) unused) (omega arith)
+
+-- Its first places are the list.
+pub filled-front : {A : Type 0} (n : ℕ) (unused : A) (xs : List A) → take (length xs) (filled n unused xs) ≡ xs
+unfolding filled
+filled-front n unused xs = take-append-seam xs (replicate (n - length xs) unused)
+
+replicated : {A : Type 0} (P : A → Type 0) (u d : A) (k i : ℕ) → P u → i < k → P (getD (replicate k u) i d)
+replicated P u d zero i p h = absurd (omega arith)
+replicated P u d (suc k) zero p h = p
+replicated P u d (suc k) (suc i) p h = replicated P u d k i p (omega arith)
+
+appended : {A : Type 0} (P : A → Type 0) (xs ys : List A) (d : A) → ((i : ℕ) → i < length xs → P (getD xs i d)) → ((i : ℕ) → i < length ys → P (getD ys i d))
+    → (i : ℕ) → i < length (xs ++ ys) → P (getD (xs ++ ys) i d)
+appended P [] ys d f g i h = g i h
+appended P (x ∷ xs) ys d f g zero h = f 0 (omega arith)
+appended P (x ∷ xs) ys d f g (suc i) h = appended P xs ys d (λ j l. f (suc j) (omega arith)) g i (omega arith)
+
+-- What holds of each element of the list and of `unused` holds at each place.
+pub filled-each : {A : Type 0} (P : A → Type 0) (n : ℕ) (unused : A) (xs : List A) (d : A) → length xs ≤ n → P unused → ((i : ℕ) → i < length xs → P (getD xs i d))
+    → (i : ℕ) → i < n → P (getD (filled n unused xs) i d)
+unfolding filled
+filled-each P n unused xs d few p f i h =
+    let l : length (replicate (n - length xs) unused) ≡ n - length xs = length-replicate (n - length xs) unused in
+    appended P xs (replicate (n - length xs) unused) d f (λ j k. replicated P unused d (n - length xs) j p (omega (arith, l, k))) i
+    (omega (arith, h, few, l, length-append xs (replicate (n - length xs) unused)))

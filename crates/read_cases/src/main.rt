@@ -71,9 +71,10 @@ fn write_assignments(r: Rule) {
     }
 }
 
-// A rule: its trigger, its literals, its assignments.
+// A rule: its stratum, its trigger, its literals, its assignments.
 fn write_rule(r: Rule) {
     io::write_all(STDOUT_FILENO, b"rule");
+    write_number(table::wide(r.stratum));
     write_number(table::wide(r.slot));
     write_number(table::wide(r.value));
     write_literals(r);
@@ -106,7 +107,7 @@ fn write_rules(t: Table) {
 
 // What the reading of a text gives.
 fn write_reading(text: &[u8]) {
-    let read = reader::read_text(text);
+    let read = rule_file::read(text);
     let t = read.table;
     let outcome = read.outcome;
     match outcome {

@@ -72,7 +72,8 @@ module _ (t : Table) (fits : TableFits t) (sh : Shaped t) where
           List·getD-map rule-of (used-rules (with-strata t)) i no-rule ∙ ap rule-of (getD-take (with-strata t .count) (with-strata t .rules) i no-rule k ∙ rule-now i h)
           ∙ sym (List·getD-map rule-of (used-rules t) i no-rule ∙ ap rule-of (getD-take (t .count) (t .rules) i no-rule h))
 
-  same-counts : value-counts (with-strata t) ≡ value-counts t
+  -- The slots have as many values.
+  pub same-counts : value-counts (with-strata t) ≡ value-counts t
   unfolding with-strata value-counts
   same-counts = refl
 

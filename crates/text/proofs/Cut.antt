@@ -154,7 +154,8 @@ abbrev pub Free : List Token → Type 0
 Free [] = Unit
 Free (t ∷ ts) = (is-semi t ≡ false) × Free ts
 
-place-le : (n : List ℕ) (ms : List (List ℕ)) → place n ms ≤ length ms
+-- The place of a name among names is one of theirs.
+pub place-le : (n : List ℕ) (ms : List (List ℕ)) → place n ms ≤ length ms
 place-le n [] = omega arith
 place-le n (m ∷ ms) = go (same-letters n m) (place n ms) (place-le n ms)
   where

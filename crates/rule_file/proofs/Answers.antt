@@ -1,0 +1,213 @@
+-- What the whole reading answers: accepted exactly where the text is a file whose rules have strata, and then with its table and the least strata; 18 exactly where the text is a file without strata.
+-- Assumes nothing.
+use mathlib.Core.Path.{_≡_, refl, sym, ap, subst, _∙_}
+use mathlib.Core.Bool.{Bool, true, false, cond}
+use mathlib.Core.List.{List}
+use mathlib.Core.Logic.{_↔_, ⊎-elim}
+use Prim.Native.Nat.{ℕ, _≤_, _<_}
+use native.Mathlib.Omega.{arith}
+use lib.Dec.{T, eqb}
+use lib.ListN.{length}
+use borrow.Author.Tests.{eqb-true, eqb-false, eq-eqb, ne-eqb}
+use Rattle.laws.specs.Numbers.{Numbered}
+use Rattle.model.specs.Rules as model
+use Rattle.model.specs.Strata.{strict, Strata}
+use Rattle.model.specs.Circles.{on-circle, circle-of}
+use Rattle.model.specs.Least.{strata-of}
+use Rattle.model.proofs.Circles.{circle-lowest}
+use Rattle.model.proofs.Strata.{no-circle, no-strata, least-strata}
+use Rattle.table.specs.declared.Table.{Table}
+use Rattle.table.specs.Empty.{empty-table}
+use Rattle.table.specs.Fits.{TableFits}
+use Rattle.table.specs.Link.{rules-of, stratum-at, value-counts}
+use Rattle.text.specs.Tokens.{Token, tokens}
+use Rattle.grammar.specs.Files.{File}
+use Rattle.grammar.specs.Meaning.{Is-file}
+use Rattle.grammar.specs.Reading.{Answer, accepted, refused, read}
+use Rattle.grammar.specs.Refusals.{Fault, no-token, no-place, ends-inside, too-long, in-place}
+use Rattle.grammar.proofs.Accepts.{accepts-iff}
+use Rattle.grammar.proofs.Refusals.{refusal-stands}
+use Rattle.strata.specs.declared.Outcome as found
+use Rattle.strata.specs.declared.Outcome.the-variants.{Layered, Circle}
+use Rattle.strata.specs.declared.Layering.{Layering}
+use Rattle.strata.specs.Layered.{with-strata, layering}
+use Rattle.strata.specs.Sound.{sound}
+use Rattle.strata.proofs.WellFormed.{well-formed-fits}
+use Rattle.strata.proofs.Passes.{layer-passes, empty-passes, same-rules, same-counts, stratum-now}
+use Rattle.reader.specs.Tables.{table-for, answered}
+use Rattle.reader.specs.declared.Outcome.{Outcome}
+use Rattle.reader.specs.declared.Outcome.the-variants.{Accepted, Refused}
+use Rattle.reader.specs.declared.FileRead.{FileRead}
+use Rattle.rule_file.specs.Whole.{layered, answered-whole, reading}
+use Rattle.rule_file.proofs.Declared.{counts-of, read-declared}
+use Rattle.rule_file.proofs.FileTable.{file-rules, file-counts, file-shaped, file-well-formed}
+
+-- The reading's answer for that of the strata.
+abbrev outcome-for : found.Outcome → Outcome
+outcome-for Layered = Accepted
+outcome-for (Circle k) = Refused 18 k
+
+abbrev answer-for : Layering → FileRead
+answer-for l = record { outcome = outcome-for (l .outcome); table = l .table }
+
+-- A file's answer is that of its table's strata.
+layered-table : (f : File) → answer-for (layering (table-for f)) ≡ layered f
+unfolding layering layered
+layered-table f = rw (file-rules f) (go (eqb (circle-of strict (f .rules)) 0))
+  where
+    go : (b : Bool)
+        → answer-for (cond b (record { outcome = Layered; table = with-strata (table-for f) }) (record { outcome = Circle (circle-of strict (f .rules)); table = empty-table }))
+        ≡ cond b (record { outcome = Accepted; table = with-strata (table-for f) }) (record { outcome = Refused 18 (circle-of strict (f .rules)); table = empty-table })
+    go true = refl
+    go false = refl
+
+reading-file : (text : List ℕ) (f : File) → read text ≡ accepted f → reading text ≡ layered f
+unfolding reading answered-whole
+reading-file text f e = ap answered-whole e
+
+reading-refused : (text : List ℕ) (k n : ℕ) → read text ≡ refused k n → reading text ≡ record { outcome = Refused k n; table = empty-table }
+unfolding reading answered-whole
+reading-refused text k n e = ap answered-whole e
+
+-- Where the first part of the reading accepts, there is a file and this is its table.
+pub accepted-file : (text : List ℕ) (q : FileRead) → q ≡ answered (read text) → q .outcome ≡ Accepted → (f : File) × (read text ≡ accepted f) × (q .table ≡ table-for f)
+unfolding answered
+accepted-file text q e o = go (read text) refl e
+  where
+    go : (a : Answer) → read text ≡ a → q ≡ answered a → (f : File) × (read text ≡ accepted f) × (q .table ≡ table-for f)
+    go (accepted f) r s = (f, r, ap (λ (x : FileRead). x .table) s)
+    go (refused k n) r s = absurd (clash (sym o ∙ ap (λ (x : FileRead). x .outcome) s))
+      where
+        clash : Accepted ≡ Refused k n → ⊥
+        clash c = let z : _≡_ {A = ℕ} 0 1 = cc in omega arith
+
+pub file-fits : (text : List ℕ) (q : FileRead) → q ≡ answered (read text) → q .outcome ≡ Accepted → TableFits (q .table)
+file-fits text q e o =
+    let w = accepted-file text q e o in
+    let D = read-declared text (w .0) (w .1) in
+    rw (w .2) (well-formed-fits (table-for (w .0)) (file-shaped (w .0) D) (file-well-formed (w .0) D))
+
+pub whole-layered : (text : List ℕ) (q : FileRead) (l : Layering) (o : found.Outcome) → q ≡ answered (read text) → q .outcome ≡ Accepted → l ≡ layering (q .table) → l .outcome ≡ o
+    → record { outcome = outcome-for o; table = l .table } ≡ reading text
+whole-layered text q l o e a s t =
+    let w = accepted-file text q e a in
+    ap (λ (x : found.Outcome). record { outcome = outcome-for x; table = l .table }) (sym t)
+    ∙ ap answer-for (s ∙ ap layering (w .2)) ∙ layered-table (w .0) ∙ sym (reading-file text (w .0) (w .1))
+
+pub whole-refused : (text : List ℕ) (q : FileRead) (k n : ℕ) → q ≡ answered (read text) → q .outcome ≡ Refused k n → record { outcome = Refused k n; table = q .table } ≡ reading text
+unfolding answered
+whole-refused text q k n e o = go (read text) refl e
+  where
+    go : (a : Answer) → read text ≡ a → q ≡ answered a → record { outcome = Refused k n; table = q .table } ≡ reading text
+    go (accepted f) r s = absurd (clash (sym o ∙ ap (λ (x : FileRead). x .outcome) s))
+      where
+        clash : Refused k n ≡ Accepted → ⊥
+        clash c = let z : _≡_ {A = ℕ} 0 1 = cc in omega arith
+    go (refused j m) r s =
+        ap (λ (x : Outcome). record { outcome = x; table = q .table }) (sym o) ∙ s ∙ sym (reading-refused text j m r)
+
+-- The two answers of a file as read.
+layered-zero : (f : File) → circle-of strict (f .rules) ≡ 0 → layered f ≡ record { outcome = Accepted; table = with-strata (table-for f) }
+unfolding layered
+layered-zero f z = rw (eq-eqb (circle-of strict (f .rules)) 0 z) refl
+
+layered-circle : (f : File) → (circle-of strict (f .rules) ≡ 0 → ⊥) → layered f ≡ record { outcome = Refused 18 (circle-of strict (f .rules)); table = empty-table }
+unfolding layered
+layered-circle f n = rw (ne-eqb (circle-of strict (f .rules)) 0 n) refl
+
+-- No fault of a token is 18.
+fault-other : (k : ℕ) (before after : List Token) → Fault k before after → k ≤ 17
+fault-other k before after no-token = omega arith
+fault-other k before after (no-place o) = omega arith
+fault-other k before after (ends-inside o) = omega arith
+fault-other k before after (too-long o) = omega arith
+fault-other k before after (in-place l h o) = h
+
+refused-other : (text : List ℕ) (k n : ℕ) → read text ≡ refused k n → k ≤ 17
+refused-other text k n e = ⊎-elim (λ w. omega (arith, w .0)) (λ w. fault-other k _ _ (w .1 .fault)) (refusal-stands text k n e)
+
+outcomes-differ : (k n : ℕ) → Accepted ≡ Refused k n → ⊥
+outcomes-differ k n c = let z : _≡_ {A = ℕ} 0 1 = cc in omega arith
+
+-- A text is accepted exactly where it is a file whose rules have strata.
+pub reading-accepted-iff : (text : List ℕ) → ((f : File) × Is-file text f × ((u : ℕ → ℕ) × Strata strict (f .rules) u)) ↔ (reading text .outcome ≡ Accepted)
+reading-accepted-iff text = (there, λ o. back o (read text) refl)
+  where
+    there : (f : File) × Is-file text f × ((u : ℕ → ℕ) × Strata strict (f .rules) u) → reading text .outcome ≡ Accepted
+    there w =
+        let z = no-circle strict (w .0 .rules) (w .2 .0) (w .2 .1) in
+        ap (λ (a : FileRead). a .outcome) (reading-file text (w .0) (accepts-iff text (w .0) .1 (w .1)) ∙ layered-zero (w .0) z)
+
+    back : reading text .outcome ≡ Accepted → (a : Answer) → read text ≡ a → (f : File) × Is-file text f × ((u : ℕ → ℕ) × Strata strict (f .rules) u)
+    back o (accepted f) e = by-circle (eqb (circle-of strict (f .rules)) 0) refl
+      where
+        by-circle : (b : Bool) → eqb (circle-of strict (f .rules)) 0 ≡ b → (f : File) × Is-file text f × ((u : ℕ → ℕ) × Strata strict (f .rules) u)
+        by-circle true q = (f, accepts-iff text f .0 e, (strata-of strict (f .rules), least-strata strict (f .rules) (eqb-true (circle-of strict (f .rules)) 0 q)))
+        by-circle false q = absurd (outcomes-differ _ _ (sym o ∙ ap (λ (a : FileRead). a .outcome) (reading-file text f e ∙ layered-circle f (eqb-false (circle-of strict (f .rules)) 0 q))))
+    back o (refused k n) e = absurd (outcomes-differ k n (sym o ∙ ap (λ (a : FileRead). a .outcome) (reading-refused text k n e)))
+
+-- What an accepted text's table carries: the file's rules and slots, and the least strata.
+pub record Carries (text : List ℕ) (t : Table) : Type 0 where
+  pub file : File
+  pub is-file : Is-file text file
+  pub rules-are : rules-of t ≡ file .rules
+  pub counts-are : value-counts t ≡ counts-of (file .slots)
+  pub strata-are : (n : ℕ) → Numbered (length (file .rules)) n → stratum-at t n ≡ strata-of strict (file .rules) n
+  pub no-circle : circle-of strict (file .rules) ≡ 0
+
+pub reading-carries : (text : List ℕ) → reading text .outcome ≡ Accepted → Carries text (reading text .table)
+reading-carries text o =
+    let w = reading-accepted-iff text .1 o in
+    let f = w .0 in
+    let e = accepts-iff text f .1 (w .1) in
+    let z = no-circle strict (f .rules) (w .2 .0) (w .2 .1) in
+    let D = read-declared text f e in
+    let sh = file-shaped f D in
+    let fits = well-formed-fits (table-for f) sh (file-well-formed f D) in
+    rw (reading-file text f e ∙ layered-zero f z) (record {
+      file = f;
+      is-file = w .1;
+      rules-are = same-rules (table-for f) fits sh ∙ file-rules f;
+      counts-are = same-counts (table-for f) fits sh ∙ file-counts f;
+      strata-are = λ n i. stratum-now (table-for f) fits sh n (rw (file-rules f) i) ∙ ap (λ (rs : List model.Rule). strata-of strict rs n) (file-rules f);
+      no-circle = z;
+    })
+
+-- A text is refused with 18 exactly where it is a file whose rules have no strata; the second number is the lowest rule on a circle.
+pub reading-18-iff : (text : List ℕ) (k : ℕ)
+    → (reading text .outcome ≡ Refused 18 k) ↔ ((f : File) × Is-file text f × ((u : ℕ → ℕ) → ¬ Strata strict (f .rules) u) × (k ≡ circle-of strict (f .rules)))
+reading-18-iff text k = (λ o. there o (read text) refl, back)
+  where
+    seconds : (a b : ℕ) → Refused 18 a ≡ Refused 18 b → a ≡ b
+    seconds a b c = let z : a ≡ b = cc in z
+
+    numbers : (a b m : ℕ) → Refused 18 a ≡ Refused b m → b ≡ 18
+    numbers a b m c = let z : b ≡ 18 = cc in z
+
+    there : reading text .outcome ≡ Refused 18 k → (a : Answer) → read text ≡ a → (f : File) × Is-file text f × ((u : ℕ → ℕ) → ¬ Strata strict (f .rules) u) × (k ≡ circle-of strict (f .rules))
+    there o (accepted f) e = by-circle (eqb (circle-of strict (f .rules)) 0) refl
+      where
+        by-circle : (b : Bool) → eqb (circle-of strict (f .rules)) 0 ≡ b → (f : File) × Is-file text f × ((u : ℕ → ℕ) → ¬ Strata strict (f .rules) u) × (k ≡ circle-of strict (f .rules))
+        by-circle true q = absurd (outcomes-differ 18 k (sym (ap (λ (a : FileRead). a .outcome) (reading-file text f e ∙ layered-zero f (eqb-true (circle-of strict (f .rules)) 0 q))) ∙ o))
+        by-circle false q =
+            let n = eqb-false (circle-of strict (f .rules)) 0 q in
+            (f, accepts-iff text f .0 e, no-strata strict (f .rules) n, seconds k _ (sym o ∙ ap (λ (a : FileRead). a .outcome) (reading-file text f e ∙ layered-circle f n)))
+    there o (refused j m) e =
+        let z = numbers k j m (sym o ∙ ap (λ (a : FileRead). a .outcome) (reading-refused text j m e)) in
+        absurd (omega (arith, z, refused-other text j m e))
+
+    back : (f : File) × Is-file text f × ((u : ℕ → ℕ) → ¬ Strata strict (f .rules) u) × (k ≡ circle-of strict (f .rules)) → reading text .outcome ≡ Refused 18 k
+    back w =
+        let f = w .0 in
+        ap (λ (a : FileRead). a .outcome) (reading-file text f (accepts-iff text f .1 (w .1)) ∙ layered-circle f (λ z. w .2 (strata-of strict (f .rules)) (least-strata strict (f .rules) z)))
+        ∙ ap (λ (n : ℕ). Refused 18 n) (sym (w .3))
+
+-- Every table that the reading hands out passes 31.
+pub reading-passes : (text : List ℕ) → T (sound (reading text .table))
+reading-passes text = go (read text) refl
+  where
+    go : (a : Answer) → read text ≡ a → T (sound (reading text .table))
+    go (accepted f) e =
+        let D = read-declared text f e in
+        rw (reading-file text f e ∙ sym (layered-table f)) (layer-passes (table-for f) (file-shaped f D) (file-well-formed f D))
+    go (refused k n) e = rw (reading-refused text k n e) empty-passes

@@ -1,0 +1,224 @@
+-- The table of a file that is read: it has the file's rules, its places are full, and it is well-formed.
+-- Assumes nothing.
+use mathlib.Core.Path.{_≡_, refl, sym, ap, ap₂, _∙_}
+use mathlib.Core.Bool.{Bool, true, false}
+use mathlib.Core.List.{List, [], _∷_, _++_, map}
+use Prim.Native.Nat.{ℕ, zero, suc, _≤_, _<_}
+use native.Mathlib.Omega.{arith}
+use lib.Dec.{T, leb, leb→le, le→leb}
+use lib.ListN.{length, getD, take, length-map, List·getD-map}
+use Rattle.laws.specs.Truth.{_∧ᵇ_}
+use Rattle.laws.specs.Listed.{all-of}
+use Rattle.laws.specs.Filled.{filled}
+use Rattle.laws.proofs.Truth.{and-i, and-l, and-r}
+use Rattle.laws.proofs.Equations.{is-true}
+use Rattle.laws.proofs.Listed.{all-e, all-append}
+use Rattle.laws.proofs.Filled.{filled-length, filled-front, filled-each}
+use Rattle.model.specs.Rules as model
+use Rattle.model.specs.Orders as orders
+use Rattle.table.specs.declared.Literal.{Literal}
+use Rattle.table.specs.declared.Assignment.{Assignment}
+use Rattle.table.specs.declared.Rule.{Rule}
+use Rattle.table.specs.declared.Slot.{Slot}
+use Rattle.table.specs.declared.Table.{Table}
+use Rattle.table.specs.Limits.{slot-limit, value-limit, rule-limit, literal-limit, assignment-limit}
+use Rattle.table.specs.Shape.{no-literal, no-assignment, no-rule, no-slot, no-name, LiteralShaped, AssignmentShaped, RuleShaped, SlotShaped, Shaped}
+use Rattle.table.specs.Empty.{unused-rule, unused-slot}
+use Rattle.table.specs.Link.{literal-of, assignment-of, rule-of, rules-of, used-rules, value-counts, slots-of}
+use Rattle.table.specs.Names.{has-slot, has-value}
+use Rattle.table.proofs.Names.{slot-inside, value-inside}
+use Rattle.table.proofs.Link.{count-is}
+use lib.Seq.{getD-take}
+use Rattle.grammar.specs.Files as files
+use Rattle.grammar.specs.Files.{File}
+use Rattle.strata.specs.Sound.{has-pair, each-once, named, rule-right, well-formed}
+use Rattle.strata.proofs.WellFormed.{WellFormed, well-formed-i}
+use Rattle.strata.proofs.RuleTests.{pair-lacking, pair-there}
+use Rattle.reader.specs.Index.{slot-for, name-for}
+use Rattle.reader.specs.Assignments.{assignment-for}
+use Rattle.reader.specs.Tables.{literal-for, rule-for, table-for}
+use Rattle.rule_file.proofs.Declared.{counts-of, has-some, tested-pairs, RuleDeclared, Declared}
+
+-- What goes into its place and back is what it was.
+literals-kept : (ls : List model.Literal) → map literal-of (map literal-for ls) ≡ ls
+literals-kept [] = refl
+literals-kept (l ∷ ls) = ap (λ (xs : List model.Literal). l ∷ xs) (literals-kept ls)
+
+assignments-kept : (ps : List model.Pair) → map assignment-of (map assignment-for ps) ≡ ps
+assignments-kept [] = refl
+assignments-kept (p ∷ ps) = ap (λ (xs : List model.Pair). p ∷ xs) (assignments-kept ps)
+
+-- The first places of a filled array are the images of the list.
+used-of : {A B : Type 0} (n : ℕ) (unused : B) (f : A → B) (xs : List A) → take (length xs) (filled n unused (map f xs)) ≡ map f xs
+used-of n unused f xs = ap (λ (k : ℕ). take k (filled n unused (map f xs))) (sym (length-map xs f)) ∙ filled-front n unused (map f xs)
+
+literals-back : (r : model.Rule) → rule-of (rule-for r) .literals ≡ r .literals
+literals-back r = ap (map literal-of) (used-of literal-limit no-literal literal-for (r .literals)) ∙ literals-kept (r .literals)
+
+assignments-back : (r : model.Rule) → rule-of (rule-for r) .assignments ≡ r .assignments
+assignments-back r = ap (map assignment-of) (used-of assignment-limit no-assignment assignment-for (r .assignments)) ∙ assignments-kept (r .assignments)
+
+rule-back : (r : model.Rule) → rule-of (rule-for r) ≡ r
+rule-back r = λ i. record { trigger = r .trigger; literals = literals-back r i; assignments = assignments-back r i }
+
+rules-kept : (rs : List model.Rule) → map rule-of (map rule-for rs) ≡ rs
+rules-kept [] = refl
+rules-kept (r ∷ rs) = ap₂ (λ (x : model.Rule) (xs : List model.Rule). x ∷ xs) (rule-back r) (rules-kept rs)
+
+-- The rules of a file's table are the file's rules.
+pub file-rules : (f : File) → rules-of (table-for f) ≡ f .rules
+unfolding rules-of table-for
+file-rules f = ap (map rule-of) (used-of rule-limit unused-rule rule-for (f .rules)) ∙ rules-kept (f .rules)
+
+-- Its slots have the file's values.
+counts-kept : (ss : List files.Slot) → map (λ (s : Slot). s .count) (map slot-for ss) ≡ counts-of ss
+counts-kept [] = refl
+counts-kept (s ∷ ss) = ap (λ (xs : List ℕ). length (s .values) ∷ xs) (counts-kept ss)
+
+pub file-counts : (f : File) → value-counts (table-for f) ≡ counts-of (f .slots)
+unfolding value-counts table-for
+file-counts f = ap (map (λ (s : Slot). s .count)) (used-of slot-limit unused-slot slot-for (f .slots)) ∙ counts-kept (f .slots)
+
+-- A pair that a file has is one of two bytes.
+small : (width : ℕ) (counts : List ℕ) (p : model.Pair) → T (has-pair width counts p) → (p .slot < 256) × (p .value < 256)
+unfolding has-pair
+small width counts p h =
+    let s = slot-inside width (p .slot) (is-true _ (and-l (has-slot width (p .slot)) _ h)) in
+    let v = value-inside (getD counts (p .slot) 0) (p .value) (is-true _ (and-r (has-slot width (p .slot)) _ h)) in
+    (omega (arith, s .0), omega (arith, v .1 .0))
+
+-- Both numbers of a pair are bytes.
+abbrev Small : model.Pair → Type 0
+Small p = (p .slot < 256) × (p .value < 256)
+
+-- What stands at a place past no end does not depend on what stands past the end.
+any-default : {A : Type 0} (xs : List A) (i : ℕ) (d e : A) → i < length xs → getD xs i d ≡ getD xs i e
+any-default [] i d e h = absurd (omega arith)
+any-default (x ∷ xs) zero d e h = refl
+any-default (x ∷ xs) (suc i) d e h = any-default xs i d e (omega arith)
+
+-- What reading past the end of a condition or of assignments gives.
+abbrev no-test : model.Literal
+no-test = record { becomes = false; negated = false; pair = record { slot = 0; value = 0 } }
+
+abbrev no-pair : model.Pair
+no-pair = record { slot = 0; value = 0 }
+
+-- Each pair of a list that a file has is small.
+each-small : (slots : List files.Slot) (ps : List model.Pair) → T (all-of (has-pair (length slots) (counts-of slots)) ps) → (i : ℕ) → i < length ps → Small (getD ps i no-pair)
+each-small slots ps h i l = small (length slots) (counts-of slots) (getD ps i no-pair) (all-e _ ps no-pair h i l)
+
+-- A rule in its places has their shape.
+rule-for-shaped : (r : model.Rule) → length (r .literals) ≤ literal-limit → length (r .assignments) ≤ assignment-limit → Small (r .trigger)
+    → ((i : ℕ) → i < length (tested-pairs (r .literals)) → Small (getD (tested-pairs (r .literals)) i no-pair)) → ((i : ℕ) → i < length (r .assignments) → Small (getD (r .assignments) i no-pair))
+    → RuleShaped (rule-for r)
+rule-for-shaped r few-l few-a t ls ps =
+    record {
+      slot-byte = t .0;
+      value-byte = t .1;
+      literal-places = filled-length literal-limit no-literal (map literal-for (r .literals)) (omega (arith, few-l, sized));
+      each-literal = filled-each LiteralShaped literal-limit no-literal (map literal-for (r .literals)) no-literal (omega (arith, few-l, sized)) (record { slot-byte = omega arith; value-byte = omega arith }) literal;
+      assignment-places = filled-length assignment-limit no-assignment (map assignment-for (r .assignments)) (omega (arith, few-a, counted));
+      each-assignment = filled-each AssignmentShaped assignment-limit no-assignment (map assignment-for (r .assignments)) no-assignment (omega (arith, few-a, counted)) (record { slot-byte = omega arith; value-byte = omega arith }) assignment;
+      stratum-byte = omega arith;
+    }
+  where
+    sized : length (map literal-for (r .literals)) ≡ length (r .literals)
+    sized = length-map (r .literals) literal-for
+
+    counted : length (map assignment-for (r .assignments)) ≡ length (r .assignments)
+    counted = length-map (r .assignments) assignment-for
+
+    literal : (i : ℕ) → i < length (map literal-for (r .literals)) → LiteralShaped (getD (map literal-for (r .literals)) i no-literal)
+    literal i h =
+        let s = rw (List·getD-map (λ (l : model.Literal). l .pair) (r .literals) i no-test) at (ls i (omega (arith, h, sized, length-map (r .literals) (λ (l : model.Literal). l .pair)))) in
+        rw (List·getD-map literal-for (r .literals) i no-test) (record { slot-byte = s .0; value-byte = s .1 })
+
+    assignment : (i : ℕ) → i < length (map assignment-for (r .assignments)) → AssignmentShaped (getD (map assignment-for (r .assignments)) i no-assignment)
+    assignment i h =
+        let s = ps i (omega (arith, h, counted)) in
+        rw (List·getD-map assignment-for (r .assignments) i no-pair) (record { slot-byte = s .0; value-byte = s .1 })
+
+-- So has the place of a rule that is not used.
+unused-shaped : RuleShaped unused-rule
+unfolding filled orders.no-rule
+unused-shaped = rule-for-shaped orders.no-rule (omega arith) (omega arith) (omega arith, omega arith) (λ i h. absurd (omega arith)) (λ i h. absurd (omega arith))
+
+module _ (f : File) (D : Declared f) where
+  declared-shaped : (i : ℕ) → i < length (map rule-for (f .rules)) → RuleShaped (getD (map rule-for (f .rules)) i no-rule)
+  declared-shaped i h =
+      let k : i < length (f .rules) = omega (arith, h, length-map (f .rules) rule-for) in
+      let d = D .each-rule i k in
+      let r : model.Rule = getD (f .rules) i orders.no-rule in
+      rw (any-default (map rule-for (f .rules)) i no-rule (rule-for orders.no-rule) h, List·getD-map rule-for (f .rules) i orders.no-rule)
+      (rule-for-shaped (getD (f .rules) i orders.no-rule) (d .few-literals) (d .few-assignments) (small _ _ _ (d .trigger-there)) (each-small (f .slots) _ (d .literals-there)) (each-small (f .slots) _ (d .assignments-there)))
+
+  slot-some : (i : ℕ) → i < length (f .slots) → (1 ≤ length (getD (f .slots) i files.no-slot .values)) × (length (getD (f .slots) i files.no-slot .values) ≤ value-limit)
+  slot-some i h =
+      let s = all-e has-some (f .slots) files.no-slot (D .slots-some) i h in
+      (leb→le 1 _ (and-l (leb 1 (length (getD (f .slots) i files.no-slot .values))) _ s), leb→le _ value-limit (and-r (leb 1 (length (getD (f .slots) i files.no-slot .values))) _ s))
+
+  slot-shaped : (i : ℕ) → i < length (map slot-for (f .slots)) → SlotShaped (getD (map slot-for (f .slots)) i no-slot)
+  slot-shaped i h =
+      let k : i < length (f .slots) = omega (arith, h, length-map (f .slots) slot-for) in
+      rw (any-default (map slot-for (f .slots)) i no-slot (slot-for files.no-slot) h, List·getD-map slot-for (f .slots) i files.no-slot)
+      (record { value-places = filled-length value-limit no-name (map name-for (getD (f .slots) i files.no-slot .values)) (omega (arith, slot-some i k .1, length-map (getD (f .slots) i files.no-slot .values) name-for)) })
+
+  -- The table's places are full.
+  pub file-shaped : Shaped (table-for f)
+  unfolding table-for
+  file-shaped =
+      let s = length-map (f .slots) slot-for in
+      let r = length-map (f .rules) rule-for in
+      record {
+        slot-places = filled-length slot-limit unused-slot (map slot-for (f .slots)) (omega (arith, s, D .few-slots));
+        each-slot = filled-each SlotShaped slot-limit unused-slot (map slot-for (f .slots)) no-slot (omega (arith, s, D .few-slots)) (record { value-places = refl }) slot-shaped;
+        rule-places = filled-length rule-limit unused-rule (map rule-for (f .rules)) (omega (arith, r, D .few-rules));
+        each-rule = filled-each RuleShaped rule-limit unused-rule (map rule-for (f .rules)) no-rule (omega (arith, r, D .few-rules)) unused-shaped declared-shaped;
+      }
+
+  -- The rule at a place used, and the number of values of a slot.
+  rule-here : (i : ℕ) → i < length (f .rules) → getD (table-for f .rules) i no-rule ≡ rule-for (getD (f .rules) i orders.no-rule)
+  unfolding table-for
+  rule-here i h =
+      sym (getD-take (length (f .rules)) (filled rule-limit unused-rule (map rule-for (f .rules))) i no-rule h)
+      ∙ ap (λ (rs : List Rule). getD rs i no-rule) (used-of rule-limit unused-rule rule-for (f .rules))
+      ∙ any-default (map rule-for (f .rules)) i no-rule (rule-for orders.no-rule) (omega (arith, h, length-map (f .rules) rule-for))
+      ∙ List·getD-map rule-for (f .rules) i orders.no-rule
+
+  same-width : table-for f .width ≡ length (f .slots)
+  unfolding table-for
+  same-width = refl
+
+  same-count : table-for f .count ≡ length (f .rules)
+  unfolding table-for
+  same-count = refl
+
+  values-here : (i : ℕ) → i < length (f .slots) → getD (table-for f .slots) i no-slot .count ≡ length (getD (f .slots) i files.no-slot .values)
+  values-here i h =
+      sym (count-is (table-for f) i (omega (arith, h, same-width))) ∙ ap (λ (ns : List ℕ). getD ns i 0) (file-counts f)
+      ∙ List·getD-map (λ (s : files.Slot). length (s .values)) (f .slots) i files.no-slot
+
+  -- A rule that keeps to what is declared is right in its places.
+  right-here : (r : model.Rule) → RuleDeclared (f .slots) r → T (rule-right (length (f .slots)) (counts-of (f .slots)) (rule-for r))
+  unfolding rule-right named all-of
+  right-here r d =
+      and-i (leb (length (r .literals)) literal-limit ∧ᵇ leb (length (r .assignments)) assignment-limit ∧ᵇ all-of own (named (rule-for r))) _
+      (and-i (leb (length (r .literals)) literal-limit ∧ᵇ leb (length (r .assignments)) assignment-limit) _
+      (and-i (leb (length (r .literals)) literal-limit) _ (le→leb (length (r .literals)) literal-limit (d .few-literals)) (le→leb (length (r .assignments)) assignment-limit (d .few-assignments)))
+      (and-i (own (r .trigger)) _ (d .trigger-there)
+      (rw (all-append own (tested-pairs (rule-of (rule-for r) .literals)) (rule-of (rule-for r) .assignments), literals-back r, assignments-back r) (and-i _ _ (d .literals-there) (d .assignments-there)))))
+      (rw (assignments-back r) (d .once))
+    where
+      own : model.Pair → Bool
+      own p = has-pair (length (f .slots)) (counts-of (f .slots)) p
+
+  -- The table is well-formed.
+  pub file-well-formed : T (well-formed (table-for f))
+  file-well-formed = well-formed-i (table-for f) (record {
+    few-slots = omega (arith, D .few-slots, same-width);
+    some-value = λ i h. let k : i < length (f .slots) = omega (arith, h, same-width) in rw (values-here i k) (slot-some i k .0);
+    few-values = λ i h. let k : i < length (f .slots) = omega (arith, h, same-width) in rw (values-here i k) (slot-some i k .1);
+    few-rules = omega (arith, D .few-rules, same-count);
+    each-right = λ i h. let k : i < length (f .rules) = omega (arith, h, same-count) in rw (file-counts f, same-width, rule-here i k) (right-here (getD (f .rules) i orders.no-rule) (D .each-rule i k));
+  })

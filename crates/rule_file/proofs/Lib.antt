@@ -1,0 +1,4 @@
+pub mod Declared
+pub mod FileTable
+pub mod Answers
+pub mod Cases
