@@ -1,0 +1,166 @@
+//! The comparison: `compare [--rounds N] [--seed S] [--out FOLDER]` compares each engine that must agree and tries every broken one; with `--program PATH` it compares that program's output instead, with `--reader PATH` the readings of the program `read_cases`, with `--tables PATH` the lines of the program `strata_cases`.
+
+use std::path::{Path, PathBuf};
+use std::process::{exit, Command};
+
+use second::broken::Broken;
+use second::compare::{compare_seeds, refusals_met, shrunk, store};
+use second::engine::engines;
+use second::fault::FAULTS;
+use second::gen::{any_file, card, slip, Rng};
+use second::listing::listing;
+use second::{read_lines, table_lines};
+
+/// What the command line asks for.
+struct Asked {
+    rounds: u64,
+    seed: u64,
+    out: Option<PathBuf>,
+    program: Option<PathBuf>,
+    reader: Option<PathBuf>,
+    tables: Option<PathBuf>,
+}
+
+/// Reads the command line.
+fn asked() -> Asked {
+    let mut asked = Asked { rounds: 8_000, seed: 1, out: None, program: None, reader: None, tables: None };
+    let mut words = std::env::args().skip(1);
+    while let Some(word) = words.next() {
+        let value = words.next().unwrap_or_default();
+        match word.as_str() {
+            "--rounds" => asked.rounds = value.parse().expect("--rounds takes a number"),
+            "--seed" => asked.seed = value.parse().expect("--seed takes a number"),
+            "--out" => asked.out = Some(value.into()),
+            "--program" => asked.program = Some(value.into()),
+            "--reader" => asked.reader = Some(value.into()),
+            "--tables" => asked.tables = Some(value.into()),
+            _ => panic!("not known: {word}"),
+        }
+    }
+    asked
+}
+
+/// Tries every broken engine; says after how many seeds its fault was found.
+fn try_faults(asked: &Asked) -> bool {
+    let mut all = true;
+    for fault in FAULTS {
+        let (failing, tried) = compare_seeds(&mut Broken::new(*fault), asked.seed, asked.rounds);
+        match failing {
+            None => {
+                println!("{fault:?}: NOT found in {tried}");
+                all = false;
+            }
+            Some(failing) => {
+                println!("{fault:?}: found after {tried}, {}", failing.difference.place);
+                if let Some(out) = &asked.out {
+                    let smaller = shrunk(&mut Broken::new(*fault), &failing);
+                    store(&out.join(format!("{fault:?}")), &smaller).expect("the folder can be written");
+                }
+            }
+        }
+    }
+    all
+}
+
+/// Runs a program in a folder that holds its three files.
+fn run(program: &Path, folder: &Path, files: [&[u8]; 3]) -> Vec<u8> {
+    for (name, bytes) in ["rules.txt", "card.bin", "slip.bin"].iter().zip(files) {
+        std::fs::write(folder.join(name), bytes).expect("the folder can be written");
+    }
+    Command::new(program).current_dir(folder).output().expect("the program can be run").stdout
+}
+
+/// Compares a program's output with the second engine's; leaves the files of the first difference.
+fn try_program(asked: &Asked, program: &Path) -> bool {
+    let program = program.canonicalize().expect("the program is there");
+    let folder =
+        asked.out.clone().unwrap_or_else(|| std::env::temp_dir().join(format!("second-{}", std::process::id())));
+    std::fs::create_dir_all(&folder).expect("the folder can be made");
+    for seed in asked.seed..asked.seed + asked.rounds {
+        let mut rng = Rng::new(seed);
+        let file = any_file(&mut rng);
+        let (card, slip) = (card(&mut rng, &file.sketch), slip(&mut rng, &file.sketch));
+        let wanted = listing(&file.text, &card, &slip);
+        let printed = run(&program, &folder, [&file.text, &card, &slip]);
+        if printed != wanted.as_bytes() {
+            println!(
+                "seed {seed} in {}: printed\n{}wanted\n{wanted}",
+                folder.display(),
+                String::from_utf8_lossy(&printed)
+            );
+            return false;
+        }
+    }
+    println!("{} runs of {} agree", asked.rounds, program.display());
+    true
+}
+
+/// Runs a program on an input.
+fn run_on(program: &Path, input: &[u8]) -> Vec<u8> {
+    let path = std::env::temp_dir().join(format!("second-input-{}", std::process::id()));
+    std::fs::write(&path, input).expect("the folder can be written");
+    let stdin = std::fs::File::open(&path).expect("the input was written");
+    let printed = Command::new(program).stdin(stdin).output().expect("the program can be run").stdout;
+    let _ = std::fs::remove_file(&path);
+    printed
+}
+
+/// The inputs of a program by seed, and what it should write for one.
+type Form = (fn(u64) -> Vec<u8>, fn(&[u8]) -> Vec<u8>);
+
+/// Compares the lines that a program writes for generated inputs; leaves the input of the first difference.
+fn try_lines(asked: &Asked, program: &Path, (generated, output): Form) -> bool {
+    for seed in asked.seed..asked.seed + asked.rounds {
+        let input = generated(seed);
+        let (printed, wanted) = (run_on(program, &input), output(&input));
+        if printed == wanted {
+            continue;
+        }
+        let (printed, wanted) = (String::from_utf8_lossy(&printed), String::from_utf8_lossy(&wanted));
+        let differing =
+            printed.lines().zip(wanted.lines()).enumerate().find(|(_, (printed, wanted))| printed != wanted);
+        println!("seed {seed}: line from 0, printed, wanted: {differing:?}");
+        if let Some(out) = &asked.out {
+            std::fs::create_dir_all(out).expect("the folder can be made");
+            std::fs::write(out.join("stdin"), input).expect("the folder can be written");
+        }
+        return false;
+    }
+    println!("{} inputs of {} agree", asked.rounds, program.display());
+    true
+}
+
+/// Compares each engine that must agree; a failing input is kept.
+fn try_engines(asked: &Asked) -> bool {
+    let mut all = true;
+    for (name, mut engine) in engines() {
+        let (failing, tried) = compare_seeds(engine.as_mut(), asked.seed, asked.rounds);
+        let Some(failing) = failing else {
+            println!("{name}: no difference in {tried} seeds");
+            continue;
+        };
+        println!("{name}: DIFFERS at seed {}, {}", failing.seed, failing.difference.place);
+        all = false;
+        if let Some(out) = &asked.out {
+            let smaller = shrunk(engine.as_mut(), &failing);
+            store(&out.join(name), &smaller).expect("the folder can be written");
+        }
+    }
+    all
+}
+
+/// Compares what the command line asks for; the exit status is 1 where something differs that should not.
+fn main() {
+    let asked = asked();
+    let good = match (&asked.program, &asked.reader, &asked.tables) {
+        (Some(program), _, _) => try_program(&asked, program),
+        (_, Some(program), _) => try_lines(&asked, program, (read_lines::generated, read_lines::output)),
+        (_, _, Some(program)) => try_lines(&asked, program, (table_lines::generated, table_lines::output)),
+        (None, None, None) => {
+            println!("refusals met, 0 for none: {:?}", refusals_met(asked.seed, 2_000));
+            let agree = try_engines(&asked);
+            try_faults(&asked) && agree
+        }
+    };
+    exit(i32::from(!good));
+}

@@ -1,0 +1,35 @@
+//! The program by the second engine: `second RULES CARD SLIP` prints what the program prints for these files.
+
+use std::fs::File;
+use std::io::{Read, Write};
+
+/// The bytes of an open file, as far as they can be read.
+fn contents(mut file: File) -> Vec<u8> {
+    let mut bytes = Vec::new();
+    let _ = file.read_to_end(&mut bytes);
+    bytes
+}
+
+/// What is printed for three file names: all are opened before any is read.
+fn printed(names: &[String]) -> String {
+    let mut files = Vec::new();
+    for name in names {
+        match File::open(name) {
+            Ok(file) => files.push(file),
+            Err(_) => return format!("unread {name}\n"),
+        }
+    }
+    let read: Vec<Vec<u8>> = files.into_iter().map(contents).collect();
+    second::listing::listing(&read[0], &read[1], &read[2])
+}
+
+/// Takes the names from the command line, or the program's own names.
+fn main() {
+    let given: Vec<String> = std::env::args().skip(1).collect();
+    let names = if given.is_empty() { ["rules.txt", "card.bin", "slip.bin"].map(String::from).to_vec() } else { given };
+    if names.len() != 3 {
+        eprintln!("second RULES CARD SLIP");
+        std::process::exit(2);
+    }
+    let _ = std::io::stdout().write_all(printed(&names).as_bytes());
+}

@@ -1,0 +1,319 @@
+//! An engine with one fault, for the comparison to find.
+
+use crate::cards::{
+    card_fields, card_length, faulty_changes, pack_card, pack_slip, put, slip_bytes, slip_fields, unpack_card,
+    unpack_slip,
+};
+use crate::engine::{Engine, Second};
+use crate::fault::Fault;
+use crate::response::{conflict, fire, fired_count, needed, outcome, record, short_output};
+use crate::response::{Answer, Changes, Firing, Outputs, Tally, FULL};
+use crate::table::{Literal, Name, Pair, Program, Rule, Table};
+use crate::table31::tested;
+use crate::{broken_reading, refusal, Refusal};
+
+/// The second engine with one fault, and the responses it has given.
+pub struct Broken {
+    pub fault: Fault,
+    responses: usize,
+}
+
+/// The bits of each byte in the other order.
+fn bits_reversed(bytes: &[u8]) -> Vec<u8> {
+    bytes.iter().map(|byte| byte.reverse_bits()).collect()
+}
+
+/// Takes a result in place of a refusal of one number.
+fn instead_of<T>(
+    result: Result<T, Refusal>,
+    number: u8,
+    other: impl FnOnce() -> Result<T, Refusal>,
+) -> Result<T, Refusal> {
+    match result {
+        Err(why) if why.number == number => other(),
+        result => result,
+    }
+}
+
+impl Broken {
+    /// The engine with a fault.
+    pub fn new(fault: Fault) -> Broken {
+        Broken { fault, responses: 0 }
+    }
+
+    /// The values of a card.
+    fn card(&self, program: &Program, card: &[u8]) -> Result<Vec<u8>, Refusal> {
+        let sound = unpack_card(program, card);
+        match self.fault {
+            Fault::LeastBitFirst => unpack_card(program, &bits_reversed(card)),
+            Fault::CardPadding => instead_of(sound, 23, || Ok(card_fields(card)?.0)),
+            Fault::LengthByTable if card.len() != card_length(program.lasts.len()) => Err(refusal(20, 0)),
+            Fault::LastFaultyValue => instead_of(sound, 22, || {
+                let values = card_fields(card)?.0;
+                let slot = values.iter().zip(&program.lasts).rposition(|(value, last)| value > last);
+                Err(refusal(22, slot.unwrap_or(0)))
+            }),
+            Fault::PaddingBeforeValue => instead_of(sound, 22, || {
+                if card_fields(card)?.1 {
+                    unpack_card(program, card)
+                } else {
+                    Err(refusal(23, 0))
+                }
+            }),
+            Fault::EmptyAsFirst => sound.map(|values| values.into_iter().map(|value| value.max(1)).collect()),
+            _ => sound,
+        }
+    }
+
+    /// The changes of a slip.
+    fn slip(&self, program: &Program, slip: &[u8]) -> Result<Vec<Pair>, Refusal> {
+        if self.fault == Fault::LeastBitFirst {
+            return unpack_slip(program, &bits_reversed(slip));
+        }
+        let (changes, padded) = slip_fields(slip)?;
+        self.changes(program, &changes)?;
+        if padded || self.fault == Fault::SlipPadding {
+            Ok(changes)
+        } else {
+            Err(refusal(28, 0))
+        }
+    }
+
+    /// Refuses faulty changes by 25, 26 and 27.
+    fn changes(&self, program: &Program, changes: &[Pair]) -> Result<(), Refusal> {
+        let level = |at: usize| at > 0 && changes[at].0 == changes[at - 1].0;
+        let mut faulty = faulty_changes(program, changes);
+        match self.fault {
+            Fault::SlotNotBelow => faulty.retain(|(at, number)| *number != 26 || !level(*at)),
+            Fault::ZeroChange => faulty.retain(|(at, number)| *number != 27 || changes[*at].1 > 0),
+            Fault::NumberBeforePosition => faulty.sort_by_key(|(at, number)| (*number, *at)),
+            _ => {}
+        }
+        match faulty.first() {
+            Some((at, number)) => Err(refusal(*number, *at)),
+            None => Ok(()),
+        }
+    }
+
+    /// Whether a rule is enabled.
+    fn enabled(&self, card: &[u8], changes: &Changes, rule: &Rule) -> bool {
+        let had = |pair: &Pair| card[pair.0 as usize] == pair.1;
+        let empty = |pair: &Pair| card[pair.0 as usize] == 0;
+        let trigger = Literal { becomes: true, negated: false, pair: rule.trigger };
+        let holds = |literal: &Literal| match self.fault {
+            Fault::HadBecomes if literal.becomes && had(&literal.pair) => {
+                changes.contains(&literal.pair) != literal.negated
+            }
+            Fault::EmptyNeverBecomes if literal.becomes && empty(&literal.pair) => literal.negated,
+            Fault::EmptyNeverNegated if !literal.becomes && empty(&literal.pair) => false,
+            _ => crate::response::holds(card, changes, literal),
+        };
+        match self.fault {
+            Fault::NothingFires => false,
+            Fault::NothingNew if rule.assignments.iter().all(|pair| changes.contains(pair)) => false,
+            Fault::FirstFalseIgnored => {
+                holds(&trigger) && rule.literals.iter().filter(|literal| !holds(literal)).count() <= 1
+            }
+            Fault::StopsAtConflict if conflict(changes).is_some() => false,
+            _ => holds(&trigger) && rule.literals.iter().all(holds),
+        }
+    }
+
+    /// Fires the rules of a program.
+    fn fire(&self, program: &Program, card: &[u8], slip: &[Pair]) -> Firing {
+        let mut program = program.clone();
+        if self.fault == Fault::NumberOrder {
+            program.strata.fill(1);
+        }
+        fire(&program, slip, |changes, rule| self.enabled(card, changes, rule))
+    }
+
+    /// The slot that came into conflict first.
+    fn first_conflict(program: &Program, slip: &[Pair], fired: &[usize]) -> Option<u8> {
+        let mut changes: Changes = slip.iter().copied().collect();
+        for pair in fired.iter().flat_map(|at| &program.rules[*at].assignments) {
+            changes.insert(*pair);
+            if let Some(slot) = conflict(&changes) {
+                return Some(slot);
+            }
+        }
+        None
+    }
+
+    /// The answer that firing comes to, or 40.
+    fn outcome(&self, program: &Program, card: &[u8], slip: &[Pair]) -> Result<Answer, Refusal> {
+        let mut firing = self.fire(program, card, slip);
+        match self.fault {
+            Fault::RecordReversed => firing.fired.iter_mut().for_each(|at| *at = program.rules.len() - 1 - *at),
+            Fault::NoConflict => {
+                let later = firing.changes.clone();
+                firing.changes.retain(|pair| later.range((pair.0, pair.1 + 1)..(pair.0 + 1, 0)).next().is_none());
+            }
+            Fault::ConflictByOrder => {
+                if let Some(slot) = Broken::first_conflict(program, slip, &firing.fired) {
+                    return Err(refusal(40, slot as usize));
+                }
+            }
+            _ => {}
+        }
+        let mut answer = outcome(program, card, &firing)?;
+        match self.fault {
+            Fault::RecordPadding => {
+                let padded = program.rules.len().next_multiple_of(8);
+                firing.fired.extend(program.rules.len()..padded);
+                answer.fired = record(padded, &firing.fired);
+            }
+            Fault::CardReturned => answer.card = crate::cards::card_bytes(card),
+            Fault::RepeatsLeftOut => {
+                let new = firing.changes.iter().copied().filter(|pair| card[pair.0 as usize] != pair.1);
+                answer.changes = slip_bytes(&new.collect::<Vec<Pair>>());
+            }
+            Fault::LeastBitFirst => {
+                answer.card = bits_reversed(&answer.card);
+                answer.changes = bits_reversed(&answer.changes);
+            }
+            _ => {}
+        }
+        Ok(answer)
+    }
+
+    /// The first output that is too short.
+    fn short(&self, program: &Program, rooms: [usize; 3], changes: usize) -> Option<usize> {
+        let mut needed = needed(program);
+        if self.fault == Fault::RoomByChanges {
+            needed[1] = changes;
+        }
+        if self.fault == Fault::LastShortOutput {
+            return (0..3).rev().find(|at| rooms[*at] < needed[*at]).map(|at| at + 1);
+        }
+        short_output(needed, rooms)
+    }
+
+    /// The answer to a card and a slip, or the refusal.
+    fn answer(&mut self, table: &Table, card: &[u8], slip: &[u8], rooms: [usize; 3]) -> Result<Answer, Refusal> {
+        let program = broken_reading::program(self.fault, table)?;
+        if self.fault == Fault::SlipFirst {
+            self.slip(&program, slip)?;
+        }
+        let values = self.card(&program, card)?;
+        let changes = instead_of(self.slip(&program, slip), 28, || match short_output(needed(&program), rooms) {
+            Some(which) if self.fault == Fault::RoomBeforePadding => Err(refusal(30, which)),
+            _ => Err(refusal(28, 0)),
+        })?;
+        let outcome = self.outcome(&program, &values, &changes);
+        let length = outcome.as_ref().map_or(37, |answer| answer.changes.len());
+        let conflict_first = self.fault == Fault::ConflictBeforeRoom && outcome.is_err();
+        if let (Some(which), false) = (self.short(&program, rooms, length), conflict_first) {
+            return Err(refusal(30, which));
+        }
+        self.responses += 1;
+        if self.fault == Fault::FirstOfDay && self.responses > 1 {
+            let fired = vec![0; program.rules.len().div_ceil(8)];
+            return Ok(Answer { card: card.to_vec(), changes: slip.to_vec(), fired });
+        }
+        outcome
+    }
+
+    /// Whether a tally is full.
+    fn full(&self, tally: Tally) -> bool {
+        let full = |count: u32| match self.fault {
+            Fault::FullEarly => count >= FULL - 1,
+            Fault::FullExactly => count == FULL,
+            _ => count >= FULL,
+        };
+        full(tally.answered) || full(tally.refused) && self.fault != Fault::RefusedNeverFull
+    }
+
+    /// Clears an output beyond what was written.
+    fn clear_tails(&self, outputs: &mut Outputs, answer: &Answer) {
+        if self.fault == Fault::TailCleared {
+            outputs.card[answer.card.len()..].fill(0);
+            outputs.changes[answer.changes.len()..].fill(0);
+            outputs.fired[answer.fired.len()..].fill(0);
+        }
+    }
+}
+
+impl Engine for Broken {
+    fn read(&mut self, text: &[u8]) -> (Option<Refusal>, Box<Table>) {
+        broken_reading::read(self.fault, text)
+    }
+
+    fn strata(&mut self, table: &Table) -> Result<Vec<u8>, Refusal> {
+        let program = crate::table31::unlayered(table)?;
+        broken_reading::strata(self.fault, &program.rules).map_err(|rule| refusal(18, rule))
+    }
+
+    fn slot_name(&mut self, text: &[u8], table: &Table, slot: u8) -> Result<Name, Refusal> {
+        let name = Second.slot_name(text, table, slot)?;
+        match self.fault {
+            Fault::NameAtEnd if name.start + name.size == text.len() => Err(refusal(31, 0)),
+            Fault::NameTested => tested(table).map(|_| name),
+            _ => Ok(name),
+        }
+    }
+
+    fn value_name(&mut self, text: &[u8], table: &Table, slot: u8, value: u8) -> Result<Name, Refusal> {
+        Second.value_name(text, table, slot, value)
+    }
+
+    fn unpack_card(&mut self, table: &Table, card: &[u8]) -> Result<Vec<u8>, Refusal> {
+        self.card(&broken_reading::program(self.fault, table)?, card)
+    }
+
+    fn unpack_slip(&mut self, table: &Table, slip: &[u8]) -> Result<Vec<Pair>, Refusal> {
+        self.slip(&broken_reading::program(self.fault, table)?, slip)
+    }
+
+    fn pack_card(&mut self, table: &Table, values: &[u8], output: &mut [u8]) -> Result<usize, Refusal> {
+        put(&pack_card(&broken_reading::program(self.fault, table)?, values)?, output, 1)
+    }
+
+    fn pack_slip(&mut self, table: &Table, changes: &[Pair], output: &mut [u8]) -> Result<usize, Refusal> {
+        let program = broken_reading::program(self.fault, table)?;
+        let packed = instead_of(pack_slip(&program, changes), 24, || match self.fault {
+            Fault::ManyChanges => self.changes(&program, changes).map(|_| Vec::new()),
+            _ => Err(refusal(24, 0)),
+        })?;
+        if self.fault == Fault::PackingRoom && output.len() < 37 {
+            return Err(refusal(30, 2));
+        }
+        put(&packed, output, 2)
+    }
+
+    fn respond(
+        &mut self,
+        table: &Table,
+        tally: Tally,
+        card: &[u8],
+        slip: &[u8],
+        mut outputs: Outputs,
+    ) -> (Tally, Result<usize, Refusal>) {
+        let refused = Tally { refused: tally.refused + 1, ..tally };
+        if self.fault == Fault::TableBeforeTally && tested(table).is_err() {
+            return (refused, Err(refusal(31, 0)));
+        }
+        if self.full(tally) {
+            return (if self.fault == Fault::CountedOnFull { refused } else { tally }, Err(refusal(32, 0)));
+        }
+        match self.answer(table, card, slip, outputs.rooms()) {
+            Ok(answer) => {
+                outputs.write(&answer);
+                self.clear_tails(&mut outputs, &answer);
+                (Tally { answered: tally.answered + 1, ..tally }, Ok(answer.changes.len()))
+            }
+            Err(why) if why.number == 40 && self.fault == Fault::ConflictUncounted => (tally, Err(why)),
+            Err(why) => {
+                if why.number == 40 && self.fault == Fault::WrittenOnConflict {
+                    outputs.card[..card.len()].copy_from_slice(card);
+                }
+                (refused, Err(why))
+            }
+        }
+    }
+
+    fn fired_count(&mut self, record: &[u8]) -> usize {
+        let counted = if self.fault == Fault::LastByteUncounted { record.len().min(31) } else { record.len() };
+        fired_count(&record[..counted])
+    }
+}

@@ -1,0 +1,185 @@
+//! Reading, strata and the test 31 with one fault.
+
+use crate::fault::Fault;
+use crate::read::{completed, meaning, refusals, walk, AtToken, Production, Walk, Want, GRAMMAR, TEXT};
+use crate::rule_set::RuleSet;
+use crate::strata::{dependences, layers, on_circle};
+use crate::table::{table_of, LiteralPlace, Program, Rule, SlotLine, Table, LITERALS};
+use crate::table31::{tested, unlayered};
+use crate::text::Kind;
+use crate::{refusal, Refusal};
+
+/// The grammar that the fault has.
+fn grammar(fault: Fault) -> Vec<Production> {
+    let mut grammar = GRAMMAR.to_vec();
+    if fault == Fault::TrueAfterAnd {
+        grammar.push((Want::Literal, Kind::True, Want::TrueOver));
+    }
+    grammar
+}
+
+/// The refusals at tokens that the fault leaves or moves.
+fn bent_refusals(fault: Fault, text: &[u8], walk: &Walk) -> Vec<AtToken> {
+    let token = |at: &AtToken| walk.tokens[at.position];
+    let mut found = refusals(text, walk);
+    match fault {
+        Fault::LongNameAccepted => found.retain(|at| at.number != 13 || token(at).size > 25),
+        Fault::AssignedTwice => found.retain(|at| at.number != 17),
+        Fault::DeclaredTwice => found.retain(|at| at.number != 14 || is_slot_name(walk, at.position)),
+        Fault::UndeclaredValue => found.retain(|at| at.number != 16 || !is_value(walk, at.position)),
+        Fault::NinthLiteralLate => {
+            for at in found.iter_mut().filter(|at| at.number == 15 && token(at).kind == Kind::Not) {
+                let rest = walk.tokens[at.position..].iter();
+                at.position += rest.take_while(|token| token.kind == Kind::Not).count();
+            }
+        }
+        _ => {}
+    }
+    found
+}
+
+/// Whether the token at a position is the name of a slot that is declared.
+fn is_slot_name(walk: &Walk, position: usize) -> bool {
+    walk.placed.iter().any(|at| at.position == position && at.want == Want::SlotName)
+}
+
+/// Whether the token at a position is a value's name in a rule.
+fn is_value(walk: &Walk, position: usize) -> bool {
+    let wants = [Want::TriggerValue, Want::LiteralValue, Want::OnlyValue, Want::ListedValue];
+    walk.placed.iter().any(|at| at.position == position && wants.contains(&at.want))
+}
+
+/// The refusal that counts for the fault.
+fn counting(fault: Fault, found: &[AtToken]) -> Option<AtToken> {
+    match fault {
+        Fault::LargerNumber => found.iter().copied().min_by_key(|at| (at.position, u8::MAX - at.number)),
+        Fault::NumberBeforeToken => found.iter().copied().min_by_key(|at| (at.number, at.position)),
+        _ => found.iter().copied().min(),
+    }
+}
+
+/// The second number of a refusal at a token.
+fn second_number(fault: Fault, walk: &Walk, position: usize) -> usize {
+    let begun = walk.placed.iter().filter(|at| at.token.kind == Kind::When && at.position < position);
+    if fault == Fault::RulesBegun {
+        begun.count()
+    } else {
+        completed(walk, position)
+    }
+}
+
+/// The slot lines and rules of a text, or its refusal 10 to 17.
+fn read_rules(fault: Fault, text: &[u8]) -> Result<(Vec<SlotLine>, Vec<Rule>), Refusal> {
+    if text.len() > TEXT - usize::from(fault == Fault::LongestTextRefused) {
+        return Err(refusal(10, 0));
+    }
+    let mut walk = walk(text, &grammar(fault));
+    let found = bent_refusals(fault, text, &walk);
+    if let Some(at) = counting(fault, &found) {
+        return Err(refusal(at.number, second_number(fault, &walk, at.position)));
+    }
+    match fault {
+        Fault::NotsStay => {
+            walk.placed.dedup_by(|next, before| next.token.kind == Kind::Not && before.token.kind == Kind::Not)
+        }
+        Fault::UndeclaredValue if refusals(text, &walk).iter().any(|at| at.number == 16) => {
+            return Ok(Default::default())
+        }
+        _ => {}
+    }
+    Ok(meaning(text, &walk))
+}
+
+/// The rules as the fault's dependences see them.
+fn bent_rules(fault: Fault, rules: &[Rule]) -> Vec<Rule> {
+    let mut bent = rules.to_vec();
+    for literal in bent.iter_mut().flat_map(|rule| rule.literals.iter_mut()) {
+        match fault {
+            Fault::WasBinds => literal.becomes = true,
+            Fault::NegatedFree => literal.becomes &= !literal.negated,
+            _ => {}
+        }
+    }
+    for rule in &mut bent {
+        if fault == Fault::TriggerFree {
+            rule.trigger = (u8::MAX, 0);
+        }
+        if fault == Fault::SlotsBind {
+            rule.trigger.1 = 1;
+            rule.literals.iter_mut().for_each(|literal| literal.pair.1 = 1);
+            rule.assignments.iter_mut().for_each(|pair| pair.1 = 1);
+        }
+    }
+    bent
+}
+
+/// The rule that 18 names, from 1.
+fn circle_rule(fault: Fault, dependences: &[RuleSet]) -> usize {
+    let circle = on_circle(dependences);
+    let reaches_circle = |at: &usize| {
+        let mut with = dependences.to_vec();
+        circle.iter().for_each(|from| with[*from].put(*at));
+        on_circle(&with).contains(at)
+    };
+    match fault {
+        Fault::HighestOnCircle => circle[circle.len() - 1] + 1,
+        Fault::BehindCircle => (0..dependences.len()).find(reaches_circle).map_or(0, |at| at + 1),
+        _ => circle[0] + 1,
+    }
+}
+
+/// The strata by the fault, or the rule that 18 names.
+pub fn strata(fault: Fault, rules: &[Rule]) -> Result<Vec<u8>, usize> {
+    let dependences = dependences(&bent_rules(fault, rules));
+    match layers(&dependences) {
+        Some(numbers) if fault == Fault::StrataTooHigh => {
+            Ok(numbers.iter().map(|number| number.saturating_add(1)).collect())
+        }
+        Some(_) if fault == Fault::NoStrata && !rules.is_empty() => Err(1),
+        Some(numbers) => Ok(numbers),
+        None => Err(circle_rule(fault, &dependences)),
+    }
+}
+
+/// Reads a text with a fault.
+pub fn read(fault: Fault, text: &[u8]) -> (Option<Refusal>, Box<Table>) {
+    let (lines, rules) = match read_rules(fault, text) {
+        Ok(read) => read,
+        Err(why) => return (Some(why), Table::empty()),
+    };
+    let numbers = strata(fault, &rules).map_err(|rule| refusal(18, rule));
+    let mut table = match &numbers {
+        Ok(numbers) => table_of(&lines, &rules, numbers),
+        Err(_) if fault == Fault::TableAfterRefusal => table_of(&lines, &rules, &vec![0; rules.len()]),
+        Err(_) => Table::empty(),
+    };
+    if fault == Fault::UnusedOnes {
+        for rule in table.rules.iter_mut().take(rules.len()) {
+            rule.literals[rule.tested..].fill(LiteralPlace { slot: 1, value: 1, ..LiteralPlace::default() });
+        }
+    }
+    (numbers.err(), table)
+}
+
+/// Whether some used rule has an unused literal place that is not zero.
+fn unused_literals(table: &Table) -> bool {
+    let used = &table.rules[..table.count];
+    used.iter()
+        .any(|rule| rule.literals[rule.tested.min(LITERALS)..].iter().any(|place| *place != LiteralPlace::default()))
+}
+
+/// The test 31 with a fault.
+pub fn program(fault: Fault, table: &Table) -> Result<Program, Refusal> {
+    let program = unlayered(table)?;
+    let refused = match fault {
+        Fault::StrataUntested => false,
+        Fault::UnusedTested => tested(table).is_err() || unused_literals(table),
+        Fault::NoAssignments => tested(table).is_err() || program.rules.iter().any(|rule| rule.assignments.is_empty()),
+        _ => strata(fault, &program.rules).as_ref() != Ok(&program.strata),
+    };
+    if refused {
+        Err(refusal(31, 0))
+    } else {
+        Ok(program)
+    }
+}

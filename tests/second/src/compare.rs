@@ -1,0 +1,289 @@
+//! The comparison of an engine with the second engine over generated inputs.
+
+use std::fmt::Debug;
+use std::path::Path;
+
+use crate::engine::{Engine, Second};
+use crate::gen::{self, any_file, File, Rng};
+use crate::gen_tables::damaged;
+use crate::gen_text::Sketch;
+use crate::read::read_rules;
+use crate::response::{needed, Outputs, Tally};
+use crate::table::{table_of, Table};
+use crate::table31::unlayered;
+use crate::text::pieces;
+use crate::Refusal;
+
+/// A difference: where it was seen, what the second engine gave, what the other gave.
+#[derive(Clone, Debug)]
+pub struct Difference {
+    pub place: String,
+    pub second: String,
+    pub other: String,
+}
+
+/// Says where two results differ.
+fn same<T: PartialEq + Debug>(place: &str, second: &T, other: &T) -> Result<(), Difference> {
+    if second == other {
+        return Ok(());
+    }
+    Err(Difference { place: place.to_string(), second: format!("{second:?}"), other: format!("{other:?}") })
+}
+
+/// The bytes before and after each lent output, which no engine may touch.
+const MARGIN: usize = 16;
+
+/// The contents of an output before a call: no two neighbours alike, so that a stray write is seen.
+fn filled(room: usize) -> Vec<u8> {
+    (0..room + 2 * MARGIN).map(|at| (at * 37 + 165) as u8).collect()
+}
+
+/// What a call left: its result and the whole of each lent output, margins too.
+type Left<T> = (T, Vec<Vec<u8>>);
+
+/// Lends outputs of the given lengths to a call.
+fn lend<T, const N: usize>(rooms: [usize; N], call: impl FnOnce([&mut [u8]; N]) -> T) -> Left<T> {
+    let mut whole = rooms.map(filled);
+    let lent = whole.each_mut().map(|output| {
+        let end = output.len() - MARGIN;
+        &mut output[MARGIN..end]
+    });
+    let result = call(lent);
+    (result, whole.to_vec())
+}
+
+/// The entry of a response: card, slip, tally and output lengths.
+#[derive(Clone, Debug)]
+pub struct Entry {
+    pub card: Vec<u8>,
+    pub slip: Vec<u8>,
+    pub tally: Tally,
+    pub rooms: [usize; 3],
+}
+
+/// The response of an engine with what it left in the outputs.
+fn respond(engine: &mut dyn Engine, table: &Table, entry: &Entry) -> Left<(Tally, Result<usize, Refusal>)> {
+    lend(entry.rooms, |[card, changes, fired]| {
+        engine.respond(table, entry.tally, &entry.card, &entry.slip, Outputs { card, changes, fired })
+    })
+}
+
+/// Compares readings: refusals, and tables place by place; after a refusal only that there are no slots or rules.
+fn compare_read(other: &mut dyn Engine, text: &[u8]) -> Result<Box<Table>, Difference> {
+    let (ours, table) = Second.read(text);
+    let (theirs, given) = other.read(text);
+    same("reading, the refusal", &ours, &theirs)?;
+    same("reading, the slot count", &table.width, &given.width)?;
+    same("reading, the rule count", &table.count, &given.count)?;
+    if ours.is_none() {
+        for at in 0..table.slots.len() {
+            same("reading, a slot", &table.slots[at], &given.slots[at])?;
+        }
+        for at in 0..table.rules.len() {
+            same("reading, a rule", &table.rules[at], &given.rules[at])?;
+        }
+    }
+    Ok(table)
+}
+
+/// Compares the strata of the file's rules, those of a file refused with 18 too.
+fn compare_strata(other: &mut dyn Engine, text: &[u8]) -> Result<(), Difference> {
+    if let Ok((lines, rules)) = read_rules(text) {
+        let table = table_of(&lines, &rules, &vec![0; rules.len()]);
+        same("strata", &Second.strata(&table), &other.strata(&table))?;
+    }
+    Ok(())
+}
+
+/// Compares the names shown of slots and values that a table has or lacks.
+fn compare_names(other: &mut dyn Engine, text: &[u8], table: &Table) -> Result<(), Difference> {
+    let slots = (0..table.width.min(34) as u8 + 2).chain([255]);
+    for slot in slots {
+        let ours = Second.slot_name(text, table, slot);
+        same("a slot's name", &ours, &other.slot_name(text, table, slot))?;
+        let count = table.slots.get(slot as usize).map_or(0, |place| place.count.min(16) as u8);
+        for value in [0, 1, count / 2, count, count + 1, 255] {
+            let ours = Second.value_name(text, table, slot, value);
+            same("a value's name", &ours, &other.value_name(text, table, slot, value))?;
+        }
+    }
+    Ok(())
+}
+
+/// Compares the unpacking of an entry and the packing back, then the packing of made forms with any room.
+fn compare_cards(
+    other: &mut dyn Engine,
+    table: &Table,
+    entry: &Entry,
+    sketch: &Sketch,
+    rng: &mut Rng,
+) -> Result<(), Difference> {
+    let card = Second.unpack_card(table, &entry.card);
+    same("unpacking a card", &card, &other.unpack_card(table, &entry.card))?;
+    let slip = Second.unpack_slip(table, &entry.slip);
+    same("unpacking a slip", &slip, &other.unpack_slip(table, &entry.slip))?;
+    let made_card = if rng.chance(1, 2) { card.ok() } else { None };
+    let values = made_card.unwrap_or_else(|| gen::unpacked_card(rng, sketch));
+    let room = rng.below(20);
+    let ours = lend([room], |[output]| Second.pack_card(table, &values, output));
+    same("packing a card", &ours, &lend([room], |[output]| other.pack_card(table, &values, output)))?;
+    let made_slip = if rng.chance(1, 2) { slip.ok() } else { None };
+    let changes = made_slip.unwrap_or_else(|| gen::unpacked_slip(rng, sketch));
+    let most = *rng.pick(&[6, 40]);
+    let room = rng.below(most);
+    let ours = lend([room], |[output]| Second.pack_slip(table, &changes, output));
+    same("packing a slip", &ours, &lend([room], |[output]| other.pack_slip(table, &changes, output)))
+}
+
+/// Compares one response, whole outputs with their margins; gives the tally after it.
+fn compare_response(other: &mut dyn Engine, table: &Table, entry: &Entry) -> Result<Tally, Difference> {
+    let ours = respond(&mut Second, table, entry);
+    same("the response", &ours, &respond(other, table, entry))?;
+    let (left, outputs) = ours;
+    let record = &outputs[2][MARGIN..MARGIN + entry.rooms[2]];
+    same("the number of fired rules", &Second.fired_count(record), &other.fired_count(record))?;
+    Ok(left.0)
+}
+
+/// The lengths that a response on any table needs, as far as its counts say.
+fn needed_by(table: &Table) -> [usize; 3] {
+    unlayered(table).map_or([17, 37, 32], |program| needed(&program))
+}
+
+/// The sketch that cards and slips are made for: the file's, but for most refused files the empty one.
+fn fitting(rng: &mut Rng, file: &File, table: &Table) -> Sketch {
+    if table.width == 0 && rng.chance(3, 4) {
+        gen::empty_sketch()
+    } else {
+        file.sketch.clone()
+    }
+}
+
+/// An entry for a table made from a sketch.
+fn entry(rng: &mut Rng, sketch: &Sketch, table: &Table, tally: Tally) -> Entry {
+    Entry {
+        card: gen::card(rng, sketch),
+        slip: gen::slip(rng, sketch),
+        tally,
+        rooms: gen::rooms(rng, needed_by(table)),
+    }
+}
+
+/// An input that showed a difference: the rule text and the entry, if one was reached.
+#[derive(Clone, Debug)]
+pub struct Failing {
+    pub seed: u64,
+    pub text: Vec<u8>,
+    pub entry: Option<Entry>,
+    pub difference: Difference,
+}
+
+/// Compares a day of entries on one table, the tally handed on from each to the next.
+fn compare_day(
+    other: &mut dyn Engine,
+    sketch: &Sketch,
+    table: &Table,
+    rng: &mut Rng,
+) -> Result<(), (Entry, Difference)> {
+    let mut tally = gen::tally(rng);
+    for _ in 0..4 {
+        let entry = entry(rng, sketch, table, tally);
+        let cards = compare_cards(other, table, &entry, sketch, rng);
+        let after = cards.and_then(|_| compare_response(other, table, &entry));
+        tally = after.map_err(|difference| (entry, difference))?;
+    }
+    Ok(())
+}
+
+/// Compares an engine with the second on the inputs of a seed.
+pub fn compare_seed(other: &mut dyn Engine, seed: u64) -> Result<(), Box<Failing>> {
+    let mut rng = Rng::new(seed);
+    let file = any_file(&mut rng);
+    let failing = |entry, difference| Box::new(Failing { seed, text: file.text.clone(), entry, difference });
+    let read = compare_read(other, &file.text);
+    let table = read.map_err(|difference| failing(None, difference))?;
+    compare_strata(other, &file.text).map_err(|difference| failing(None, difference))?;
+    compare_names(other, &file.text, &table).map_err(|difference| failing(None, difference))?;
+    let fitting = fitting(&mut rng, &file, &table);
+    let day = compare_day(other, &fitting, &table, &mut rng);
+    day.map_err(|(entry, difference)| failing(Some(entry), difference))?;
+    let changed = damaged(&mut rng, &table, file.text.len());
+    let on_table = |mut difference: Difference| {
+        difference.place += " (on a changed table)";
+        difference
+    };
+    let names = compare_names(other, &file.text, &changed);
+    names.map_err(|difference| failing(None, on_table(difference)))?;
+    let day = compare_day(other, &fitting, &changed, &mut rng);
+    day.map_err(|(entry, difference)| failing(Some(entry), on_table(difference)))
+}
+
+/// Compares over seeds from a first on: the first failing input and the number of seeds tried.
+pub fn compare_seeds(other: &mut dyn Engine, first: u64, rounds: u64) -> (Option<Box<Failing>>, u64) {
+    for seed in first..first + rounds {
+        if let Err(failing) = compare_seed(other, seed) {
+            return (Some(failing), seed - first + 1);
+        }
+    }
+    (None, rounds)
+}
+
+/// Whether an engine differs from the second on one text and entry alone.
+fn differs(other: &mut dyn Engine, text: &[u8], entry: Option<&Entry>) -> bool {
+    match (compare_read(other, text), entry) {
+        (Err(_), _) => true,
+        (Ok(table), Some(entry)) => compare_response(other, &table, entry).is_err(),
+        (Ok(_), None) => false,
+    }
+}
+
+/// Leaves out statements of a failing input, one after another, while the engines still differ.
+pub fn shrunk(other: &mut dyn Engine, failing: &Failing) -> Failing {
+    let mut smaller = failing.clone();
+    if !differs(other, &smaller.text, smaller.entry.as_ref()) {
+        return smaller;
+    }
+    let mut at = pieces(&smaller.text).len();
+    while at > 0 {
+        at -= 1;
+        let kept = pieces(&smaller.text).into_iter().enumerate().filter(|(piece, _)| *piece != at);
+        let text = kept.map(|(_, piece)| piece).collect::<Vec<&[u8]>>().concat();
+        if differs(other, &text, smaller.entry.as_ref()) {
+            smaller.text = text;
+        }
+    }
+    smaller
+}
+
+/// Writes a failing input into a folder: rules.txt, card.bin, slip.bin, and what was seen.
+pub fn store(folder: &Path, failing: &Failing) -> std::io::Result<()> {
+    std::fs::create_dir_all(folder)?;
+    let entry = failing.entry.as_ref();
+    std::fs::write(folder.join("rules.txt"), &failing.text)?;
+    std::fs::write(folder.join("card.bin"), entry.map_or(&[0][..], |entry| &entry.card))?;
+    std::fs::write(folder.join("slip.bin"), entry.map_or(&[0][..], |entry| &entry.slip))?;
+    let Difference { place, second, other } = &failing.difference;
+    let call = entry.map_or(String::new(), |entry| format!("{:?}\noutput lengths {:?}\n", entry.tally, entry.rooms));
+    let seen = format!("seed {}\n{place}\n{call}second engine: {second}\nother engine: {other}\n", failing.seed);
+    std::fs::write(folder.join("seen.txt"), seen)
+}
+
+/// How many of a run of seeds give which refusal, to see that all are met: the refusal's number, 0 for none.
+pub fn refusals_met(first: u64, rounds: u64) -> std::collections::BTreeMap<u8, usize> {
+    let mut met = std::collections::BTreeMap::new();
+    for seed in first..first + rounds {
+        let mut rng = Rng::new(seed);
+        let file = any_file(&mut rng);
+        let (refused, table) = Second.read(&file.text);
+        *met.entry(refused.map_or(0, |why| why.number)).or_default() += 1;
+        for changed in [None, Some(damaged(&mut rng, &table, file.text.len()))] {
+            let tally = gen::tally(&mut rng);
+            let table = changed.as_ref().unwrap_or(&table);
+            let sketch = fitting(&mut rng, &file, table);
+            let entry = entry(&mut rng, &sketch, table, tally);
+            let result = respond(&mut Second, table, &entry).0 .1;
+            *met.entry(result.err().map_or(0, |why| why.number)).or_default() += 1;
+        }
+    }
+    met
+}

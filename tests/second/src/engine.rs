@@ -1,0 +1,106 @@
+//! What the comparison asks of an engine, and the second engine as one.
+
+use crate::response::{respond, Outputs, Tally};
+use crate::table::{Name, Pair, Table};
+use crate::table31::{slot_name, tested, unlayered, value_name};
+use crate::{cards, read, refusal, response, strata, Refusal};
+
+/// The entry points of an engine, over bytes lent by the caller and tables by value.
+pub trait Engine {
+    /// Reads a rule text: the refusal 10 to 18, and the table, which is without slots or rules after a refusal.
+    fn read(&mut self, text: &[u8]) -> (Option<Refusal>, Box<Table>);
+
+    /// The least strata of a table's rules, the table's own strata not looked at: 31 or 18 where there are none.
+    fn strata(&mut self, table: &Table) -> Result<Vec<u8>, Refusal>;
+
+    /// Where a slot's name stands in the text, or 31.
+    fn slot_name(&mut self, text: &[u8], table: &Table, slot: u8) -> Result<Name, Refusal>;
+
+    /// Where a value's name stands in the text, or 31.
+    fn value_name(&mut self, text: &[u8], table: &Table, slot: u8, value: u8) -> Result<Name, Refusal>;
+
+    /// The values of a card, or 31, 20 to 23.
+    fn unpack_card(&mut self, table: &Table, card: &[u8]) -> Result<Vec<u8>, Refusal>;
+
+    /// The changes of a slip, or 31, 24 to 28.
+    fn unpack_slip(&mut self, table: &Table, slip: &[u8]) -> Result<Vec<Pair>, Refusal>;
+
+    /// Packs a card into an output: its length, or 31, 21, 22, 30.
+    fn pack_card(&mut self, table: &Table, values: &[u8], output: &mut [u8]) -> Result<usize, Refusal>;
+
+    /// Packs a slip into an output: its length, or 31, 24 to 27, 30.
+    fn pack_slip(&mut self, table: &Table, changes: &[Pair], output: &mut [u8]) -> Result<usize, Refusal>;
+
+    /// The response: the tally after it, and the changes' length or 32, 31, 20 to 28, 30, 40.
+    fn respond(
+        &mut self,
+        table: &Table,
+        tally: Tally,
+        card: &[u8],
+        slip: &[u8],
+        outputs: Outputs,
+    ) -> (Tally, Result<usize, Refusal>);
+
+    /// How many rules fired, by the fired record.
+    fn fired_count(&mut self, record: &[u8]) -> usize;
+}
+
+/// The engines that must agree with the second engine, by name; the proved one is entered here.
+pub fn engines() -> Vec<(&'static str, Box<dyn Engine>)> {
+    vec![("second", Box::new(Second))]
+}
+
+/// The second engine.
+pub struct Second;
+
+impl Engine for Second {
+    fn read(&mut self, text: &[u8]) -> (Option<Refusal>, Box<Table>) {
+        match read::read(text) {
+            Ok(table) => (None, table),
+            Err(why) => (Some(why), Table::empty()),
+        }
+    }
+
+    fn strata(&mut self, table: &Table) -> Result<Vec<u8>, Refusal> {
+        strata::strata(&unlayered(table)?.rules).map_err(|rule| refusal(18, rule))
+    }
+
+    fn slot_name(&mut self, text: &[u8], table: &Table, slot: u8) -> Result<Name, Refusal> {
+        slot_name(text, table, slot)
+    }
+
+    fn value_name(&mut self, text: &[u8], table: &Table, slot: u8, value: u8) -> Result<Name, Refusal> {
+        value_name(text, table, slot, value)
+    }
+
+    fn unpack_card(&mut self, table: &Table, card: &[u8]) -> Result<Vec<u8>, Refusal> {
+        cards::unpack_card(&tested(table)?, card)
+    }
+
+    fn unpack_slip(&mut self, table: &Table, slip: &[u8]) -> Result<Vec<Pair>, Refusal> {
+        cards::unpack_slip(&tested(table)?, slip)
+    }
+
+    fn pack_card(&mut self, table: &Table, values: &[u8], output: &mut [u8]) -> Result<usize, Refusal> {
+        cards::put(&cards::pack_card(&tested(table)?, values)?, output, 1)
+    }
+
+    fn pack_slip(&mut self, table: &Table, changes: &[Pair], output: &mut [u8]) -> Result<usize, Refusal> {
+        cards::put(&cards::pack_slip(&tested(table)?, changes)?, output, 2)
+    }
+
+    fn respond(
+        &mut self,
+        table: &Table,
+        tally: Tally,
+        card: &[u8],
+        slip: &[u8],
+        outputs: Outputs,
+    ) -> (Tally, Result<usize, Refusal>) {
+        respond(table, tally, card, slip, outputs)
+    }
+
+    fn fired_count(&mut self, record: &[u8]) -> usize {
+        response::fired_count(record)
+    }
+}

@@ -1,0 +1,152 @@
+//! The faults that a broken engine may have.
+
+/// Makes the enum of faults and the list of all of them.
+macro_rules! faults {
+    ($($(#[$sentence:meta])* $name:ident,)*) => {
+        /// One fault of an engine that is otherwise the second engine.
+        #[derive(Clone, Copy, PartialEq, Eq, Debug)]
+        pub enum Fault {
+            $($(#[$sentence])* $name,)*
+        }
+
+        /// All faults.
+        pub const FAULTS: &[Fault] = &[$(Fault::$name,)*];
+    };
+}
+
+faults! {
+    /// A text of 65,535 bytes is refused with 10.
+    LongestTextRefused,
+    /// A name of 25 bytes is accepted.
+    LongNameAccepted,
+    /// At one token the larger number counts.
+    LargerNumber,
+    /// The smaller number counts before the earlier token.
+    NumberBeforeToken,
+    /// The second number of 11 to 17 counts the rules begun.
+    RulesBegun,
+    /// TRUE may stand after AND.
+    TrueAfterAnd,
+    /// Any number of NOTs negates.
+    NotsStay,
+    /// A slot assigned twice is let through.
+    AssignedTwice,
+    /// A value declared twice in its slot is let through.
+    DeclaredTwice,
+    /// A ninth literal is refused at its slot's name and not at its NOT.
+    NinthLiteralLate,
+    /// An undeclared value is let through, and the table comes back empty.
+    UndeclaredValue,
+    /// 18 names the highest rule on a circle.
+    HighestOnCircle,
+    /// 18 names the lowest rule that gets no stratum, on a circle or behind one.
+    BehindCircle,
+    /// No file has strata.
+    NoStrata,
+    /// `|=` binds.
+    WasBinds,
+    /// A test under NOT binds nothing.
+    NegatedFree,
+    /// The trigger binds nothing.
+    TriggerFree,
+    /// A test of a slot binds to all its values.
+    SlotsBind,
+    /// Each stratum is one too high.
+    StrataTooHigh,
+    /// A refused reading gives the table all the same.
+    TableAfterRefusal,
+    /// Unused places of a read rule hold ones.
+    UnusedOnes,
+    /// A name that ends where the text ends is taken to be outside.
+    NameAtEnd,
+    /// Names are shown only from tables that pass 31.
+    NameTested,
+    /// Other than the least strata are let through.
+    StrataUntested,
+    /// 31 looks at unused literal places.
+    UnusedTested,
+    /// A table's rule without assignments is 31.
+    NoAssignments,
+    /// Fields are packed least significant bit first.
+    LeastBitFirst,
+    /// A card's padding is not tested.
+    CardPadding,
+    /// A slip's padding is not tested.
+    SlipPadding,
+    /// A card's length is held to the table's count.
+    LengthByTable,
+    /// 22 names the last such slot.
+    LastFaultyValue,
+    /// 23 is tested before 22.
+    PaddingBeforeValue,
+    /// 26 only for a slot below the one before.
+    SlotNotBelow,
+    /// Of all faulty changes the smallest number counts, wherever it stands.
+    NumberBeforePosition,
+    /// A change to value 0 is accepted.
+    ZeroChange,
+    /// The slip is tested before the card.
+    SlipFirst,
+    /// Packing a slip needs 37 bytes.
+    PackingRoom,
+    /// Packing lets more than 32 changes come to 25, 26 or 27.
+    ManyChanges,
+    /// No value is loaded as the first value.
+    EmptyAsFirst,
+    /// `s *= v` holds where the card already had v.
+    HadBecomes,
+    /// `s *= v` never holds where the card has no value in s.
+    EmptyNeverBecomes,
+    /// `NOT s |= v` is false where the card has no value in s.
+    EmptyNeverNegated,
+    /// A rule's first false literal is ignored.
+    FirstFalseIgnored,
+    /// Rules are fired in number order, strata are not looked at.
+    NumberOrder,
+    /// A rule whose assignments are all in C already does not fire.
+    NothingNew,
+    /// 40 names the slot that came into conflict first.
+    ConflictByOrder,
+    /// Firing stops at the first conflict.
+    StopsAtConflict,
+    /// A later value of C wins and nothing is 40.
+    NoConflict,
+    /// The fired record has the last rule first.
+    RecordReversed,
+    /// The padding of the fired record is ones.
+    RecordPadding,
+    /// The new card is the card that was given.
+    CardReturned,
+    /// The changes are without those that repeat the card's value.
+    RepeatsLeftOut,
+    /// Nothing fires.
+    NothingFires,
+    /// Outputs are cleared beyond what is written.
+    TailCleared,
+    /// The new card is written although 40 is answered.
+    WrittenOnConflict,
+    /// 30 is tested before 28.
+    RoomBeforePadding,
+    /// 40 is tested before 30.
+    ConflictBeforeRoom,
+    /// The changes' output needs only their own length.
+    RoomByChanges,
+    /// The last short output is named.
+    LastShortOutput,
+    /// 31 is tested before 32.
+    TableBeforeTally,
+    /// 32 is counted.
+    CountedOnFull,
+    /// 40 is not counted.
+    ConflictUncounted,
+    /// A tally is full at 9,998.
+    FullEarly,
+    /// A tally is full at 9,999 only, not above.
+    FullExactly,
+    /// Only slips answered are looked at for 32.
+    RefusedNeverFull,
+    /// The first slip is answered and all others are echoed.
+    FirstOfDay,
+    /// The ones of a record are counted in its first 31 bytes.
+    LastByteUncounted,
+}

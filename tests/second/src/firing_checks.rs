@@ -1,0 +1,138 @@
+//! Demand 3 by experiment: every complete and consistent firing order ends as the response does, and rearranged files agree.
+
+use std::collections::BTreeSet;
+
+use crate::cards::{unpack_card, unpack_slip};
+use crate::engine::Engine;
+use crate::gen::Rng;
+use crate::orders::{complete_orders, complete_sets, consistent_ends, end, End, Moment};
+use crate::response::{Changes, Outputs, Tally};
+use crate::table::Table;
+use crate::table31::tested;
+use crate::text::pieces;
+use crate::Refusal;
+
+/// What a response gave: its refusal or the bytes it wrote.
+#[derive(Clone, PartialEq, Eq, Debug)]
+pub struct Given {
+    pub refused: Option<Refusal>,
+    pub card: Vec<u8>,
+    pub changes: Vec<u8>,
+    pub fired: Vec<u8>,
+}
+
+/// The response of an engine on a fresh tally with long outputs.
+pub fn given(engine: &mut dyn Engine, table: &Table, card: &[u8], slip: &[u8]) -> Given {
+    let (mut new, mut changes, mut fired) = (vec![0; 17], vec![0; 37], vec![0; 32]);
+    let outputs = Outputs { card: &mut new, changes: &mut changes, fired: &mut fired };
+    let result = engine.respond(table, Tally::default(), card, slip, outputs).1;
+    changes.truncate(result.unwrap_or(0));
+    Given { refused: result.err(), card: new, changes, fired }
+}
+
+/// The positions of the one bits of a fired record.
+fn fired_positions(record: &[u8]) -> BTreeSet<usize> {
+    (0..record.len() * 8).filter(|at| record[at / 8] >> (7 - at % 8) & 1 == 1).collect()
+}
+
+/// What was counted over many checks: files; responses answered and in conflict; complete orders; responses where several rules fire; responses where some complete order is not consistent; the longest order; rearranged files.
+#[derive(Default, Debug)]
+pub struct Counts {
+    pub files: usize,
+    pub answered: usize,
+    pub conflicts: usize,
+    pub orders: usize,
+    pub several: usize,
+    pub inconsistent: usize,
+    pub longest: usize,
+    pub rearranged: usize,
+}
+
+/// The complete orders, each by itself where they are few, else one for each set of fired rules; None where even those are too many.
+fn complete(table: &Table, card: &[u8], slip: &[u8]) -> Option<(Vec<Moment>, BTreeSet<End>)> {
+    let program = tested(table).ok()?;
+    let card = unpack_card(&program, card).ok()?;
+    let slip = unpack_slip(&program, slip).ok()?;
+    let moments = complete_orders(&program.rules, &card, &slip, 3_000)
+        .or_else(|| complete_sets(&program.rules, &card, &slip, 3_000))?;
+    let ends = consistent_ends(&program.rules, &card, &moments);
+    Some((moments, ends))
+}
+
+/// Whether a response is what an order's end says.
+fn agrees(table: &Table, given: &Given, end: &End) -> bool {
+    match (given.refused, end.conflict) {
+        (Some(why), Some(slot)) => (why.number, why.second) == (40, usize::from(slot)),
+        (None, None) => {
+            let program = tested(table).expect("the table was read");
+            let changes: Changes = unpack_slip(&program, &given.changes).unwrap_or_default().into_iter().collect();
+            changes == end.changes && fired_positions(&given.fired) == end.fired
+        }
+        _ => false,
+    }
+}
+
+/// Checks all firing orders of an accepted file on a good card and slip; what fails is said.
+pub fn check_orders(
+    engine: &mut dyn Engine,
+    table: &Table,
+    card: &[u8],
+    slip: &[u8],
+    counts: &mut Counts,
+) -> Result<(), String> {
+    let given = given(engine, table, card, slip);
+    let Some((complete, ends)) = complete(table, card, slip) else {
+        return Ok(());
+    };
+    counts.answered += usize::from(given.refused.is_none());
+    counts.conflicts += usize::from(given.refused.is_some());
+    counts.orders += complete.len();
+    let longest = complete.iter().map(|moment| moment.order.len()).max().unwrap_or(0);
+    counts.several += usize::from(longest > 1);
+    counts.inconsistent += usize::from(complete.iter().map(end).collect::<BTreeSet<End>>().len() > ends.len());
+    counts.longest = counts.longest.max(longest);
+    match ends.iter().collect::<Vec<&End>>()[..] {
+        [] => Err("no complete order is consistent".to_string()),
+        [end] if agrees(table, &given, end) => Ok(()),
+        [end] => Err(format!("the response gave {given:?}, the orders {end:?}")),
+        _ => Err(format!("consistent orders differ: {ends:?}")),
+    }
+}
+
+/// The file with its rule pieces in another order, and for each new position the old one.
+pub fn rearranged(text: &[u8], slots: usize, rules: usize, rng: &mut Rng) -> (Vec<u8>, Vec<usize>) {
+    let pieces = pieces(text);
+    let mut order: Vec<usize> = (0..rules).collect();
+    for at in (1..rules).rev() {
+        order.swap(at, rng.below(at + 1));
+    }
+    let moved = order.iter().map(|at| pieces[slots + at]);
+    let parts: Vec<&[u8]> =
+        pieces[..slots].iter().copied().chain(moved).chain(pieces[slots + rules..].iter().copied()).collect();
+    (parts.concat(), order)
+}
+
+/// Checks that a rearranged file is accepted and gives the same, each rule's bit in its new place.
+pub fn check_rearranged(
+    engine: &mut dyn Engine,
+    text: &[u8],
+    table: &Table,
+    entry: (&[u8], &[u8]),
+    rng: &mut Rng,
+) -> Result<(), String> {
+    let (moved, order) = rearranged(text, table.width, table.count, rng);
+    let (refused, other) = engine.read(&moved);
+    if let Some(why) = refused {
+        return Err(format!("a rearranged file is refused: {why:?}"));
+    }
+    let old = given(engine, table, entry.0, entry.1);
+    let new = given(engine, &other, entry.0, entry.1);
+    let (was, is) = (fired_positions(&old.fired), fired_positions(&new.fired));
+    let bits = order.iter().enumerate().all(|(to, from)| was.contains(from) == is.contains(&to));
+    let same = old.refused == new.refused && old.card == new.card && old.changes == new.changes;
+    if same && bits && was.len() == is.len() {
+        Ok(())
+    } else {
+        Err(format!("a rearranged file gives {new:?}, not {old:?}"))
+    }
+}

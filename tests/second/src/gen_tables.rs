@@ -1,0 +1,73 @@
+//! Generated tables: one that was read, changed at one place.
+
+use crate::gen::Rng;
+use crate::table::{
+    AssignmentPlace, LiteralPlace, Name, RulePlace, Table, ASSIGNMENTS, LITERALS, RULES, SLOTS, VALUES,
+};
+
+/// A count about a limit or about what it was.
+fn any_count(rng: &mut Rng, count: usize, limit: usize) -> usize {
+    *rng.pick(&[0, count.saturating_sub(1), count + 1, limit, limit + 1, 1_000])
+}
+
+/// A small number or any byte.
+fn any_byte(rng: &mut Rng) -> u8 {
+    *rng.pick(&[0, 1, 2, 3, 15, 16, 31, 32, 255])
+}
+
+/// A literal with anything in it.
+fn any_literal(rng: &mut Rng) -> LiteralPlace {
+    LiteralPlace { becomes: rng.chance(1, 2), negated: rng.chance(1, 2), slot: any_byte(rng), value: any_byte(rng) }
+}
+
+/// A name about the end of a text, or anywhere.
+pub fn any_name(rng: &mut Rng, length: usize) -> Name {
+    let start = *rng.pick(&[0, length / 2, length, length + 1, usize::MAX]);
+    let rest = length.saturating_sub(start);
+    Name { start, size: *rng.pick(&[0, rest, rest + 1, 3, usize::MAX]) }
+}
+
+/// Changes a slot's place.
+fn damage_slot(rng: &mut Rng, table: &mut Table, length: usize) {
+    let slot = &mut table.slots[rng.below(SLOTS.min(table.width + 1))];
+    match rng.below(3) {
+        0 => slot.count = any_count(rng, slot.count, VALUES),
+        1 => slot.name = any_name(rng, length),
+        _ => slot.values[rng.below(VALUES.min(slot.count + 1))] = any_name(rng, length),
+    }
+}
+
+/// Changes a rule's place: trigger, counts, literals, assignments or stratum, used or not.
+fn damage_rule(rng: &mut Rng, rule: &mut RulePlace) {
+    let literal = rng.below(LITERALS.min(rule.tested + 1));
+    let assignment = rng.below(ASSIGNMENTS.min(rule.assigned + 1));
+    match rng.below(12) {
+        0 => rule.slot = any_byte(rng),
+        1 => rule.value = any_byte(rng),
+        2 => rule.tested = any_count(rng, rule.tested, LITERALS),
+        3 => rule.assigned = any_count(rng, rule.assigned, ASSIGNMENTS),
+        4 => rule.literals[literal] = any_literal(rng),
+        5 => rule.literals[literal].becomes ^= true,
+        6 => rule.literals[literal].negated ^= true,
+        7 => rule.assignments[assignment] = AssignmentPlace { slot: any_byte(rng), value: any_byte(rng) },
+        8 => rule.assignments[assignment].slot = rule.assignments[0].slot,
+        9 => rule.literals[rule.tested.min(LITERALS)..].fill(any_literal(rng)),
+        10 => rule.stratum = any_byte(rng),
+        _ => rule.stratum = rule.stratum.wrapping_add(*rng.pick(&[1, 255])),
+    }
+}
+
+/// A table changed at one place; a text of a length is what its names stand in.
+pub fn damaged(rng: &mut Rng, table: &Table, length: usize) -> Box<Table> {
+    let mut changed = Box::new(table.clone());
+    let rule = rng.below(RULES.min(table.count + 1));
+    match rng.below(10) {
+        0 => changed.width = any_count(rng, table.width, SLOTS),
+        1 => changed.count = any_count(rng, table.count, RULES),
+        2 | 3 => damage_slot(rng, &mut changed, length),
+        4 => changed.rules[..table.count].iter_mut().for_each(|rule| rule.stratum = rule.stratum.saturating_add(1)),
+        5 => changed.rules[..table.count].iter_mut().for_each(|rule| rule.stratum = 1),
+        _ => damage_rule(rng, &mut changed.rules[rule]),
+    }
+    changed
+}

@@ -1,0 +1,35 @@
+//! A second engine for RL, made from the papers apart from the proved one, and its comparison with other engines.
+
+pub mod broken;
+pub mod broken_reading;
+pub mod cards;
+pub mod compare;
+pub mod engine;
+pub mod fault;
+pub mod firing_checks;
+pub mod gen;
+pub mod gen_tables;
+pub mod gen_text;
+pub mod listing;
+pub mod orders;
+pub mod read;
+pub mod read_lines;
+pub mod response;
+pub mod rule_set;
+pub mod strata;
+pub mod table;
+pub mod table31;
+pub mod table_lines;
+pub mod text;
+
+/// A refusal by its number and its second number.
+#[derive(Clone, Copy, PartialEq, Eq, Debug)]
+pub struct Refusal {
+    pub number: u8,
+    pub second: usize,
+}
+
+/// The refusal of a number and a second number.
+pub fn refusal(number: u8, second: usize) -> Refusal {
+    Refusal { number, second }
+}

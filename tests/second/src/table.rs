@@ -1,0 +1,170 @@
+//! The table by value, with its places and counts, and the rules as the paper speaks of them.
+
+/// Limits of a rule file.
+pub const SLOTS: usize = 32;
+pub const VALUES: usize = 15;
+pub const RULES: usize = 255;
+pub const LITERALS: usize = 8;
+pub const ASSIGNMENTS: usize = 4;
+
+/// Where a name stands in the rule text.
+#[derive(Clone, Copy, PartialEq, Eq, Debug, Default)]
+pub struct Name {
+    pub start: usize,
+    pub size: usize,
+}
+
+/// A slot's place: its name, the names of its values and how many are used.
+#[derive(Clone, Copy, PartialEq, Eq, Debug, Default)]
+pub struct SlotPlace {
+    pub name: Name,
+    pub values: [Name; VALUES],
+    pub count: usize,
+}
+
+/// A literal's place: `slot *= value` (becomes) or `slot |= value`, plain or under NOT.
+#[derive(Clone, Copy, PartialEq, Eq, Debug, Default)]
+pub struct LiteralPlace {
+    pub becomes: bool,
+    pub negated: bool,
+    pub slot: u8,
+    pub value: u8,
+}
+
+/// An assignment's place: `slot := value`.
+#[derive(Clone, Copy, PartialEq, Eq, Debug, Default)]
+pub struct AssignmentPlace {
+    pub slot: u8,
+    pub value: u8,
+}
+
+/// A rule's place: trigger, literal places and assignment places with the counts used, stratum.
+#[derive(Clone, Copy, PartialEq, Eq, Debug, Default)]
+pub struct RulePlace {
+    pub slot: u8,
+    pub value: u8,
+    pub literals: [LiteralPlace; LITERALS],
+    pub tested: usize,
+    pub assignments: [AssignmentPlace; ASSIGNMENTS],
+    pub assigned: usize,
+    pub stratum: u8,
+}
+
+/// The table: slot places and rule places with the counts used.
+#[derive(Clone, PartialEq, Eq, Debug)]
+pub struct Table {
+    pub slots: [SlotPlace; SLOTS],
+    pub width: usize,
+    pub rules: [RulePlace; RULES],
+    pub count: usize,
+}
+
+impl Table {
+    /// The table without slots or rules.
+    pub fn empty() -> Box<Table> {
+        Box::new(Table {
+            slots: [SlotPlace::default(); SLOTS],
+            width: 0,
+            rules: [RulePlace::default(); RULES],
+            count: 0,
+        })
+    }
+}
+
+/// A slot and a value, slots from 0 and values from 1.
+pub type Pair = (u8, u8);
+
+/// A literal: whether it asks for a change, whether it stands under NOT, and its pair.
+#[derive(Clone, Copy, PartialEq, Eq, Debug)]
+pub struct Literal {
+    pub becomes: bool,
+    pub negated: bool,
+    pub pair: Pair,
+}
+
+/// A rule: the trigger's pair, the literals, the assigned pairs.
+#[derive(Clone, PartialEq, Eq, Debug)]
+pub struct Rule {
+    pub trigger: Pair,
+    pub literals: Vec<Literal>,
+    pub assignments: Vec<Pair>,
+}
+
+/// A program: the last value of each slot, the rules, and each rule's stratum.
+#[derive(Clone, PartialEq, Eq, Debug)]
+pub struct Program {
+    pub lasts: Vec<u8>,
+    pub rules: Vec<Rule>,
+    pub strata: Vec<u8>,
+}
+
+/// A slot line: the slot's name and the names of its values.
+#[derive(Clone, PartialEq, Eq, Debug)]
+pub struct SlotLine {
+    pub name: Name,
+    pub values: Vec<Name>,
+}
+
+/// The place of a slot line.
+fn slot_place(line: &SlotLine) -> SlotPlace {
+    let mut place = SlotPlace { name: line.name, count: line.values.len(), ..SlotPlace::default() };
+    place.values[..line.values.len()].copy_from_slice(&line.values);
+    place
+}
+
+/// The place of a rule in a stratum.
+fn rule_place(rule: &Rule, stratum: u8) -> RulePlace {
+    let mut place = RulePlace {
+        slot: rule.trigger.0,
+        value: rule.trigger.1,
+        tested: rule.literals.len(),
+        assigned: rule.assignments.len(),
+        stratum,
+        ..RulePlace::default()
+    };
+    for (to, from) in place.literals.iter_mut().zip(&rule.literals) {
+        *to = LiteralPlace { becomes: from.becomes, negated: from.negated, slot: from.pair.0, value: from.pair.1 };
+    }
+    for (to, from) in place.assignments.iter_mut().zip(&rule.assignments) {
+        *to = AssignmentPlace { slot: from.0, value: from.1 };
+    }
+    place
+}
+
+/// The table of slot lines and rules with their strata, all within the limits.
+pub fn table_of(lines: &[SlotLine], rules: &[Rule], strata: &[u8]) -> Box<Table> {
+    let mut table = Table::empty();
+    table.width = lines.len();
+    for (place, line) in table.slots.iter_mut().zip(lines) {
+        *place = slot_place(line);
+    }
+    table.count = rules.len();
+    for ((place, rule), stratum) in table.rules.iter_mut().zip(rules).zip(strata) {
+        *place = rule_place(rule, *stratum);
+    }
+    table
+}
+
+/// The rule in a place whose counts are within the limits.
+fn rule_in(place: &RulePlace) -> Rule {
+    let literal = |place: &LiteralPlace| Literal {
+        becomes: place.becomes,
+        negated: place.negated,
+        pair: (place.slot, place.value),
+    };
+    Rule {
+        trigger: (place.slot, place.value),
+        literals: place.literals[..place.tested].iter().map(literal).collect(),
+        assignments: place.assignments[..place.assigned].iter().map(|place| (place.slot, place.value)).collect(),
+    }
+}
+
+/// The program in the used places of a table whose counts are within the limits.
+pub fn program_in(table: &Table) -> Program {
+    let rules = &table.rules[..table.count];
+    Program {
+        lasts: table.slots[..table.width].iter().map(|slot| slot.count as u8).collect(),
+        rules: rules.iter().map(rule_in).collect(),
+        strata: rules.iter().map(|place| place.stratum).collect(),
+    }
+}

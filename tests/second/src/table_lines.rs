@@ -1,0 +1,141 @@
+//! Tables and their tests in the form of the project's program `strata_cases`: packed tables, a line for each.
+
+use crate::gen::{any_file, Rng};
+use crate::gen_tables::damaged;
+use crate::read::read_rules;
+use crate::strata::strata;
+use crate::table::{table_of, AssignmentPlace, LiteralPlace, RulePlace, Table};
+use crate::table::{ASSIGNMENTS, LITERALS, RULES};
+use crate::table31::{tested, unlayered};
+
+/// The most bytes that the program takes.
+const INPUT: usize = 65_536;
+
+/// Takes the next byte.
+fn byte(input: &mut &[u8]) -> u8 {
+    let (first, rest) = input.split_first().expect("the input is whole");
+    *input = rest;
+    *first
+}
+
+/// Takes a rule; a byte fills its unused places.
+fn rule(input: &mut &[u8], fill: u8) -> RulePlace {
+    let unused = LiteralPlace { slot: fill, value: fill, ..LiteralPlace::default() };
+    let mut place = RulePlace { slot: byte(input), value: byte(input), stratum: byte(input), ..RulePlace::default() };
+    place.literals = [unused; LITERALS];
+    place.assignments = [AssignmentPlace { slot: fill, value: fill }; ASSIGNMENTS];
+    place.tested = usize::from(byte(input));
+    for literal in place.literals.iter_mut().take(place.tested) {
+        let kind = byte(input);
+        *literal =
+            LiteralPlace { becomes: kind & 1 == 1, negated: kind & 2 == 2, slot: byte(input), value: byte(input) };
+    }
+    place.assigned = usize::from(byte(input));
+    for assignment in place.assignments.iter_mut().take(place.assigned) {
+        *assignment = AssignmentPlace { slot: byte(input), value: byte(input) };
+    }
+    place
+}
+
+/// Takes a table.
+fn table(input: &mut &[u8]) -> Box<Table> {
+    let mut table = Table::empty();
+    let fill = byte(input);
+    table.width = usize::from(byte(input));
+    for slot in table.slots.iter_mut().take(table.width) {
+        slot.count = usize::from(byte(input));
+    }
+    table.count = 256 * usize::from(byte(input)) + usize::from(byte(input));
+    for place in table.rules.iter_mut().take(table.count) {
+        *place = rule(input, fill);
+    }
+    table
+}
+
+/// The tables in an input: their number, then each.
+fn tables(mut input: &[u8]) -> Vec<Box<Table>> {
+    let count = byte(&mut input);
+    (0..count).map(|_| table(&mut input)).collect()
+}
+
+/// The bytes of a rule.
+fn rule_bytes(place: &RulePlace) -> Vec<u8> {
+    let mut bytes = vec![place.slot, place.value, place.stratum, place.tested as u8];
+    for literal in place.literals.iter().take(place.tested) {
+        bytes.extend([u8::from(literal.becomes) + 2 * u8::from(literal.negated), literal.slot, literal.value]);
+    }
+    bytes.push(place.assigned as u8);
+    place.assignments.iter().take(place.assigned).for_each(|pair| bytes.extend([pair.slot, pair.value]));
+    bytes
+}
+
+/// The bytes of a table; counts above 255 become 255, that of rules apart.
+fn table_bytes(table: &Table, fill: u8) -> Vec<u8> {
+    let small = |count: usize| count.min(255) as u8;
+    let mut bytes = vec![fill, small(table.width)];
+    bytes.extend(table.slots.iter().take(table.width).map(|slot| small(slot.count)));
+    bytes.extend((table.count as u16).to_be_bytes());
+    for place in table.rules.iter().take(table.count) {
+        let counted = RulePlace { tested: place.tested.min(255), assigned: place.assigned.min(255), ..*place };
+        bytes.extend(rule_bytes(&counted));
+    }
+    bytes
+}
+
+/// A table of a generated file, its strata the least or none, changed at one place now and then.
+fn generated_table(rng: &mut Rng) -> Option<Box<Table>> {
+    let file = any_file(rng);
+    let (lines, rules) = read_rules(&file.text).ok()?;
+    let none = vec![0; rules.len()];
+    let numbers = strata(&rules).unwrap_or(none);
+    let table = table_of(&lines, &rules, &numbers);
+    Some(if rng.chance(1, 2) { damaged(rng, &table, file.text.len()) } else { table })
+}
+
+/// An input of generated tables.
+pub fn generated(seed: u64) -> Vec<u8> {
+    let mut rng = Rng::new(seed);
+    let (mut count, mut input) = (0, Vec::new());
+    while count < 255 {
+        let Some(table) = generated_table(&mut rng) else {
+            continue;
+        };
+        let bytes = table_bytes(&table, *rng.pick(&[0, 1, 255]));
+        if 1 + input.len() + bytes.len() > INPUT {
+            break;
+        }
+        count += 1;
+        input.extend(bytes);
+    }
+    [vec![count], input].concat()
+}
+
+/// What the program should write of a table: whether it is well-formed, whether it passes 31, and its strata or the lowest rule on a circle.
+fn line(table: &Table) -> String {
+    let Ok(program) = unlayered(table) else {
+        return " form 0 sound 0\n".to_string();
+    };
+    let sound = u8::from(tested(table).is_ok());
+    match strata(&program.rules) {
+        Err(rule) => format!(" form 1 sound {sound} circle {rule} passes 1\n"),
+        Ok(numbers) => {
+            let words: String = numbers.iter().map(|number| format!(" {number}")).collect();
+            format!(" form 1 sound {sound} layered{words} passes 1\n")
+        }
+    }
+}
+
+/// The lines of the chains that the program makes itself: n rules, each waiting for the one before or the one after it.
+fn chain_lines() -> String {
+    (1..=RULES).map(|rules| format!("forward {rules} 1 {rules} 1\nbackward {rules} {rules} 1 1\n")).collect()
+}
+
+/// What the program should write for an input.
+pub fn output(input: &[u8]) -> Vec<u8> {
+    let lines = tables(input)
+        .iter()
+        .enumerate()
+        .map(|(at, table)| format!("case {}{}", at + 1, line(table)))
+        .collect::<String>();
+    [lines, chain_lines()].concat().into_bytes()
+}

@@ -1,0 +1,295 @@
+//! The lettered cases A to L of document 01 and its others.
+
+use second::cards::{unpack_card, unpack_slip};
+use second::engine::{Engine, Second};
+use second::firing_checks::{given, Given};
+use second::listing::listing;
+use second::read::read;
+use second::response::fired_count;
+use second::table31::tested;
+use second::{refusal, Refusal};
+
+const SLOTS: &str = "SLOT x {0,1}; SLOT y {0,1}; SLOT z {0,1};";
+const A: &str = "WHEN x *= 1 IF y |= 0 THEN z := 1;";
+const B: &str = "WHEN z *= 1 IF y |= 0 THEN y := 1;";
+const C: &str = "WHEN z *= 1 IF y |= 0 THEN x := 1;";
+const D: &str = "WHEN y *= 1 IF NOT x *= 1 THEN z := 1;";
+const E: &str = "WHEN y *= 1 IF x |= 0 THEN x := 1;";
+
+/// The card on which all three slots are 0.
+const ZEROS: [u8; 3] = [0x0C, 0x44, 0x40];
+
+/// The slip that changes x to 1.
+const X_TO_1: [u8; 2] = [0x04, 0x04];
+
+/// The slip that changes y to 1: count 1, slot 1, value 2.
+const Y_TO_1: [u8; 2] = [0x04, 0x24];
+
+/// The text of the three slots and some rules.
+fn text(rules: &[&str]) -> Vec<u8> {
+    format!("{SLOTS}\n{}\n", rules.join("\n")).into_bytes()
+}
+
+/// The response to a card and a slip under some rules.
+fn response(rules: &[&str], card: &[u8], slip: &[u8]) -> Given {
+    given(&mut Second, &read(&text(rules)).expect("the rules are accepted"), card, slip)
+}
+
+/// The changes of a response by slot and value.
+fn changes(rules: &[&str], given: &Given) -> Vec<(u8, u8)> {
+    assert_eq!(given.refused, None);
+    unpack_slip(&tested(&read(&text(rules)).unwrap()).unwrap(), &given.changes).unwrap()
+}
+
+/// The refusal of a reading.
+fn refused(text: &[u8]) -> Option<Refusal> {
+    read(text).err()
+}
+
+#[test]
+fn a_changes_x_and_z() {
+    let given = response(&[A], &ZEROS, &X_TO_1);
+    assert_eq!(changes(&[A], &given), [(0, 2), (2, 2)]);
+    assert_eq!(given.fired[0], 0x80);
+}
+
+#[test]
+fn b_changes_x_only() {
+    let given = response(&[B], &ZEROS, &X_TO_1);
+    assert_eq!(changes(&[B], &given), [(0, 2)]);
+    assert_eq!(given.fired[0], 0);
+}
+
+#[test]
+fn c_prints_as_listed() {
+    let given = response(&[A, B], &ZEROS, &X_TO_1);
+    assert_eq!(given.changes, [0x0C, 0x04, 0x12, 0x11, 0x00]);
+    assert_eq!((given.fired[0], fired_count(&given.fired)), (0xC0, 2));
+    let printed = listing(&text(&[A, B]), &ZEROS, &X_TO_1);
+    let wanted =
+        "rule 1 stratum 1 fired\nrule 2 stratum 2 fired\nchange x 1\nchange y 1\nchange z 1\ncard 0C8880\ntally 1 0\n";
+    assert_eq!(printed, wanted);
+}
+
+#[test]
+fn d_has_no_strata() {
+    assert_eq!(refused(&text(&[A, C])), Some(refusal(18, 1)));
+    assert_eq!(listing(&text(&[A, C]), &ZEROS, &X_TO_1), "refused 18 1\n");
+}
+
+#[test]
+fn e_fires_the_second_rule_only() {
+    let table = read(&text(&[D, E])).unwrap();
+    assert_eq!([table.rules[0].stratum, table.rules[1].stratum], [2, 1]);
+    let given = response(&[D, E], &ZEROS, &Y_TO_1);
+    assert_eq!(changes(&[D, E], &given), [(0, 2), (1, 2)]);
+    assert_eq!(given.fired[0], 0x40);
+}
+
+#[test]
+fn f_has_no_values_and_changes_x_only() {
+    let given = response(&[A, B], &[0x0C, 0, 0], &X_TO_1);
+    assert_eq!(changes(&[A, B], &given), [(0, 2)]);
+}
+
+#[test]
+fn g_repeats_the_card_and_fires_nothing() {
+    let given = response(&[A], &ZEROS, &[0x04, 0x02]);
+    assert_eq!(changes(&[A], &given), [(0, 1)]);
+    assert_eq!(given.fired[0], 0);
+}
+
+#[test]
+fn h_is_a_conflict_of_slot_0() {
+    let given = response(&["WHEN x *= 1 IF TRUE THEN x := 0;"], &ZEROS, &X_TO_1);
+    assert_eq!(given.refused, Some(refusal(40, 0)));
+}
+
+#[test]
+fn i_reads_and_j_is_12() {
+    assert_eq!(refused(&text(&["WHEN x *= 1 IF TRUE AND y |= 0 THEN z := 1;"])), None);
+    assert_eq!(refused(&text(&["WHEN x *= 1 IF y |= 0 AND TRUE THEN z := 1;"])), Some(refusal(12, 0)));
+}
+
+#[test]
+fn k_and_l_are_22_and_23() {
+    assert_eq!(response(&[A], &[0x0C, 0x44, 0xC0], &X_TO_1).refused, Some(refusal(22, 2)));
+    assert_eq!(response(&[A], &[0x0C, 0x44, 0x41], &X_TO_1).refused, Some(refusal(23, 0)));
+}
+
+#[test]
+fn names_of_24_and_25_bytes() {
+    let (fits, long) = ("n".repeat(24), "n".repeat(25));
+    assert_eq!(refused(format!("SLOT {fits} {{{fits}}};").as_bytes()), None);
+    assert_eq!(refused(format!("SLOT {long} {{0}};").as_bytes()), Some(refusal(13, 0)));
+    assert_eq!(refused(format!("SLOT x {{{long}}};").as_bytes()), Some(refusal(13, 0)));
+    let in_rule = format!("WHEN {long} *= 1 IF TRUE THEN z := 1;");
+    assert_eq!(refused(&text(&[A, &in_rule])), Some(refusal(13, 1)));
+    assert_eq!(refused(&text(&[A, &long])), Some(refusal(12, 1)));
+}
+
+#[test]
+fn rules_255_and_256() {
+    assert_eq!(refused(&text(&vec![A; 255])), None);
+    assert_eq!(refused(&text(&vec![A; 256])), Some(refusal(15, 255)));
+    let last = |end: &'static str| [vec![A; 255], vec![end]].concat();
+    assert_eq!(refused(&text(&last("WHEN"))), Some(refusal(15, 255)));
+    assert_eq!(refused(&text(&last("SLOT"))), Some(refusal(12, 255)));
+    assert_eq!(refused(&text(&last("("))), Some(refusal(11, 255)));
+}
+
+#[test]
+fn literals_8_and_9() {
+    let rule = |count: usize, more: &str| {
+        let literals = vec!["y |= 0"; count].join(" AND ");
+        format!("WHEN x *= 1 IF {literals}{more} THEN z := 1;")
+    };
+    assert_eq!(refused(&text(&[&rule(8, "")])), None);
+    assert_eq!(refused(&text(&[&rule(8, "").replace("IF", "IF TRUE AND")])), None);
+    assert_eq!(refused(&text(&[&rule(9, "")])), Some(refusal(15, 0)));
+    assert_eq!(refused(&text(&[&rule(8, " AND NOT (")])), Some(refusal(15, 0)));
+    assert_eq!(refused(&text(&[&rule(8, " AND TRUE")])), Some(refusal(12, 0)));
+    assert_eq!(refused(&text(&[&rule(8, " AND q")])), Some(refusal(15, 0)));
+    assert_eq!(refused(&text(&[&rule(8, &format!(" AND {}", "q".repeat(25)))])), Some(refusal(13, 0)));
+}
+
+#[test]
+fn slots_values_and_assignments_at_their_limits() {
+    let slots = |count: usize| (0..count).map(|at| format!("SLOT s{at} {{0}};")).collect::<String>();
+    assert_eq!(refused(slots(32).as_bytes()), None);
+    assert_eq!(refused(slots(33).as_bytes()), Some(refusal(15, 0)));
+    assert_eq!(refused((slots(32) + "SLOT (").as_bytes()), Some(refusal(15, 0)));
+    let values = |count: usize| (0..count).map(|at| at.to_string()).collect::<Vec<String>>().join(",");
+    assert_eq!(refused(format!("SLOT x {{{}}};", values(15)).as_bytes()), None);
+    assert_eq!(refused(format!("SLOT x {{{}}};", values(16)).as_bytes()), Some(refusal(15, 0)));
+    assert_eq!(refused(format!("SLOT x {{{},3}};", values(15)).as_bytes()), Some(refusal(14, 0)));
+    let assigned = |count: usize| (0..count).map(|at| format!("s{at} := 0")).collect::<Vec<String>>().join(",");
+    let rule = |list: String| format!("{}WHEN s9 *= 0 IF TRUE THEN {{{list}}};", slots(10));
+    assert_eq!(refused(rule(assigned(4)).as_bytes()), None);
+    assert_eq!(refused(rule(assigned(5)).as_bytes()), Some(refusal(15, 0)));
+    assert_eq!(refused(rule(assigned(4) + ",s0 := 0").as_bytes()), Some(refusal(15, 0)));
+    assert_eq!(refused(rule("s0 := 0, s0".to_string()).as_bytes()), Some(refusal(17, 0)));
+}
+
+#[test]
+fn bytes_that_begin_no_token() {
+    for bad in ["(", "-", "=", "*", "|", ":", "* =", "\u{0}", "\u{b}", "\u{7f}", "é", "\u{feff}"] {
+        assert_eq!(refused(bad.as_bytes()), Some(refusal(11, 0)), "{bad:?}");
+    }
+    assert_eq!(refused(&text(&[A, "WHEN x *"])), Some(refusal(11, 1)));
+    assert_eq!(refused(&text(&[A, "WHEN q("])), Some(refusal(16, 1)));
+    assert_eq!(refused(&text(&[A, "WHEN x *=="])), Some(refusal(11, 1)));
+    assert_eq!(refused(b"*="), Some(refusal(12, 0)));
+}
+
+#[test]
+fn tokens_out_of_place() {
+    for rule in ["WHEN", "WHEN x |= 1", "WHEN NOT x", "WHEN x *= 1 IF THEN", "WHEN x *= 1 IF NOT TRUE", "SLOT", ";"] {
+        assert_eq!(refused(&text(&[A, B, rule])), Some(refusal(12, 2)), "{rule}");
+    }
+    for rule in ["x := 1, z := 1;", "{};", "{x := 1,};", "TRUE := 1;", "x := TRUE;", "x := 1"] {
+        let rule = format!("WHEN y *= 1 IF TRUE THEN {rule}");
+        assert_eq!(refused(&text(&[&rule])), Some(refusal(12, 0)), "{rule}");
+    }
+    for slots in ["SLOT x {}", "SLOT x {0,}", "SLOT TRUE", "SLOT x {IF", "SLOT x {0}", "WHEN WHEN", "x", "slot x {0};"]
+    {
+        assert_eq!(refused(slots.as_bytes()), Some(refusal(12, 0)), "{slots}");
+    }
+}
+
+#[test]
+fn what_reads() {
+    for good in ["", " \t\r\n", "SLOT x {x};", "SLOT IF- {SLOTx};", "SLOT slot{True};\n", "SLOT\nx{0\t,1}\r;"] {
+        assert_eq!(refused(good.as_bytes()), None, "{good:?}");
+    }
+    for rule in ["WHEN x*=1 IF NOT NOT NOT y|=0 THEN{z:=1};", "WHEN x *= 1 IF TRUE THEN { y := 0 , z := 1 } ;"] {
+        assert_eq!(refused(&text(&[rule])), None, "{rule}");
+    }
+}
+
+#[test]
+fn names_run_on_as_far_as_they_can() {
+    assert_eq!(refused(b"SLOT{a};"), Some(refusal(12, 0)));
+    assert_eq!(refused(b"SLOTx {a};"), Some(refusal(12, 0)));
+    assert_eq!(refused(&text(&["WHEN x *= 1IF"])), Some(refusal(16, 0)));
+    assert_eq!(refused(&text(&["WHEN x_y"])), Some(refusal(11, 0)));
+}
+
+#[test]
+fn an_even_number_of_nots_cancels() {
+    let negated = |nots: usize| {
+        let rule = format!("WHEN x *= 1 IF {} y |= 0 THEN z := 1;", "NOT ".repeat(nots));
+        read(&text(&[&rule])).unwrap().rules[0].literals[0].negated
+    };
+    assert_eq!([0, 1, 2, 3, 4].map(negated), [false, true, false, true, false]);
+}
+
+#[test]
+fn declared_once_and_used_as_declared() {
+    assert_eq!(refused(b"SLOT x {0}; SLOT x {0};"), Some(refusal(14, 0)));
+    assert_eq!(refused(b"SLOT x {0,0};"), Some(refusal(14, 0)));
+    assert_eq!(refused(b"SLOT x {0}; SLOT y {0};"), None);
+    assert_eq!(refused(b"WHEN x *= 1 IF TRUE THEN x := 1;"), Some(refusal(16, 0)));
+    assert_eq!(refused(&text(&["WHEN x *= 2"])), Some(refusal(16, 0)));
+    assert_eq!(refused(&text(&[A, "WHEN x *= 1 IF TRUE THEN {x := 0, x"])), Some(refusal(17, 1)));
+}
+
+#[test]
+fn length_of_text_and_circles() {
+    let mut long = text(&[A]);
+    long.resize(65_535, b' ');
+    assert_eq!(refused(&long), None);
+    long.push(b'(');
+    assert_eq!(refused(&long), Some(refusal(10, 0)));
+    assert_eq!(refused(&text(&["WHEN x *= 1 IF TRUE THEN x := 1;"])), Some(refusal(18, 1)));
+    assert_eq!(refused(&text(&["WHEN x *= 1 IF NOT y *= 1 THEN y := 1;"])), Some(refusal(18, 1)));
+    assert_eq!(refused(&text(&[E, A, C])), Some(refusal(18, 2)));
+    assert_eq!(refused(&text(&[A, C, "WHEN x"])), Some(refusal(12, 2)));
+}
+
+#[test]
+fn cards_and_slips_of_wrong_form() {
+    let card = |bytes: &[u8]| response(&[A], bytes, &[]).refused.map(|why| (why.number, why.second));
+    assert_eq!(card(&[]), Some((20, 0)));
+    assert_eq!(card(&[0x0C, 0x44]), Some((20, 0)));
+    assert_eq!(card(&[0x08, 0x44]), Some((21, 0)));
+    assert_eq!(card(&[[0xFC].as_slice(), &[0; 32]].concat()), Some((21, 0)));
+    assert_eq!(card(&[0x0C, 0x44, 0xFF]), Some((22, 2)));
+    assert_eq!(card(&ZEROS), Some((24, 0)));
+    let slip = |bytes: &[u8]| response(&[A], &ZEROS, bytes).refused.map(|why| (why.number, why.second));
+    assert_eq!(slip(&[0x00]), None);
+    assert_eq!(slip(&[0x01]), Some((28, 0)));
+    assert_eq!(slip(&[0x00, 0x00]), Some((24, 0)));
+    assert_eq!(slip(&[0x04, 0x64]), Some((25, 0)));
+    assert_eq!(slip(&[0x04, 0x00]), Some((27, 0)));
+    assert_eq!(slip(&[0x04, 0x06]), Some((27, 0)));
+    assert_eq!(slip(&[0x04, 0x05]), Some((28, 0)));
+    assert_eq!(slip(&[0x08, 0x04, 0x00]), Some((26, 1)));
+}
+
+#[test]
+fn an_empty_file_answers_an_empty_slip() {
+    assert_eq!(listing(b"", &[0], &[0]), "card 00\ntally 1 0\n");
+    assert_eq!(listing(b"", &[1], &[0]), "refused 23 0\n");
+    assert_eq!(listing(b"", &[0, 0], &[0]), "refused 20 0\n");
+    assert_eq!(listing(b"", &[0], &[0x04, 0x04]), "refused 25 0\n");
+    assert_eq!(listing(&text(&[A]), &ZEROS, &[0]), "rule 1 stratum 1 idle\ncard 0C4440\ntally 1 0\n");
+}
+
+#[test]
+fn packing_and_its_refusals() {
+    let table = read(&text(&[A])).unwrap();
+    let mut output = [7; 4];
+    assert_eq!(Second.pack_card(&table, &[1, 1, 1], &mut output), Ok(3));
+    assert_eq!(output, [0x0C, 0x44, 0x40, 7]);
+    assert_eq!(Second.pack_card(&table, &[1, 1, 1], &mut output[..2]), Err(refusal(30, 1)));
+    assert_eq!(Second.pack_card(&table, &[1, 1], &mut output), Err(refusal(21, 0)));
+    assert_eq!(Second.pack_card(&table, &[1, 200, 3], &mut []), Err(refusal(22, 1)));
+    assert_eq!(Second.pack_slip(&table, &[(0, 2)], &mut output), Ok(2));
+    assert_eq!(output, [0x04, 0x04, 0x40, 7]);
+    assert_eq!(Second.pack_slip(&table, &[(0, 2)], &mut output[..1]), Err(refusal(30, 2)));
+    assert_eq!(Second.pack_slip(&table, &[(9, 0); 33], &mut output), Err(refusal(24, 0)));
+    assert_eq!(Second.pack_slip(&table, &[(0, 1), (0, 0)], &mut output), Err(refusal(26, 1)));
+    assert_eq!(Second.pack_slip(&table, &[], &mut output), Ok(1));
+    assert_eq!(unpack_card(&tested(&table).unwrap(), &ZEROS), Ok(vec![1, 1, 1]));
+}

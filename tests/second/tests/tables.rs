@@ -1,0 +1,109 @@
+//! The test 31, names shown, the order of a response's refusals, and the tally.
+
+use second::engine::{Engine, Second};
+use second::read::read;
+use second::response::{Outputs, Tally};
+use second::table::{LiteralPlace, Name, Table};
+use second::table31::{slot_name, tested, value_name};
+use second::{refusal, Refusal};
+
+const TEXT: &[u8] = b"SLOT x {0,1}; SLOT y {0,1}; WHEN x *= 1 IF y |= 0 THEN y := 1; WHEN y *= 1 IF TRUE THEN x := 0;";
+
+/// The table of the text, changed.
+fn changed(change: impl FnOnce(&mut Table)) -> Box<Table> {
+    let mut table = read(TEXT).unwrap();
+    change(&mut table);
+    table
+}
+
+/// Whether a changed table is 31.
+fn is_31(change: impl FnOnce(&mut Table)) -> bool {
+    tested(&changed(change)) == Err(refusal(31, 0))
+}
+
+#[test]
+fn tables_that_are_31() {
+    assert!(!is_31(|_| ()));
+    assert!(is_31(|table| table.width = 33));
+    assert!(is_31(|table| table.width = 3));
+    assert!(is_31(|table| table.width = 1));
+    assert!(is_31(|table| table.count = 256));
+    assert!(is_31(|table| table.count = 3));
+    assert!(is_31(|table| table.slots[0].count = 16));
+    assert!(is_31(|table| table.slots[0].count = 0));
+    assert!(is_31(|table| table.slots[0].count = 1));
+    assert!(is_31(|table| table.rules[0].value = 0));
+    assert!(is_31(|table| table.rules[0].literals[0].slot = 2));
+    assert!(is_31(|table| table.rules[0].tested = 9));
+    assert!(is_31(|table| table.rules[0].tested = 2));
+    assert!(is_31(|table| table.rules[0].assigned = 5));
+    assert!(is_31(|table| table.rules[0].stratum = 2));
+    assert!(is_31(|table| table.rules[1].stratum = 3));
+    assert!(is_31(|table| table.rules[1].stratum = 0));
+    assert!(is_31(|table| table.rules[1].assignments[0].value = 2));
+    assert!(is_31(|table| {
+        table.rules[0].assigned = 2;
+        table.rules[0].assignments[1] = table.rules[0].assignments[0];
+    }));
+}
+
+#[test]
+fn tables_that_are_not_31() {
+    assert!(!is_31(
+        |table| table.rules[0].literals[1] = LiteralPlace { slot: 200, value: 99, ..LiteralPlace::default() }
+    ));
+    assert!(!is_31(|table| table.rules[2].stratum = 9));
+    assert!(!is_31(|table| table.slots[0].name = Name { start: usize::MAX, size: usize::MAX }));
+    assert!(!is_31(|table| table.rules[1].assigned = 0));
+    assert!(!is_31(|table| table.count = 1));
+    assert!(!is_31(|table| *table = *Table::empty()));
+}
+
+#[test]
+fn names_are_stretches_of_the_text() {
+    let table = read(TEXT).unwrap();
+    assert_eq!(slot_name(TEXT, &table, 1), Ok(Name { start: 19, size: 1 }));
+    assert_eq!(value_name(TEXT, &table, 1, 2), Ok(Name { start: 24, size: 1 }));
+    assert_eq!(slot_name(TEXT, &table, 2), Err(refusal(31, 0)));
+    assert_eq!(value_name(TEXT, &table, 1, 0), Err(refusal(31, 0)));
+    assert_eq!(value_name(TEXT, &table, 1, 3), Err(refusal(31, 0)));
+    assert_eq!(slot_name(&TEXT[..19], &table, 1), Err(refusal(31, 0)));
+    assert_eq!(slot_name(&TEXT[..20], &table, 1), Ok(Name { start: 19, size: 1 }));
+    let wide = changed(|table| table.width = 99);
+    assert_eq!(slot_name(TEXT, &wide, 1), Ok(Name { start: 19, size: 1 }));
+    assert_eq!(slot_name(TEXT, &wide, 32), Err(refusal(31, 0)));
+}
+
+/// The response on a table with outputs of some lengths: the tally and the result.
+fn response(table: &Table, tally: (u32, u32), slip: &[u8], rooms: [usize; 3]) -> ((u32, u32), Result<usize, Refusal>) {
+    let (mut card, mut changes, mut fired) = (vec![0; rooms[0]], vec![0; rooms[1]], vec![0; rooms[2]]);
+    let outputs = Outputs { card: &mut card, changes: &mut changes, fired: &mut fired };
+    let tally = Tally { answered: tally.0, refused: tally.1 };
+    let (after, result) = Second.respond(table, tally, &[0x08, 0x44], slip, outputs);
+    ((after.answered, after.refused), result)
+}
+
+#[test]
+fn the_tally_counts_all_but_32() {
+    let table = read(TEXT).unwrap();
+    let rooms = [2, 37, 1];
+    assert_eq!(response(&table, (3, 4), &[0], rooms), ((4, 4), Ok(1)));
+    assert_eq!(response(&table, (9_998, 9_998), &[0], rooms), ((9_999, 9_998), Ok(1)));
+    assert_eq!(response(&table, (9_999, 0), &[0], rooms), ((9_999, 0), Err(refusal(32, 0))));
+    assert_eq!(response(&table, (0, 10_000), &[], rooms), ((0, 10_000), Err(refusal(32, 0))));
+    assert_eq!(response(&table, (0, 9_998), &[], rooms), ((0, 9_999), Err(refusal(24, 0))));
+}
+
+#[test]
+fn refusals_come_in_their_order() {
+    let table = read(TEXT).unwrap();
+    let bad = changed(|table| table.rules[0].stratum = 7);
+    let conflict = [0x04, 0x04];
+    assert_eq!(response(&bad, (0, 9_999), &[], [0; 3]).1, Err(refusal(32, 0)));
+    assert_eq!(response(&bad, (0, 0), &[], [0; 3]), ((0, 1), Err(refusal(31, 0))));
+    assert_eq!(response(&table, (0, 0), &[1], [0; 3]).1, Err(refusal(28, 0)));
+    assert_eq!(response(&table, (0, 0), &conflict, [1, 36, 0]).1, Err(refusal(30, 1)));
+    assert_eq!(response(&table, (0, 0), &conflict, [2, 36, 0]).1, Err(refusal(30, 2)));
+    assert_eq!(response(&table, (0, 0), &conflict, [2, 37, 0]).1, Err(refusal(30, 3)));
+    assert_eq!(response(&table, (0, 0), &conflict, [2, 37, 1]), ((0, 1), Err(refusal(40, 0))));
+}
