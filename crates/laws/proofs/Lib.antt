@@ -12,3 +12,9 @@ pub mod Rearranged
 pub mod Lists
 pub mod Alike
 pub mod Tables
+pub mod Packed
+pub mod Fields
+pub mod Put
+pub mod Counted
+pub mod Fronts
+pub mod Tallied

@@ -7,3 +7,4 @@ pub mod Words
 pub mod Filled
 pub mod Rearranged
 pub mod Quoted
+pub mod Packed

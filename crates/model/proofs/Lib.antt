@@ -9,10 +9,12 @@ pub mod Pairs
 pub mod Changes
 pub mod Enabled
 pub mod Orders
+pub mod Lengths
 pub mod Gradings
 pub mod Unique
 pub mod Loop
 pub mod Exists
+pub mod Alike
 pub mod Reach
 pub mod Circles
 pub mod Strata

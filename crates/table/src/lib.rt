@@ -25,6 +25,7 @@ pub const PAIRS: usize = 512;
 pub type RuleNumber = u8;
 
 // A test in a condition: `slot *= value` (becomes) or `slot |= value`, plain or under NOT.
+#[repr(C)]
 pub struct Literal {
     pub becomes: bool,
     pub negated: bool,
@@ -33,12 +34,14 @@ pub struct Literal {
 }
 
 // `slot := value`.
+#[repr(C)]
 pub struct Assignment {
     pub slot: u8,
     pub value: u8,
 }
 
 // A rule: its trigger `slot *= value`, the literal places with the number used, the assignment places with the number used, its stratum.
+#[repr(C)]
 pub struct Rule {
     pub slot: u8,
     pub value: u8,
@@ -50,12 +53,14 @@ pub struct Rule {
 }
 
 // Where a name stands in the rule text.
+#[repr(C)]
 pub struct Name {
     pub start: usize,
     pub size: usize,
 }
 
 // A slot: its name, and the names of its values with the number used.
+#[repr(C)]
 pub struct Slot {
     pub name: Name,
     pub values: [Name; VALUES],
@@ -63,6 +68,7 @@ pub struct Slot {
 }
 
 // The slots with the number used, and the rules with the number used.
+#[repr(C)]
 pub struct Table {
     pub slots: [Slot; SLOTS],
     pub width: usize,

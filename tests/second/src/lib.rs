@@ -12,6 +12,7 @@ pub mod gen_tables;
 pub mod gen_text;
 pub mod listing;
 pub mod orders;
+pub mod program_cases;
 pub mod read;
 pub mod read_lines;
 pub mod response;

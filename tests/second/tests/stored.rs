@@ -2,7 +2,7 @@
 
 use std::path::Path;
 
-use second::{read_lines, table_lines};
+use second::{program_cases, read_lines, table_lines};
 
 /// Holds the output for a crate's stored input to the stored output.
 fn held(name: &str, output: fn(&[u8]) -> Vec<u8>) {
@@ -33,4 +33,16 @@ fn generated_inputs_are_of_the_stored_form() {
         let tables = table_lines::generated(seed);
         assert!(table_lines::output(&tables).len() > 1_000);
     }
+}
+
+#[test]
+fn stored_cases_of_the_program_are_as_stored() {
+    let stored = Path::new(env!("CARGO_MANIFEST_DIR")).join("../../crates/rl_cases");
+    for (at, case) in program_cases::cases().iter().enumerate() {
+        for (file, name) in case.files.iter().zip(program_cases::NAMES) {
+            let kept = std::fs::read(stored.join("data").join(program_cases::folder(at)).join(name)).ok();
+            assert_eq!(file.as_deref(), kept.as_deref(), "case {at}, {name}");
+        }
+    }
+    assert_eq!(program_cases::output(), std::fs::read_to_string(stored.join("stdout")).unwrap());
 }

@@ -1,0 +1,11 @@
+pub mod Tested
+pub mod Taken
+pub mod Formed
+pub mod Written
+pub mod Passed
+pub mod Answered
+pub mod FieldForms
+pub mod RoundTrip
+pub mod EntryTrips
+pub mod Cases
+pub mod Having

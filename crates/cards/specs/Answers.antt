@@ -1,0 +1,17 @@
+-- What a test, an unpacking or a packing comes to: document 01, 'Refusals by who can cause them'. A refusal has its number and its second number.
+use Prim.Native.Nat.{ℕ}
+
+-- What a test says.
+pub data Verdict : Type 0 where
+  passed : Verdict
+  fault : ℕ → ℕ → Verdict
+
+-- What comes of bytes that are unpacked, or of a form that is packed.
+pub data Taking (A : Type 0) : Type 0 where
+  taken : A → Taking A
+  refused : ℕ → ℕ → Taking A
+
+-- What comes after a test: where it is not passed, its refusal.
+unfoldable pub after : {A : Type 0} → Verdict → Taking A → Taking A
+after passed u = u
+after (fault k s) u = refused k s

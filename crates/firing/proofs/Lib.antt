@@ -1,0 +1,9 @@
+pub mod Holding
+pub mod Sorting
+pub mod Placing
+pub mod Sorted
+pub mod Running
+pub mod Responses
+pub mod Values
+pub mod Bits
+pub mod Arrays

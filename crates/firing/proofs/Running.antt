@@ -1,0 +1,212 @@
+-- What firing keeps while it goes through a stratum, again and again until nothing of it fires. It needs strata of either kind.
+-- Assumes nothing.
+use mathlib.Core.Path.{_≡_, refl, sym, _∙_, ap, fun-ext}
+use mathlib.Core.Bool.{Bool, true, false, true≢false}
+use mathlib.Core.List.{List, [], _∷_}
+use mathlib.Core.Logic.{⊎-elim}
+use Prim.Native.Nat.{ℕ, zero, suc, _+_, _-_, _≤_, _<_}
+use native.Mathlib.Numerals.{add-one}
+use native.Mathlib.Omega.{arith}
+use native.Mathlib.Nat.{eq-or-lt-of-le}
+use lib.ListN.{length, getD, set, replicate, length-set, length-replicate, getD-replicate}
+use lib.Seq.{getD-set-same, getD-set-other}
+use borrow.Author.Tests.{eq-eqb, ne-eqb}
+use Rattle.laws.specs.Truth.{_∨ᵇ_}
+use Rattle.laws.specs.Numbers.{Numbered}
+use Rattle.laws.specs.Tabulated.{tabulate}
+use Rattle.laws.proofs.Equations.{from-true, either}
+use Rattle.laws.proofs.Numbers.{is-false}
+use Rattle.laws.proofs.Flags.{flags-set, flags-more, flags-top}
+use Rattle.laws.proofs.Tabulated.{is-tabulate}
+use Rattle.model.specs.Rules.{enabled}
+use Rattle.model.specs.Orders.{names, changes}
+use Rattle.model.specs.Strata.{Grading, Strata}
+use Rattle.model.specs.Response.{response-by}
+use Rattle.model.proofs.Orders.{Ready}
+use Rattle.model.proofs.Loop.{Reached, start, level-fires, levels-end}
+use Rattle.model.proofs.Exists.{loop-end}
+use Rattle.table.specs.declared.Table.{Table}
+use Rattle.table.specs.Limits.{rule-limit, pair-places}
+use Rattle.table.specs.Shape.{no-rule, Shaped}
+use Rattle.table.specs.Link.{rule-of, rules-of, assignments-of, stratum-at}
+use Rattle.table.specs.Flat.{set-of, flags-of, pairs-of, add-pairs}
+use Rattle.table.specs.Fits.{TableFits}
+use Rattle.table.proofs.Link.{rule-at-is}
+use Rattle.table.proofs.Fits.{assigned-placed, count-of, number}
+use Rattle.table.proofs.Flat.{added, added-length, pairs-of-set, is-flags}
+use Rattle.firing.specs.declared.Firing.{Firing}
+use Rattle.firing.specs.Firing.{fired-in, carried-firing}
+use Rattle.firing.proofs.Sorted.{Sorts, stratum-small}
+
+-- In a pass the flags of fired rules are kept, and where something fired there are more.
+pub record Kept (fired₀ fired : List Bool) (moved : Bool) : Type 0 where
+  pub size : length fired ≡ rule-limit
+  pub not-fewer : flags-set fired₀ ≤ flags-set fired
+  pub more : moved ≡ true → flags-set fired₀ < flags-set fired
+
+pub kept-fire : (fired₀ fired : List Bool) (moved : Bool) (i : ℕ) → i < rule-limit → getD fired i false ≡ false → Kept fired₀ fired moved → Kept fired₀ (set fired i true) true
+kept-fire fired₀ fired moved i h e k =
+    let m = flags-more fired i (omega (arith, k .size)) e in
+    record { size = length-set fired i true ∙ k .size; not-fewer = omega (arith, k .not-fewer); more = λ z. omega (arith, k .not-fewer) }
+
+-- How many passes may still come: each fires a rule or is the last of its stratum.
+unfoldable pub passes-left : ℕ → List Bool → ℕ
+passes-left stratum fired = (256 - stratum) + (rule-limit - flags-set fired)
+
+pub pass-moved : (s : ℕ) (fired₀ fired : List Bool) (moved : Bool) → Kept fired₀ fired moved → moved ≡ true → passes-left s fired < passes-left s fired₀
+unfolding passes-left
+pass-moved s fired₀ fired moved k e = omega (arith, k .more e, flags-top fired, k .size)
+
+pub pass-last : (s : ℕ) (fired₀ fired : List Bool) (moved : Bool) → Kept fired₀ fired moved → s < 256 → passes-left (s + 1) fired < passes-left s fired₀
+unfolding passes-left
+pass-last s fired₀ fired moved k h = omega (arith, k .not-fewer)
+
+module _ (t : Table) (S : List ℕ) (slip : List Bool) (positions : List ℕ) where
+  -- The rules of `done`, last first, have fired lowest strata first; the arrays stand for them; nothing ready stands lower than the stratum.
+  -- Where nothing has moved since, no rule listed from place `from` on and before place k is ready.
+  pub record Running (stratum from k : ℕ) (moved : Bool) (bs fired : List Bool) : Type 0 where
+    pub done : List ℕ
+    pub reached : Reached (rules-of t) S (pairs-of slip) (stratum-at t) done
+    pub low : (m : ℕ) → Ready (rules-of t) S (pairs-of slip) done m → stratum ≤ stratum-at t m
+    pub passed : moved ≡ false → (q : ℕ) → from ≤ q → q < k → ¬ Ready (rules-of t) S (pairs-of slip) done (suc (getD positions q 0))
+    pub flagged : (i : ℕ) → i < rule-limit → getD fired i false ≡ names done (suc i)
+    pub stands : set-of bs ≡ changes (rules-of t) (pairs-of slip) done
+    pub changes-size : length bs ≡ pair-places
+    pub fired-size : length fired ≡ rule-limit
+
+  -- At the start nothing has fired.
+  pub run-start : length slip ≡ pair-places → Running 0 0 0 true slip (replicate rule-limit false)
+  unfolding changes names
+  run-start l = record {
+    done = [];
+    reached = start;
+    low = λ m r. omega arith;
+    passed = λ z. absurd (true≢false z);
+    flagged = λ i h. getD-replicate rule-limit i false false h;
+    stands = fun-ext (λ p. sym (pairs-of-set slip p l));
+    changes-size = l;
+    fired-size = length-replicate rule-limit false;
+  }
+
+  -- Before a pass something may have moved.
+  pub run-again : (s from k from′ k′ : ℕ) (b : Bool) (bs fired : List Bool) → Running s from k b bs fired → Running s from′ k′ true bs fired
+  run-again s from k from′ k′ b bs fired p = record {
+    done = p .done;
+    reached = p .reached;
+    low = p .low;
+    passed = λ z. absurd (true≢false z);
+    flagged = p .flagged;
+    stands = p .stands;
+    changes-size = p .changes-size;
+    fired-size = p .fired-size;
+  }
+
+  -- At the start of a pass none of its rules is passed yet.
+  pub run-pass : (s from k from′ : ℕ) (b : Bool) (bs fired : List Bool) → Running s from k b bs fired → Running s from′ from′ false bs fired
+  run-pass s from k from′ b bs fired p = record {
+    done = p .done;
+    reached = p .reached;
+    low = p .low;
+    passed = λ z q lo hi r. omega arith;
+    flagged = p .flagged;
+    stands = p .stands;
+    changes-size = p .changes-size;
+    fired-size = p .fired-size;
+  }
+
+  module _ (fits : TableFits t) (sh : Shaped t) where
+    -- A rule that has fired or is not enabled is passed over.
+    pub run-over : (s from k i : ℕ) (b : Bool) (bs fired : List Bool) → i ≡ getD positions k 0 → i < t .count
+        → (getD fired i false ≡ false → enabled S (set-of bs) (rule-of (getD (t .rules) i no-rule)) ≡ false)
+        → Running s from k b bs fired → Running s from (k + 1) b bs fired
+    run-over s from k i b bs fired at h off p = rw (add-one k) (record {
+      done = p .done;
+      reached = p .reached;
+      low = p .low;
+      passed = λ z q lo hi r. ⊎-elim
+          (λ (e : suc q ≡ suc k). let z : q ≡ k = omega arith in not-ready (rw (z, ← at) at r))
+          (λ (l : suc q < suc k). p .passed z q lo (omega arith) r)
+          (eq-or-lt-of-le hi);
+      flagged = p .flagged;
+      stands = p .stands;
+      changes-size = p .changes-size;
+      fired-size = p .fired-size;
+    })
+      where
+        not-ready : ¬ Ready (rules-of t) S (pairs-of slip) (p .done) (suc i)
+        not-ready r =
+            let u = p .flagged i (omega (arith, fits .rules-fit)) ∙ is-false (names (p .done) (suc i)) (r .unfired) in
+            rw (rule-at-is t i h, ← (p .stands), off u) at (r .enabled-then)
+
+    -- Where the stratum's last pass fired nothing, what is ready stands higher.
+    pub run-higher : (starts : List ℕ) → Sorts t positions starts → (s k : ℕ) (b : Bool) (bs fired : List Bool) → s < 256 → getD starts (s + 1) 0 ≤ k → b ≡ false
+        → Running s (getD starts s 0) k b bs fired → Running (s + 1) 0 0 true bs fired
+    run-higher starts sorts s k b bs fired small past e p = record {
+      done = p .done;
+      reached = p .reached;
+      low = λ m r. higher m r;
+      passed = λ z. absurd (true≢false z);
+      flagged = p .flagged;
+      stands = p .stands;
+      changes-size = p .changes-size;
+      fired-size = p .fired-size;
+    }
+      where
+        none-here : (m : ℕ) → Ready (rules-of t) S (pairs-of slip) (p .done) m → (s ≡ stratum-at t m) → ⊥
+        none-here zero r q = omega (arith, r .rule .first)
+        none-here (suc m) r q =
+            let w = sorts .has m (omega (arith, r .rule .last, count-of t fits sh)) in
+            p .passed e (w .0) (rw (← q) at (w .1)) (omega (arith, rw (← q) at (w .2), rw (add-one s) at past)) (rw (w .3) r)
+
+        higher : (m : ℕ) → Ready (rules-of t) S (pairs-of slip) (p .done) m → s + 1 ≤ stratum-at t m
+        higher m r = ⊎-elim (λ q. absurd (none-here m r q)) (λ (l : s < stratum-at t m). omega arith) (eq-or-lt-of-le (p .low m r))
+
+    module _ (G : Grading) (strata : Strata G (rules-of t) (stratum-at t)) where
+      -- An unfired rule of the stratum that is enabled fires.
+      pub run-fire : (s from k i : ℕ) (b : Bool) (bs fired : List Bool) → i < t .count → stratum-at t (suc i) ≡ s → getD fired i false ≡ false
+          → enabled S (set-of bs) (rule-of (getD (t .rules) i no-rule)) ≡ true
+          → Running s from k b bs fired → Running s from (k + 1) true (add-pairs (assignments-of (getD (t .rules) i no-rule)) bs) (set fired i true)
+      unfolding changes names _∨ᵇ_
+      run-fire s from k i b bs fired h st un en p = record {
+        done = suc i ∷ p .done;
+        reached = fires .0;
+        low = fires .1;
+        passed = λ z. absurd (true≢false z);
+        flagged = λ j l. ⊎-elim
+            (λ (e : j ≡ i). rw (e, eq-eqb (suc i) (suc i) refl) (getD-set-same fired i true false (omega (arith, p .fired-size, fits .rules-fit))))
+            (λ n. rw (ne-eqb (suc j) (suc i) (λ e. n (omega arith))) (getD-set-other fired i j true false n ∙ p .flagged j l))
+            (either j i);
+        stands = fun-ext (λ q. added (assignments-of (getD (t .rules) i no-rule)) bs q (p .changes-size) (λ x a. assigned-placed (getD (t .rules) i no-rule) x (fits .each-fits i h) a) ∙ rw (p .stands, rule-at-is t i h));
+        changes-size = added-length _ bs ∙ p .changes-size;
+        fired-size = length-set fired i true ∙ p .fired-size;
+      }
+        where
+          fires : Reached (rules-of t) S (pairs-of slip) (stratum-at t) (suc i ∷ p .done) × ((m : ℕ) → Ready (rules-of t) S (pairs-of slip) (suc i ∷ p .done) m → s ≤ stratum-at t m)
+          fires = level-fires (rules-of t) S (pairs-of slip) (stratum-at t) G strata s (p .done) (suc i) (p .reached) (p .low)
+              (record {
+                rule = number t fits sh i h;
+                unfired = λ e. rw (sym (p .flagged i (omega (arith, fits .rules-fit))) ∙ un) at e;
+                enabled-then = rw (rule-at-is t i h, ← (p .stands)) (from-true _ en);
+              }) st
+
+      -- Past the last stratum the arrays are those of the response by the numbers carried.
+      pub run-end : (s from k : ℕ) (b : Bool) (bs fired : List Bool) → 256 ≤ s → Running s from k b bs fired → _≡_ {A = Firing} (record { changes = bs; fired = fired }) (carried-firing t S slip)
+      unfolding carried-firing fired-in
+      run-end s from k b bs fired past p = λ j. record { changes = left j; fired = right j }
+        where
+          order : List ℕ
+          order = response-by (rules-of t) S (pairs-of slip) (stratum-at t)
+
+          top : (m : ℕ) → Numbered (length (rules-of t)) m → stratum-at t m < s
+          top zero i = absurd (omega (arith, i .first))
+          top (suc m) i = omega (arith, stratum-small t fits sh m (omega (arith, i .last, count-of t fits sh)))
+
+          ended : (names (p .done) ≡ names order) × (changes (rules-of t) (pairs-of slip) (p .done) ≡ changes (rules-of t) (pairs-of slip) order)
+          ended = loop-end G (rules-of t) (stratum-at t) strata S (pairs-of slip) (p .done) (p .reached)
+              (levels-end (rules-of t) S (pairs-of slip) (stratum-at t) s (p .done) (p .low) top)
+
+          left : bs ≡ flags-of (changes (rules-of t) (pairs-of slip) order)
+          left = is-flags _ bs (p .changes-size) (p .stands ∙ ended .1)
+
+          right : fired ≡ tabulate (λ i. names order (suc i)) rule-limit
+          right = is-tabulate (λ i. names order (suc i)) rule-limit false fired (p .fired-size) (λ i h. p .flagged i h ∙ ap (λ (f : ℕ → Bool). f (suc i)) (ended .0))

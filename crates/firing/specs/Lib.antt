@@ -1,0 +1,4 @@
+pub mod Firing
+pub mod Sorting
+pub mod Record
+pub mod Ending

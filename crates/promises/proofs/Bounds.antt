@@ -1,0 +1,101 @@
+-- The pairs of C are pairs that the file has, and so its changes are a slip of the file and its new card is a card of the file.
+-- Assumes nothing.
+use Prim.Native.Nat.{ℕ, zero, suc, _≤_, _<_}
+use native.Mathlib.Omega.{arith}
+use mathlib.Core.Path.{_≡_}
+use mathlib.Core.Bool.{Bool, true, false, cond}
+use mathlib.Core.List.{List, [], _∷_}
+use mathlib.Core.Logic.{⊎-elim}
+use lib.Dec.{T, leb→le}
+use lib.ListN.{length, getD, length-map, List·getD-map, List·getD-eq-default}
+use Rattle.laws.specs.Listed.{all-of}
+use Rattle.laws.specs.Numbers.{Numbered}
+use Rattle.laws.proofs.Truth.{and-l, and-r, or-e, le-or-lt}
+use Rattle.laws.proofs.Equations.{is-true}
+use Rattle.laws.proofs.Listed.{all-e}
+use Rattle.model.specs.Rules.{Pair, Pairs, same, among}
+use Rattle.model.specs.Orders.{no-rule, rule-at, changes, firing-order}
+use Rattle.model.specs.Result.{pair, value-in, is-changed, new-value, new-card, changes-slip, Bounded}
+use Rattle.model.proofs.Pairs.{same-eq, among-at}
+use Rattle.model.proofs.Changes.{cause}
+use Rattle.model.proofs.Orders.{are-rules}
+use Rattle.model.proofs.Results.{value-in-right, slip-e, slip-rising, new-card-length, new-card-at}
+use Rattle.table.specs.Limits.{value-limit, row}
+use Rattle.table.proofs.Names.{slot-inside, value-inside}
+use Rattle.strata.specs.Sound.{has-pair}
+use Rattle.grammar.specs.Files.{Slot, File, no-slot}
+use Rattle.rule_file.proofs.Declared.{has-some, Declared}
+use Rattle.cards.specs.Answers.{passed}
+use Rattle.cards.specs.Forms.{card-test, slip-test}
+use Rattle.cards.proofs.Tested.{same-count, no-pair}
+use Rattle.cards.proofs.Passed.{Slots, values-pass, card-pass}
+use Rattle.cards.proofs.Having.{Has, tested-has, rising-passes, within-passes}
+use Rattle.promises.specs.Agreement.{counts-of}
+
+-- What all of some pairs pass, each does.
+each-passes : (f : Pair → Bool) (ps : List Pair) → T (all-of f ps) → (p : Pair) → T (among p ps) → T (f p)
+unfolding all-of among
+each-passes f [] h p t = absurd t
+each-passes f (q ∷ qs) h p t = ⊎-elim (λ s. rw (same-eq p q s) (and-l (f q) _ h)) (each-passes f qs (and-r (f q) _ h) p) (or-e (same p q) (among p qs) t)
+
+module _ (f : File) (declared : Declared f) where
+  -- No slot has more than 15 values.
+  pub few-values : (s : ℕ) → getD (counts-of f) s 0 ≤ 15
+  few-values s = ⊎-elim beyond inside (le-or-lt (length (f .slots)) s)
+    where
+      beyond : length (f .slots) ≤ s → getD (counts-of f) s 0 ≤ 15
+      beyond l = rw (List·getD-eq-default (counts-of f) 0 {n = s} (rw length-map l)) (omega arith)
+
+      inside : s < length (f .slots) → getD (counts-of f) s 0 ≤ 15
+      inside l =
+          rw (List·getD-map (λ (z : Slot). length (z .values)) (f .slots) s no-slot)
+          (leb→le (length (getD (f .slots) s no-slot .values)) value-limit (and-r _ _ (all-e has-some (f .slots) no-slot (declared .slots-some) s l)))
+
+  -- They are slots of the limits.
+  pub file-slots : Slots (counts-of f)
+  file-slots = record { few = rw length-map (declared .few-slots); small = λ i h. few-values i }
+
+  -- What the rules assign, the slots have.
+  assigned-has : (n : ℕ) (p : Pair) → Numbered (length (f .rules)) n → T (among p (rule-at (f .rules) n .assignments)) → Has (counts-of f) p
+  unfolding rule-at has-pair
+  assigned-has zero p i t = absurd (omega (arith, i .first))
+  assigned-has (suc k) p i t =
+      let h = each-passes (has-pair (length (f .slots)) (counts-of f)) (getD (f .rules) k no-rule .assignments) (declared .each-rule k (omega (arith, i .last)) .assignments-there) p t in
+      let a = slot-inside (length (f .slots)) (p .slot) (is-true _ (and-l _ _ h)) in
+      let b = value-inside (getD (counts-of f) (p .slot) 0) (p .value) (is-true _ (and-r _ _ h)) in
+      record { below = omega (arith, a .1, length-map (f .slots) (λ (z : Slot). length (z .values))); first = b .0; last = b .1 .1 }
+
+  module _ (S : List ℕ) (I : List Pair) (slip : slip-test (counts-of f) I ≡ passed) (ns : List ℕ) (order : T (firing-order (f .rules) S I ns)) where
+    -- So does C, at the end of a firing order from a slip that passes its tests.
+    pub changes-has : (p : Pair) → T (changes (f .rules) I ns p) → Has (counts-of f) p
+    unfolding firing-order
+    changes-has p t =
+        ⊎-elim (tested-has (counts-of f) 0 0 I slip p) (λ c. assigned-has (c .0) p (are-rules (f .rules) S I [] ns order (c .0) (c .1)) (c .2)) (cause (f .rules) I ns p t)
+
+    pub changes-bounded : Bounded (length (counts-of f)) row (changes (f .rules) I ns)
+    changes-bounded = record {
+      slot-below = λ p t. changes-has p t .below;
+      value-below = λ p t. omega (arith, changes-has p t .last, few-values (p .slot));
+    }
+
+-- Changes that the slots have are a slip that passes its tests,
+pub changes-pass : (counts : List ℕ) (C : Pairs) → ((p : Pair) → T (C p) → Has counts p) → slip-test counts (changes-slip (length counts) row C) ≡ passed
+changes-pass counts C has =
+    rising-passes counts 0 0 ps (λ i l. has (getD ps i no-pair) (slip-e row C (length counts) (getD ps i no-pair) (among-at ps i no-pair l) .1)) (λ l. omega arith) (λ i l. slip-rising row C (length counts) i no-pair l)
+  where
+    ps : List Pair
+    ps = changes-slip (length counts) row C
+
+-- and the new card passes, as the old one does.
+pub new-card-passes : (counts : List ℕ) (C : Pairs) (S : List ℕ) → ((p : Pair) → T (C p) → Has counts p) → card-test counts S ≡ passed → card-test counts (new-card (length counts) row C S) ≡ passed
+unfolding new-value
+new-card-passes counts C S has e =
+    same-count counts (new-card (length counts) row C S) passed (new-card-length row C (length counts) S)
+    (within-passes 0 counts (new-card (length counts) row C S) (λ i l. let m : i < length counts = omega (arith, l, new-card-length row C (length counts) S) in rw (new-card-at row C (length counts) i S m) (low i m)))
+  where
+    low : (i : ℕ) → i < length counts → new-value row C S i ≤ getD counts i 0
+    low i m = go (is-changed row C i) (λ t. has (pair i (value-in row C i)) (value-in-right row C i t) .last) (let c = card-pass counts S e in values-pass 0 counts S (c .1) i m (omega (arith, m, c .0)))
+      where
+        go : (b : Bool) → (T b → value-in row C i ≤ getD counts i 0) → getD S i 0 ≤ getD counts i 0 → cond b (value-in row C i) (getD S i 0) ≤ getD counts i 0
+        go true h l = h tt
+        go false h l = l

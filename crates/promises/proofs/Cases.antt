@@ -1,0 +1,139 @@
+-- The lettered cases A to L of document 01 as one checked list, by evaluation: from the bytes of the text, the card and the slip to what is listed.
+-- Assumes nothing.
+use Prim.Native.Nat.{ℕ}
+use Prim.Native.String.{String}
+use mathlib.Core.Path.{_≡_, refl}
+use mathlib.Core.Bool.{true, false}
+use mathlib.Core.List.{List, [], _∷_, _++_, map}
+use lib.Count.{ones}
+use Rattle.laws.specs.Quoted.{bytes}
+use Rattle.laws.specs.Listed.{all-of}
+use Rattle.laws.specs.Words.{bit}
+use Rattle.laws.specs.Packed.{bits, number-of, field-bits, byte-bits, byte-at, pack, pack-fields, field-at}
+use Rattle.table.specs.Link.{stratum-at, value-counts}
+use Rattle.table.specs.Names.{show-name, has-slot, has-value, show-slot, show-value-of, show-value}
+use Rattle.strata.specs.Sound.{within-limits, slots-have-values, has-pair, named, names-its-own, assigns, each-once, assigns-once, carries-least, well-formed, sound}
+use Rattle.rule_file.specs.Whole.{reading}
+use Rattle.rule_file.proofs.Cases.{runs, case-text}
+use Rattle.cards.specs.Answers.{taken, refused, after}
+use Rattle.cards.specs.Forms.{card-fields, change-fields, slip-fields, card-bytes, slip-bytes, values-in, changes-in, values-test, card-test, change-fault, changes-test, read-card, read-slip}
+use Rattle.firing.specs.Record.{ones-in}
+use Rattle.response.specs.Ending.{fired-record, answer-of, settled, ending}
+use Rattle.response.specs.Respond.{_then_, if-room, responded, worked, is-full, respond-to, counted, tally-after}
+use Rattle.promises.specs.Agreement.{bit-of}
+use Rattle.promises.specs.Day.{fresh}
+use Rattle.promises.specs.Listing.{RuleLine, ChangeLine, Listing, listed, refusal, program-rooms, list-response, list-reading, listing}
+
+-- What 31 runs.
+unfoldable runs-sound : Unit {0}
+unfolding all-of within-limits slots-have-values has-slot has-value has-pair named names-its-own assigns each-once assigns-once carries-least well-formed sound stratum-at value-counts
+runs-sound = tt
+
+-- What cards and slips run.
+unfoldable runs-cards : Unit {0}
+unfolding bit bits number-of field-bits byte-bits byte-at pack pack-fields field-at card-fields change-fields slip-fields card-bytes slip-bytes values-in changes-in values-test card-test change-fault changes-test after read-card read-slip
+runs-cards = tt
+
+-- What a response and its listing run.
+unfoldable runs-response : Unit {0}
+unfolding fired-record ones ones-in answer-of settled ending _then_ if-room responded worked is-full respond-to counted tally-after show-name show-slot show-value-of show-value bit-of list-response list-reading listing
+runs-response = tt
+
+-- `unfolding lists` opens all that a listing runs.
+unfoldable pub lists : Unit {0}
+unfolding runs runs-sound runs-cards runs-response
+lists = tt
+
+-- Rule a.
+abbrev rule-a : String
+rule-a = "WHEN x *= 1 IF y |= 0 THEN z := 1;"
+
+-- Rule b.
+abbrev rule-b : String
+rule-b = "WHEN z *= 1 IF y |= 0 THEN y := 1;"
+
+-- Rule c.
+abbrev rule-c : String
+rule-c = "WHEN z *= 1 IF y |= 0 THEN x := 1;"
+
+-- Rule d.
+abbrev rule-d : String
+rule-d = "WHEN y *= 1 IF NOT x *= 1 THEN z := 1;"
+
+-- Rule e.
+abbrev rule-e : String
+rule-e = "WHEN y *= 1 IF x |= 0 THEN x := 1;"
+
+-- The card with all slots 0, and the one without values.
+abbrev pub all-0 : List ℕ
+all-0 = 0x0C ∷ 0x44 ∷ 0x40 ∷ []
+
+abbrev pub no-values : List ℕ
+no-values = 0x0C ∷ 0x00 ∷ 0x00 ∷ []
+
+-- The slips: x to 1, y to 1, x to 0.
+abbrev pub x-to-1 : List ℕ
+x-to-1 = 0x04 ∷ 0x04 ∷ []
+
+abbrev pub y-to-1 : List ℕ
+y-to-1 = 0x04 ∷ 0x24 ∷ []
+
+abbrev pub x-to-0 : List ℕ
+x-to-0 = 0x04 ∷ 0x02 ∷ []
+
+-- The text of case C: the rules a and b.
+abbrev pub text-C : List ℕ
+text-C = case-text rule-a ++ bytes rule-b
+
+-- The lines of a rule, and of a change.
+abbrev fired : ℕ → RuleLine
+fired n = record { stratum = n; fired = true }
+
+abbrev idle : ℕ → RuleLine
+idle n = record { stratum = n; fired = false }
+
+abbrev change : String → String → ChangeLine
+change s v = record { slot = bytes s; value = bytes v }
+
+-- What is listed of an answer on a fresh tally, which leaves 1 and 0.
+abbrev answered : List RuleLine → List ChangeLine → List ℕ → Listing
+answered rs cs card = listed rs cs card (record { answered = 1; refused = 0 })
+
+-- A case: a text, a card and a slip, and what is listed of them.
+pub record Case : Type 0 where
+  pub text : List ℕ
+  pub card : List ℕ
+  pub slip : List ℕ
+  pub comes-to : Listing
+
+abbrev case : List ℕ → List ℕ → List ℕ → Listing → Case
+case text card slip u = record { text = text; card = card; slip = slip; comes-to = u }
+
+-- A: a alone, x to 1: changes x, z. B: b alone: change x only. C: a, b: as the program lists it. D: a, c: 18, rule 1. E: d, e, y to 1: strata 2, 1; changes x, y; only rule 2 fired.
+-- F: a, b, card 0C 00 00: only x changes. G: a, slip x to 0: no rule fires. H: 40, slot 0. I: TRUE AND y |= 0 reads. J: y |= 0 AND TRUE is 12. K: card 0C 44 C0 is 22, slot 2. L: 0C 44 41 is 23.
+abbrev pub lettered : List Case
+lettered =
+    case (case-text rule-a) all-0 x-to-1 (answered (fired 1 ∷ []) (change "x" "1" ∷ change "z" "1" ∷ []) (0x0C ∷ 0x84 ∷ 0x80 ∷ []))
+    ∷ case (case-text rule-b) all-0 x-to-1 (answered (idle 1 ∷ []) (change "x" "1" ∷ []) (0x0C ∷ 0x84 ∷ 0x40 ∷ []))
+    ∷ case text-C all-0 x-to-1 (answered (fired 1 ∷ fired 2 ∷ []) (change "x" "1" ∷ change "y" "1" ∷ change "z" "1" ∷ []) (0x0C ∷ 0x88 ∷ 0x80 ∷ []))
+    ∷ case (case-text rule-a ++ bytes rule-c) all-0 x-to-1 (refusal 18 1)
+    ∷ case (case-text rule-d ++ bytes rule-e) all-0 y-to-1 (answered (idle 2 ∷ fired 1 ∷ []) (change "x" "1" ∷ change "y" "1" ∷ []) (0x0C ∷ 0x88 ∷ 0x40 ∷ []))
+    ∷ case text-C no-values x-to-1 (answered (idle 1 ∷ idle 2 ∷ []) (change "x" "1" ∷ []) (0x0C ∷ 0x80 ∷ 0x00 ∷ []))
+    ∷ case (case-text rule-a) all-0 x-to-0 (answered (idle 1 ∷ []) (change "x" "0" ∷ []) all-0)
+    ∷ case (case-text "WHEN x *= 1 IF TRUE THEN x := 0;") all-0 x-to-1 (refusal 40 0)
+    ∷ case (case-text "WHEN x *= 1 IF TRUE AND y |= 0 THEN z := 1;") all-0 x-to-1 (answered (fired 1 ∷ []) (change "x" "1" ∷ change "z" "1" ∷ []) (0x0C ∷ 0x84 ∷ 0x80 ∷ []))
+    ∷ case (case-text "WHEN x *= 1 IF y |= 0 AND TRUE THEN z := 1;") all-0 x-to-1 (refusal 12 0)
+    ∷ case text-C (0x0C ∷ 0x44 ∷ 0xC0 ∷ []) x-to-1 (refusal 22 2)
+    ∷ case text-C (0x0C ∷ 0x44 ∷ 0x41 ∷ []) x-to-1 (refusal 23 0)
+    ∷ []
+
+-- The lettered cases, A to L.
+pub cases : map (λ (q : Case). listing (q .text) (q .card) (q .slip)) lettered ≡ map (λ (q : Case). q .comes-to) lettered
+unfolding lists
+cases = refl
+
+-- The bytes of case C: the new card, the changes and the fired record; two rules fired, and the tally counts one answered.
+pub case-C-bytes : respond-to (reading text-C .table) fresh all-0 x-to-1 program-rooms
+    ≡ taken (record { new-card = 0x0C ∷ 0x88 ∷ 0x80 ∷ []; changes = 0x0C ∷ 0x04 ∷ 0x12 ∷ 0x11 ∷ 0x00 ∷ []; fired = 0xC0 ∷ [] })
+unfolding lists
+case-C-bytes = refl

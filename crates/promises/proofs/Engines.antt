@@ -1,0 +1,96 @@
+-- Engines that document 01, 'Agreement', names as breaking their promises, each met here or in the list of cases.
+-- Assumes nothing.
+use Prim.Native.Nat.{ℕ}
+use native.Mathlib.Omega.{arith}
+use mathlib.Core.Path.{_≡_, refl, sym, ap, _∙_}
+use mathlib.Core.Bool.{Bool, true, false, cond}
+use mathlib.Core.List.{List, [], _∷_}
+use lib.Dec.{T}
+use lib.ListN.{getD}
+use Rattle.laws.specs.Truth.{_∨ᵇ_}
+use Rattle.laws.proofs.Equations.{is-true}
+use Rattle.model.specs.Orders.{firing-order, complete, consistent}
+use Rattle.model.specs.Result.{pair}
+use Rattle.table.specs.declared.Table.{Table}
+use Rattle.table.specs.Link.{rules-of, value-counts}
+use Rattle.strata.specs.Sound.{sound}
+use Rattle.reader.specs.declared.Outcome.the-variants.{Accepted}
+use Rattle.rule_file.specs.Whole.{reading}
+use Rattle.rule_file.proofs.Answers.{reading-passes}
+use Rattle.cards.specs.Answers.{Taking, taken, refused}
+use Rattle.cards.specs.Forms.{read-card, read-slip}
+use Rattle.response.specs.declared.Tally.{Tally}
+use Rattle.response.specs.Ending.{Answer}
+use Rattle.response.specs.Respond.{Rooms, responded, worked, is-full, respond-to, response-to}
+use Rattle.promises.specs.Day.{Call, fresh, tally-over, answers-over, answer-after}
+use Rattle.promises.specs.Listing.{program-rooms}
+use Rattle.promises.proofs.Cases.{lists, text-C, all-0, x-to-1, case-C-bytes}
+use Rattle.promises.proofs.Refusals.{Only, Other, only-e, only-cond, responded-other, worked-other}
+
+-- The call of case C.
+unfoldable pub call-C : Call
+call-C = record { table = reading text-C .table; card = all-0; slip = x-to-1; rooms = program-rooms }
+
+-- One that fires nothing: in case C the empty list is a firing order and consistent, but not complete. The card and the slip of case C unpack as said here.
+pub fires-nothing : (read-card (value-counts (reading text-C .table)) all-0 ≡ taken (1 ∷ 1 ∷ 1 ∷ []))
+    × (read-slip (value-counts (reading text-C .table)) x-to-1 ≡ taken (pair 0 2 ∷ []))
+    × (firing-order (rules-of (reading text-C .table)) (1 ∷ 1 ∷ 1 ∷ []) (pair 0 2 ∷ []) [] ≡ true)
+    × (complete (rules-of (reading text-C .table)) (1 ∷ 1 ∷ 1 ∷ []) (pair 0 2 ∷ []) [] ≡ false)
+    × (consistent (rules-of (reading text-C .table)) (1 ∷ 1 ∷ 1 ∷ []) (pair 0 2 ∷ []) [] ≡ true)
+unfolding lists
+fires-nothing = (refl, refl, refl, refl, refl)
+
+-- One that finds no strata in any file: case C is accepted. (18 stands exactly where no strata exist: `reading-18-iff`.)
+pub finds-strata : reading text-C .outcome ≡ Accepted
+unfolding lists
+finds-strata = refl
+
+-- One that returns the card it was given: case C answers with another.
+pub not-the-card : (a : Answer) → respond-to (reading text-C .table) fresh all-0 x-to-1 program-rooms ≡ taken a → ¬ (a .new-card ≡ all-0)
+not-the-card a e q =
+    let n : 0x88 ≡ getD (a .new-card) 1 0 = ap second (sym case-C-bytes ∙ e) in
+    omega (arith, n, ap (λ (ys : List ℕ). getD ys 1 0) q)
+  where
+    second : Taking Answer → ℕ
+    second (taken x) = getD (x .new-card) 1 0
+    second (refused k s) = 0
+
+-- One that answers the first slip of a day and echoes the rest: the same call twice is answered alike, and counted twice.
+pub same-call-twice : (answers-over fresh (call-C ∷ call-C ∷ []) ≡ answer-after [] call-C ∷ answer-after [] call-C ∷ [])
+    × (tally-over fresh (call-C ∷ call-C ∷ []) ≡ record { answered = 2; refused = 0 })
+unfolding lists call-C answers-over tally-over response-to
+same-call-twice = (refl, refl)
+
+-- One that says 32 on a fresh tally: 32 is given at a full tally alone, and there always.
+pub only-full : (t : Table) (y : Tally) (card slip : List ℕ) (rooms : Rooms) (s : ℕ) → respond-to t y card slip rooms ≡ refused 32 s → T (is-full y)
+unfolding respond-to
+only-full t y card slip rooms s = go (is-full y)
+  where
+    go : (b : Bool) → cond b (refused 32 0) (worked t card slip rooms) ≡ refused 32 s → T b
+    go true e = tt
+    go false e = absurd (only-e (Other 32) (worked t card slip rooms) 32 s (worked-other t card slip rooms) e refl)
+
+pub always-full : (t : Table) (y : Tally) (card slip : List ℕ) (rooms : Rooms) → T (is-full y) → respond-to t y card slip rooms ≡ refused 32 0
+unfolding respond-to
+always-full t y card slip rooms h = rw (is-true (is-full y) h)
+
+pub fresh-not-full : is-full fresh ≡ false
+unfolding is-full _∨ᵇ_
+fresh-not-full = refl
+
+pub fresh-no-32 : (t : Table) (card slip : List ℕ) (rooms : Rooms) (s : ℕ) → ¬ (respond-to t fresh card slip rooms ≡ refused 32 s)
+fresh-no-32 t card slip rooms s e = rw fresh-not-full at (only-full t fresh card slip rooms s e)
+
+-- A table that the reading hands out gets no 31.
+pub reading-no-31 : (text : List ℕ) (y : Tally) (card slip : List ℕ) (rooms : Rooms) (s : ℕ) → ¬ (respond-to (reading text .table) y card slip rooms ≡ refused 31 s)
+unfolding respond-to worked
+reading-no-31 text y card slip rooms s e = only-e (Other 31) (respond-to (reading text .table) y card slip rooms) 31 s (made (sound (reading text .table)) (reading-passes text)) e refl
+  where
+    answer : Taking Answer
+    answer = responded (value-counts (reading text .table)) (rules-of (reading text .table)) card slip rooms
+
+    made : (b : Bool) → T b → Only (Other 31) (cond (is-full y) (refused 32 0) (cond b answer (refused 31 0)))
+    made true h =
+        only-cond (Other 31) (is-full y) (refused 32 0) answer (λ q. omega arith)
+        (responded-other 31 (omega arith) (omega arith) (value-counts (reading text .table)) (rules-of (reading text .table)) card slip rooms)
+    made false h = absurd h

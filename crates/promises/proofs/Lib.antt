@@ -1,0 +1,10 @@
+pub mod Cases
+pub mod Refusals
+pub mod Engines
+pub mod Day
+pub mod Ends
+pub mod FiredBits
+pub mod Bounds
+pub mod Orders
+pub mod Rearranged
+pub mod Demand3

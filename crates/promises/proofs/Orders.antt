@@ -1,0 +1,127 @@
+-- For the rules of a file without a circle, a card and a slip that pass their tests: what the answer shows, and what 40 names, of every complete and consistent firing order.
+-- Assumes nothing.
+use Prim.Native.Nat.{ℕ, _≤_, _<_}
+use native.Mathlib.Omega.{arith}
+use mathlib.Core.Path.{_≡_, sym, ap, subst, _∙_}
+use mathlib.Core.Bool.{Bool}
+use mathlib.Core.List.{List}
+use mathlib.Core.Logic.{⊎-elim}
+use lib.Dec.{T}
+use lib.ListN.{length, getD, List·getD-eq-default}
+use Rattle.laws.specs.Numbers.{tally}
+use Rattle.laws.proofs.Truth.{le-or-lt}
+use Rattle.model.specs.Rules.{Pair, Pairs}
+use Rattle.model.specs.Orders.{names, changes, outcome, firing-order}
+use Rattle.model.specs.Strata.{strict}
+use Rattle.model.specs.Circles.{circle-of}
+use Rattle.model.specs.Response.{response}
+use Rattle.model.specs.Result.{pair, conflict-slot, new-card, changes-slip, Bounded}
+use Rattle.model.proofs.Orders.{outcome-e, rules-of}
+use Rattle.model.proofs.Lengths.{order-length}
+use Rattle.model.proofs.Demand3.{response-is-outcome, demand-3}
+use Rattle.model.proofs.Results.{conflict-e, conflict-i, conflict-slot-right, conflict-slot-lowest, slip-length, no-conflict-e, slip-exact, new-card-length, new-card-at, new-value-kept, new-value-is}
+use Rattle.table.specs.Limits.{row}
+use Rattle.grammar.specs.Files.{File}
+use Rattle.rule_file.proofs.Declared.{Declared}
+use Rattle.cards.specs.Answers.{passed, taken}
+use Rattle.cards.specs.Forms.{card-test, slip-test, read-card, read-slip}
+use Rattle.cards.proofs.Passed.{card-pass}
+use Rattle.cards.proofs.Having.{Has}
+use Rattle.cards.proofs.RoundTrip.{card-reads-back, slip-reads-back}
+use Rattle.firing.specs.Record.{ones-in}
+use Rattle.response.specs.Ending.{fired-record, answer-of}
+use Rattle.promises.specs.Agreement.{counts-of, InConflict, LowestConflict, Shows, Agreed}
+use Rattle.promises.proofs.FiredBits.{record-bit, record-ones}
+use Rattle.promises.proofs.Bounds.{file-slots, changes-has, changes-bounded, changes-pass, new-card-passes}
+
+module _ (f : File) (declared : Declared f) (no-circle : circle-of strict (f .rules) ≡ 0) (S : List ℕ) (I : List Pair)
+    (card : card-test (counts-of f) S ≡ passed) (slip : slip-test (counts-of f) I ≡ passed) where
+  -- The rules that the response fires, in the order fired, and the C that they end with.
+  abbrev ours : List ℕ
+  ours = response strict (f .rules) S I
+
+  abbrev C : Pairs
+  C = changes (f .rules) I ours
+
+  abbrev width : ℕ
+  width = length (counts-of f)
+
+  order : T (firing-order (f .rules) S I ours)
+  order = outcome-e (f .rules) S I ours (response-is-outcome strict (f .rules) S I no-circle) .order
+
+  has : (p : Pair) → T (C p) → Has (counts-of f) p
+  has = changes-has f declared S I slip ours order
+
+  bounded : Bounded width row C
+  bounded = changes-bounded f declared S I slip ours order
+
+  same-C : (ns : List ℕ) → T (outcome (f .rules) S I ns) → changes (f .rules) I ns ≡ C
+  same-C ns A = demand-3 strict (f .rules) S I no-circle .1 ns A .1
+
+  same-names : (ns : List ℕ) → T (outcome (f .rules) S I ns) → names ns ≡ names ours
+  same-names ns A = demand-3 strict (f .rules) S I no-circle .1 ns A .0
+
+  -- All complete and consistent firing orders agree; where each is as `Shown` says, this is agreed of the card and the slip.
+  pub agreed : (card-bytes slip-bytes : List ℕ) → read-card (counts-of f) card-bytes ≡ taken S → read-slip (counts-of f) slip-bytes ≡ taken I
+      → (Shown : List ℕ → List Pair → List ℕ → Type 0) → ((ns : List ℕ) → T (outcome (f .rules) S I ns) → Shown S I ns) → Agreed f card-bytes slip-bytes Shown
+  agreed card-bytes slip-bytes c i Shown each = record {
+    S = S;
+    I = I;
+    card-is = c;
+    slip-is = i;
+    some-order = (ours, response-is-outcome strict (f .rules) S I no-circle);
+    one-outcome = λ a b A B. (same-C a A ∙ sym (same-C b B), same-names a A ∙ sym (same-names b B));
+    ours = response-is-outcome strict (f .rules) S I no-circle;
+    each-order = each;
+  }
+
+  -- The changes and the new card unpack.
+  slip-unpacks : read-slip (counts-of f) (answer-of width (length (f .rules)) S C ours .changes) ≡ taken (changes-slip width row C)
+  unfolding answer-of
+  slip-unpacks =
+      slip-reads-back (counts-of f) (changes-slip width row C) (file-slots f declared) (omega (arith, slip-length row C width, file-slots f declared .few)) (changes-pass (counts-of f) C has)
+
+  card-unpacks : read-card (counts-of f) (answer-of width (length (f .rules)) S C ours .new-card) ≡ taken (new-card width row C S)
+  unfolding answer-of
+  card-unpacks = card-reads-back (counts-of f) (new-card width row C S) (file-slots f declared) (new-card-passes (counts-of f) C S has card)
+
+  module _ (none : conflict-slot width row C ≡ width) where
+    card-new : (s v : ℕ) → T (C (pair s v)) → getD (new-card width row C S) s 0 ≡ v
+    card-new s v t =
+        new-card-at row C width s S (bounded .slot-below (pair s v) t)
+        ∙ new-value-is row C S s v (bounded .value-below (pair s v) t) t (λ w u. no-conflict-e row C width bounded none s w v u t)
+
+    card-old : (s : ℕ) → ((v : ℕ) → ¬ T (C (pair s v))) → getD (new-card width row C S) s 0 ≡ getD S s 0
+    card-old s lacks =
+        ⊎-elim
+        (λ (l : width ≤ s). List·getD-eq-default (new-card width row C S) 0 {n = s} (rw (new-card-length row C width S) l) ∙ sym (List·getD-eq-default S 0 {n = s} (rw (card-pass (counts-of f) S card .0) l)))
+        (λ (l : s < width). new-card-at row C width s S l ∙ new-value-kept row C S s (λ v h. lacks v)) (le-or-lt width s)
+
+    -- Where no slot is in conflict the answer shows every such order.
+    pub shows-order : (ns : List ℕ) → T (outcome (f .rules) S I ns) → Shows f S I (answer-of width (length (f .rules)) S C ours) ns
+    unfolding answer-of InConflict
+    shows-order ns A =
+        let e = same-C ns A in
+        let g = same-names ns A in
+        let n : ones-in (fired-record (length (f .rules)) ours) ≡ tally (names ns) (length (f .rules)) =
+        record-ones (length (f .rules)) ours ∙ ap (λ (h : ℕ → Bool). tally h (length (f .rules))) (sym g) in
+        record {
+          pairs = changes-slip width row C;
+          changes-are = slip-unpacks;
+          same-changes = λ p. ap (λ (D : Pairs). D p) (e ∙ sym (slip-exact row C width bounded none));
+          same-fired = λ m. ap (λ (h : ℕ → Bool). h m) g ∙ record-bit (length (f .rules)) ours (rules-of (f .rules) S I ours (outcome-e (f .rules) S I ours (response-is-outcome strict (f .rules) S I no-circle))) m;
+          how-many = (n, n ∙ order-length (f .rules) S I ns (outcome-e (f .rules) S I ns A .order));
+          no-conflict = λ s w. omega (arith, w .2, no-conflict-e row C width bounded none s (w .0) (w .1) (subst (λ (D : Pairs). T (D (pair s (w .0)))) e (w .3)) (subst (λ (D : Pairs). T (D (pair s (w .1)))) e (w .4)));
+          values = new-card width row C S;
+          card-is = card-unpacks;
+          new-value = λ s v t. card-new s v (subst (λ (D : Pairs). T (D (pair s v))) e t);
+          old-value = λ s lacks. card-old s (λ v t. lacks v (subst (λ (D : Pairs). T (D (pair s v))) (sym e) t));
+        }
+
+  -- Where a slot is in conflict, the lowest is that of every such order.
+  pub lowest-conflict : conflict-slot width row C < width → (ns : List ℕ) → T (outcome (f .rules) S I ns) → LowestConflict (changes (f .rules) I ns) (conflict-slot width row C)
+  unfolding InConflict
+  lowest-conflict l ns A = subst (λ (D : Pairs). LowestConflict D (conflict-slot width row C)) (sym (same-C ns A)) (record {
+    conflict = (let w = conflict-e row C (conflict-slot width row C) (conflict-slot-right row C width l) in (w .0, w .1, w .2, w .4, w .5));
+    lowest = λ r h w. conflict-slot-lowest row C width r h (conflict-i row C r (w .0) (w .1) (w .2) (bounded .value-below (pair r (w .1)) (w .4)) (w .3) (w .4));
+  })

@@ -1,0 +1,147 @@
+-- Which refusals a response can give, and where: 20 to 28 and 30 before the rules fire, 40 after, 31 for the table, 32 for the tally.
+-- Assumes nothing.
+use Prim.Native.Nat.{ℕ, suc, _≤_, _<_}
+use native.Mathlib.Omega.{arith}
+use mathlib.Core.Path.{_≡_, refl, subst}
+use mathlib.Core.Bool.{Bool, true, false, cond}
+use mathlib.Core.List.{List, [], _∷_}
+use mathlib.Core.Logic.{_⊎_, inl, inr, ⊎-elim}
+use lib.Dec.{eqb, leb, ltb}
+use lib.ListN.{length, getD}
+use Rattle.laws.specs.Truth.{_∨ᵇ_}
+use Rattle.laws.specs.Packed.{byte-count}
+use Rattle.model.specs.Rules.{Pair, Pairs, Rule}
+use Rattle.model.specs.Result.{conflict-slot}
+use Rattle.table.specs.declared.Table.{Table}
+use Rattle.table.specs.Limits.{row}
+use Rattle.table.specs.Link.{rules-of, value-counts}
+use Rattle.strata.specs.Sound.{sound}
+use Rattle.cards.specs.Answers.{Verdict, passed, fault, Taking, taken, refused, after}
+use Rattle.cards.specs.Forms.{count-in, card-width, slip-width, padding, values-in, changes-in, values-test, card-test, change-fault, changes-test, slip-test, read-card, read-slip}
+use Rattle.response.specs.Ending.{answer-of, settled, ending}
+use Rattle.response.specs.Respond.{_then_, Rooms, changes-room, if-room, responded, worked}
+
+-- A refusal, where it is one, has a number that P holds of.
+abbrev pub Only : {A : Type 0} → (ℕ → Type 0) → Taking A → Type 0
+Only P (taken a) = Unit
+Only P (refused k s) = P k
+
+-- The same of a test.
+abbrev OnlyFault : (ℕ → Type 0) → Verdict → Type 0
+OnlyFault P passed = Unit
+OnlyFault P (fault k s) = P k
+
+pub only-e : {A : Type 0} (P : ℕ → Type 0) (u : Taking A) (k s : ℕ) → Only P u → u ≡ refused k s → P k
+only-e P u k s h e = subst (Only P) e h
+
+pub only-cond : {A : Type 0} (P : ℕ → Type 0) (b : Bool) (u v : Taking A) → Only P u → Only P v → Only P (cond b u v)
+only-cond P true u v g h = g
+only-cond P false u v g h = h
+
+fault-cond : (P : ℕ → Type 0) (b : Bool) (u v : Verdict) → OnlyFault P u → OnlyFault P v → OnlyFault P (cond b u v)
+fault-cond P true u v g h = g
+fault-cond P false u v g h = h
+
+only-after : {A : Type 0} (P : ℕ → Type 0) (v : Verdict) (u : Taking A) → OnlyFault P v → Only P u → Only P (after v u)
+unfolding after
+only-after P passed u g h = h
+only-after P (fault k s) u g h = g
+
+pub only-then : {A B : Type 0} (P : ℕ → Type 0) (u : Taking A) (f : A → Taking B) → Only P u → ((a : A) → Only P (f a)) → Only P (u then f)
+unfolding _then_
+only-then P (taken a) f g h = h a
+only-then P (refused k s) f g h = g
+
+-- A number of those that come before the rules fire.
+abbrev pub Early : ℕ → Type 0
+Early k = k ≤ 30
+
+values-early : (at : ℕ) (ns vs : List ℕ) → OnlyFault Early (values-test at ns vs)
+unfolding values-test
+values-early at [] vs = tt
+values-early at (n ∷ ns) [] = tt
+values-early at (n ∷ ns) (v ∷ vs) = fault-cond Early (ltb n v) (fault 22 at) (values-test (suc at) ns vs) (omega arith) (values-early (suc at) ns vs)
+
+change-early : (counts : List ℕ) (low : ℕ) (p : Pair) → change-fault counts low p ≤ 30
+unfolding change-fault
+change-early counts low p = go (leb (length counts) (p .slot)) (ltb (p .slot) low) (eqb (p .value) 0 ∨ᵇ ltb (getD counts (p .slot) 0) (p .value))
+  where
+    go : (x y z : Bool) → cond x 25 (cond y 26 (cond z 27 0)) ≤ 30
+    go true y z = omega arith
+    go false true z = omega arith
+    go false false true = omega arith
+    go false false false = omega arith
+
+changes-early : (counts : List ℕ) (low at : ℕ) (ps : List Pair) → OnlyFault Early (changes-test counts low at ps)
+unfolding changes-test
+changes-early counts low at [] = tt
+changes-early counts low at (p ∷ ps) =
+    fault-cond Early (eqb (change-fault counts low p) 0) (changes-test counts (suc (p .slot)) (suc at) ps) (fault (change-fault counts low p) at)
+    (changes-early counts (suc (p .slot)) (suc at) ps) (change-early counts low p)
+
+-- A card is refused early,
+pub card-early : (counts ys : List ℕ) → Only Early (read-card counts ys)
+unfolding read-card card-test
+card-early counts ys =
+    only-cond Early (eqb (length ys) (byte-count (card-width (count-in ys)))) _ (refused 20 0)
+    (only-after Early (card-test counts (values-in ys)) _
+    (fault-cond Early (eqb (length (values-in ys)) (length counts)) (values-test 0 counts (values-in ys)) (fault 21 0) (values-early 0 counts (values-in ys)) (omega arith))
+    (only-cond Early (eqb (padding ys (card-width (count-in ys))) 0) (taken (values-in ys)) (refused 23 0) tt (omega arith)))
+    (omega arith)
+
+-- and so is a slip.
+pub slip-early : (counts ys : List ℕ) → Only Early (read-slip counts ys)
+unfolding read-slip
+slip-early counts ys =
+    only-cond Early (eqb (length ys) (byte-count (slip-width (count-in ys)))) _ (refused 24 0)
+    (only-after Early (slip-test counts (changes-in ys)) _ (changes-early counts 0 0 (changes-in ys))
+    (only-cond Early (eqb (padding ys (slip-width (count-in ys))) 0) (taken (changes-in ys)) (refused 28 0) tt (omega arith)))
+    (omega arith)
+
+-- Early, or 40.
+abbrev pub Known : ℕ → Type 0
+Known k = Early k ⊎ (k ≡ 40)
+
+pub only-more : {A : Type 0} (P Q : ℕ → Type 0) → ((k : ℕ) → P k → Q k) → (u : Taking A) → Only P u → Only Q u
+only-more P Q f (taken a) h = tt
+only-more P Q f (refused k s) h = f k h
+
+known : {A : Type 0} (u : Taking A) → Only Early u → Only Known u
+known u h = only-more Early Known (λ k l. inl l) u h
+
+room-known : {A : Type 0} (width count : ℕ) (rooms : Rooms) (u : Taking A) → Only Known u → Only Known (if-room width count rooms u)
+unfolding if-room
+room-known width count rooms u h =
+    only-cond Known (ltb (rooms .for-card) (byte-count (card-width width))) (refused 30 1) _ (inl (omega arith))
+    (only-cond Known (ltb (rooms .for-changes) changes-room) (refused 30 2) _ (inl (omega arith))
+    (only-cond Known (ltb (rooms .for-fired) (byte-count count)) (refused 30 3) u (inl (omega arith)) h))
+
+settled-known : (width count : ℕ) (S : List ℕ) (C : Pairs) (ns : List ℕ) → Only Known (settled width count S C ns)
+unfolding settled
+settled-known width count S C ns =
+    only-cond Known (ltb (conflict-slot width row C) width) (refused 40 (conflict-slot width row C)) (taken (answer-of width count S C ns)) (inr refl) tt
+
+-- Where table and tally are in order nothing else is given.
+pub responded-known : (counts : List ℕ) (rs : List Rule) (card slip : List ℕ) (rooms : Rooms) → Only Known (responded counts rs card slip rooms)
+unfolding responded ending
+responded-known counts rs card slip rooms =
+    only-then Known (read-card counts card) _ (known (read-card counts card) (card-early counts card))
+    (λ S. only-then Known (read-slip counts slip) _ (known (read-slip counts slip) (slip-early counts slip))
+    (λ I. room-known (length counts) (length rs) rooms (ending rs (length counts) S I) (settled-known (length counts) (length rs) S _ _)))
+
+-- Another number than j.
+abbrev pub Other : ℕ → ℕ → Type 0
+Other j k = k ≡ j → ⊥
+
+-- So neither 31 nor 32.
+pub responded-other : (j : ℕ) → 30 < j → j < 40 → (counts : List ℕ) (rs : List Rule) (card slip : List ℕ) (rooms : Rooms) → Only (Other j) (responded counts rs card slip rooms)
+responded-other j low high counts rs card slip rooms =
+    only-more Known (Other j) (λ k h e. ⊎-elim (λ (l : k ≤ 30). omega arith) (λ (q : k ≡ 40). omega arith) h) (responded counts rs card slip rooms)
+    (responded-known counts rs card slip rooms)
+
+-- What follows the tally's test gives no 32.
+pub worked-other : (t : Table) (card slip : List ℕ) (rooms : Rooms) → Only (Other 32) (worked t card slip rooms)
+unfolding worked
+worked-other t card slip rooms =
+    only-cond (Other 32) (sound t) (responded (value-counts t) (rules-of t) card slip rooms) (refused 31 0)
+    (responded-other 32 (omega arith) (omega arith) (value-counts t) (rules-of t) card slip rooms) (λ e. omega arith)

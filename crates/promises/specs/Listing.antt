@@ -1,0 +1,61 @@
+-- Document 01, 'The program': what is listed of a rule text, a card and a slip, from the tally 0 and 0.
+use Prim.Native.Nat.{ℕ, suc}
+use mathlib.Core.Bool.{Bool}
+use mathlib.Core.List.{List, map}
+use Rattle.laws.specs.Tabulated.{tabulate}
+use Rattle.model.specs.Rules.{Pair}
+use Rattle.table.specs.declared.Table.{Table}
+use Rattle.table.specs.Link.{stratum-at}
+use Rattle.table.specs.Names.{show-slot, show-value}
+use Rattle.reader.specs.declared.Outcome as reader
+use Rattle.reader.specs.declared.Outcome.the-variants.{Accepted, Refused}
+use Rattle.rule_file.specs.Whole.{reading}
+use Rattle.cards.specs.Answers.{Taking, taken, refused}
+use Rattle.cards.specs.Forms.{changes-in}
+use Rattle.response.specs.declared.Tally.{Tally}
+use Rattle.response.specs.Ending.{Answer}
+use Rattle.response.specs.Respond.{Rooms, respond-to, tally-after}
+use Rattle.promises.specs.Agreement.{bit-of}
+use Rattle.promises.specs.Day.{fresh}
+
+-- The line of a rule: its stratum, and whether it fired.
+pub record RuleLine : Type 0 where
+  pub stratum : ℕ
+  pub fired : Bool
+
+-- The line of a change: the name of the slot and that of the value.
+pub record ChangeLine : Type 0 where
+  pub slot : List ℕ
+  pub value : List ℕ
+
+-- What is listed: the rules in number order, the changes in slot order, the bytes of the new card, and the tally; or a refusal.
+pub data Listing : Type 0 where
+  listed : List RuleLine → List ChangeLine → List ℕ → Tally → Listing
+  refusal : ℕ → ℕ → Listing
+
+-- The program's outputs are as long as any answer needs: 32 slots, 32 changes, 255 rules.
+abbrev pub program-rooms : Rooms
+program-rooms = record { for-card = 17; for-changes = 37; for-fired = 32 }
+
+-- The line of rule n.
+abbrev pub rule-line : Table → Answer → ℕ → RuleLine
+rule-line t a n = record { stratum = stratum-at t n; fired = bit-of (a .fired) n }
+
+-- The line of a change, by the names in the text.
+abbrev pub change-line : List ℕ → Table → Pair → ChangeLine
+change-line text t p = record { slot = show-slot text t (p .slot) .part; value = show-value text t (p .slot) (p .value) .part }
+
+-- The listing of a response.
+unfoldable pub list-response : List ℕ → Table → Taking Answer → Listing
+list-response text t (taken a) =
+    listed (tabulate (λ i. rule-line t a (suc i)) (t .count)) (map (change-line text t) (changes-in (a .changes))) (a .new-card) (tally-after fresh (taken a))
+list-response text t (refused k s) = refusal k s
+
+-- The listing of what a reading comes to.
+unfoldable pub list-reading : List ℕ → reader.Outcome → Table → List ℕ → List ℕ → Listing
+list-reading text Accepted t card slip = list-response text t (respond-to t fresh card slip program-rooms)
+list-reading text (Refused k n) t card slip = refusal k n
+
+-- The listing of a rule text, a card and a slip.
+unfoldable pub listing : List ℕ → List ℕ → List ℕ → Listing
+listing text card slip = list-reading text (reading text .outcome) (reading text .table) card slip

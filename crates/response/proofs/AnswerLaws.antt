@@ -1,0 +1,282 @@
+-- The answer to a card and a slip that are in order, from the arrays that firing gives.
+-- Assumes nothing.
+use mathlib.Core.Path.{_≡_, refl, sym, ap, ap₂, fun-ext, _∙_}
+use mathlib.Core.Bool.{Bool, true, false, cond}
+use mathlib.Core.List.{List, [], _∷_, _++_, map}
+use mathlib.Core.Logic.{⊎-elim}
+use Prim.Native.Nat.{ℕ, suc, zero, _+_, _*_, _/_, _≤_, _<_}
+use native.Mathlib.Omega.{arith}
+use lib.Dec.{T, ltb, ltb→lt}
+use lib.ListN.{length, getD, take, drop, replicate, length-append, List·getD-map, List·getD-eq-default}
+use lib.Seq.{take-append-seam}
+use borrow.Author.Tests.{lt-ltb, le-ltb}
+use Rattle.laws.specs.Truth.{_∧ᵇ_}
+use Rattle.laws.specs.Listed.{all-of}
+use Rattle.laws.specs.Filled.{filled}
+use Rattle.laws.specs.Tabulated.{tabulate}
+use Rattle.laws.specs.Packed.{byte-count, pack}
+use Rattle.laws.proofs.Truth.{le-or-lt, or-e, and-l, and-r, and-i}
+use Rattle.laws.proofs.Listed.{all-e, all-append}
+use Rattle.laws.proofs.Tabulated.{tabulate-length, tabulate-at, is-tabulate}
+use Rattle.laws.proofs.Fronts.{filled-at}
+use Rattle.laws.proofs.Packed.{pack-length}
+use Rattle.model.specs.Rules.{Pair, Pairs, Rule, same, among}
+use Rattle.model.specs.Orders.{names, changes}
+use Rattle.model.specs.Strata.{strict}
+use Rattle.model.specs.Response.{response}
+use Rattle.model.specs.Result.{pair, value-in, is-changed, new-value, conflict-slot, new-card, changes-slip}
+use Rattle.model.proofs.Alike.{SameCard}
+use Rattle.model.proofs.Pairs.{same-eq}
+use Rattle.table.specs.declared.Table.{Table}
+use Rattle.table.specs.Limits.{slot-limit, row, pair-places, rule-limit}
+use Rattle.table.specs.Shape.{Shaped}
+use Rattle.table.specs.Link.{rules-of}
+use Rattle.table.specs.Flat.{Placed, set-of, add-pairs}
+use Rattle.table.proofs.Link.{rules-length}
+use Rattle.cards.specs.declared.Card.{Card}
+use Rattle.cards.specs.declared.Change.{Change}
+use Rattle.cards.specs.declared.Slip.{Slip}
+use Rattle.cards.specs.Answers.{Taking, taken, refused}
+use Rattle.cards.specs.Forms.{card-width, slip-width, card-bytes, slip-bytes}
+use Rattle.cards.specs.Cards.{CardFits, SlipFits, no-change, pair-of, change-of, values-of, changes-of, slip-of}
+use Rattle.cards.proofs.Formed.{slip-length}
+use Rattle.cards.proofs.Written.{card-bytes-length, slip-bytes-length}
+use Rattle.firing.specs.declared.Firing.{Firing}
+use Rattle.firing.specs.Firing.{firing-of}
+use Rattle.firing.specs.Record.{fired-bits, ones-in}
+use Rattle.firing.specs.Record as firing
+use Rattle.firing.specs.Ending.{new-places}
+use Rattle.response.specs.Ending.{Answer, fired-record, answer-of, settled, ending}
+use Rattle.response.specs.declared.Outcome.the-variants.{Answered, Refused}
+use Rattle.response.specs.Respond.{Outputs, outputs, written, outcome-of, outputs-after, Ends}
+use Rattle.response.specs.InOrder.{InOrder}
+use Rattle.response.proofs.Fired.{AllPlaced, fired-changes, fired-rules}
+
+-- A card whose places beyond its count are empty has the values of its places.
+pub values-same : (c : Card) → ((s : ℕ) → c .count ≤ s → getD (c .values) s 0 ≡ 0) → SameCard (c .values) (values-of c)
+unfolding SameCard values-of
+values-same c rest s =
+    ⊎-elim (λ h. rest s h ∙ sym (List·getD-eq-default (tabulate (λ i. getD (c .values) i 0) (c .count)) 0 (rw (tabulate-length (λ i. getD (c .values) i 0) (c .count)) h)))
+    (λ h. sym (tabulate-at (λ i. getD (c .values) i 0) (c .count) s 0 h)) (le-or-lt (c .count) s)
+
+-- A pair of a tabulated list is one of its entries.
+tabulated-pair : (f : ℕ → Pair) (n : ℕ) (p : Pair) → T (among p (tabulate f n)) → (j : ℕ) × (j < n) × (p ≡ f j)
+unfolding tabulate among
+tabulated-pair f zero p t = absurd t
+tabulated-pair f (suc n) p t = ⊎-elim (λ x. (0, omega arith, same-eq p (f 0) x)) (λ x. let w = tabulated-pair (λ i. f (suc i)) n p x in (suc (w .0), omega (arith, w .1), w .2)) (or-e (same p (f 0)) _ t)
+
+-- The pairs of a slip that fits have a place.
+pub slip-placed : (s : Slip) → SlipFits s → AllPlaced (changes-of s)
+unfolding changes-of
+slip-placed s F p t =
+    let w = tabulated-pair (λ j. pair-of (getD (s .changes) j no-change)) (s .count) p t in
+    rw (w .2) (record { in-slots = F .slots-fit (w .0) (w .1); in-row = F .values-fit (w .0) (w .1) })
+
+module _ (rs : List Rule) (width : ℕ) (S : List ℕ) (I : List Pair) where
+  abbrev ours : List ℕ
+  ours = response strict rs S I
+
+  abbrev C : Pairs
+  C = changes rs I ours
+
+  -- A conflict, or the answer.
+  pub ending-conflict : conflict-slot width row C < width → ending rs width S I ≡ refused 40 (conflict-slot width row C)
+  unfolding ending settled
+  ending-conflict h = rw (lt-ltb (conflict-slot width row C) width h) refl
+
+  pub ending-answer : width ≤ conflict-slot width row C → ending rs width S I ≡ taken (answer-of width (length rs) S C ours)
+  unfolding ending settled
+  ending-answer h = rw (le-ltb (conflict-slot width row C) width h) refl
+
+-- The card of so many values in their places has them.
+pub card-values : (width : ℕ) (xs : List ℕ) → length xs ≡ width → values-of (record { values = filled slot-limit 0 xs; count = width }) ≡ xs
+unfolding values-of
+card-values width xs l = sym (is-tabulate (λ i. getD (filled slot-limit 0 xs) i 0) width 0 xs l (λ i h. sym (filled-at slot-limit 0 xs i)))
+
+-- The new card by places is that by the card's values.
+pub new-card-same : (width : ℕ) (D E : Pairs) (values S : List ℕ) → D ≡ E → SameCard values S → new-card width row D values ≡ new-card width row E S
+unfolding SameCard new-card new-value
+new-card-same width D E values S e same = rw e (ap (λ (f : ℕ → ℕ). tabulate f width) (fun-ext (λ s. ap (λ (v : ℕ). cond (is-changed row E s) (value-in row E s) v) (same s))))
+
+pub new-card-length : (width : ℕ) (D : Pairs) (S : List ℕ) → length (new-card width row D S) ≡ width
+unfolding new-card
+new-card-length width D S = tabulate-length (new-value row D S) width
+
+-- Its values fit into 4 bits where those of the card do.
+pub new-value-fits : (width : ℕ) (D : Pairs) (S : List ℕ) → ((i : ℕ) → i < width → getD S i 0 < 16) → (i : ℕ) → i < width → getD (new-card width row D S) i 0 < 16
+unfolding new-card new-value is-changed
+new-value-fits width D S fits i h = rw (tabulate-at (new-value row D S) width i 0 h) (⊎-elim
+    (λ x. rw (le-ltb (value-in row D i) row x) (fits i h)) (λ x. rw (lt-ltb (value-in row D i) row x) x) (le-or-lt row (value-in row D i)))
+
+-- The card that is written fits.
+pub next-fits : (width : ℕ) (xs : List ℕ) → width ≤ slot-limit → length xs ≡ width → ((i : ℕ) → i < width → getD xs i 0 < 16) → CardFits (record { values = filled slot-limit 0 xs; count = width })
+next-fits width xs few l fits = record { few = few; values-fit = λ i h. rw (filled-at slot-limit 0 xs i) (fits i h) }
+
+-- The bounds of a pair that goes into a slip.
+abbrev in-bounds : Pair → Bool
+in-bounds p = ltb (p .slot) slot-limit ∧ᵇ ltb (p .value) row
+
+slip-bounded : (D : Pairs) (w : ℕ) → w ≤ slot-limit → T (all-of in-bounds (changes-slip w row D))
+unfolding changes-slip all-of is-changed
+slip-bounded D zero h = tt
+slip-bounded D (suc w) h =
+    rw (all-append in-bounds (changes-slip w row D) (cond (ltb (value-in row D w) row) (pair w (value-in row D w) ∷ []) [])) (and-i _ _ (slip-bounded D w (omega arith)) last)
+  where
+    last : T (all-of in-bounds (cond (ltb (value-in row D w) row) (pair w (value-in row D w) ∷ []) []))
+    last = ⊎-elim (λ x. rw (le-ltb (value-in row D w) row x) tt)
+        (λ x. rw (lt-ltb (value-in row D w) row x) (and-i (in-bounds (pair w (value-in row D w))) true (and-i (ltb w slot-limit) (ltb (value-in row D w) row) (rw (lt-ltb w slot-limit (omega arith)) tt) (rw (lt-ltb (value-in row D w) row x) tt)) tt))
+        (le-or-lt row (value-in row D w))
+
+slip-few : (D : Pairs) (w : ℕ) → length (changes-slip w row D) ≤ w
+unfolding changes-slip is-changed
+slip-few D zero = omega arith
+slip-few D (suc w) = ⊎-elim
+    (λ x. rw (le-ltb (value-in row D w) row x, length-append (changes-slip w row D) []) (omega (arith, slip-few D w)))
+    (λ x. rw (lt-ltb (value-in row D w) row x, length-append (changes-slip w row D) (pair w (value-in row D w) ∷ [])) (omega (arith, slip-few D w)))
+    (le-or-lt row (value-in row D w))
+
+-- The changes of a slip made of pairs are the pairs.
+pub slip-changes : (ps : List Pair) → changes-of (slip-of ps) ≡ ps
+unfolding changes-of slip-of
+slip-changes ps =
+    sym (is-tabulate (λ j. pair-of (getD (filled slot-limit no-change (map change-of ps)) j no-change)) (length ps) (pair 0 0) ps refl
+    (λ j h. sym (ap pair-of (filled-at slot-limit no-change (map change-of ps) j ∙ List·getD-map change-of ps j (pair 0 0)))))
+
+-- The slip that is written fits, and 37 bytes hold it.
+module _ (D : Pairs) (width : ℕ) (few : width ≤ slot-limit) where
+  abbrev ps : List Pair
+  ps = changes-slip width row D
+
+  bound : (j : ℕ) → j < length ps → (getD ps j (pair 0 0) .slot < slot-limit) × (getD ps j (pair 0 0) .value < row)
+  bound j h =
+      let b = all-e in-bounds ps (pair 0 0) (slip-bounded D width few) j h in
+      (ltb→lt (getD ps j (pair 0 0) .slot) slot-limit (and-l (ltb (getD ps j (pair 0 0) .slot) slot-limit) _ b), ltb→lt (getD ps j (pair 0 0) .value) row (and-r (ltb (getD ps j (pair 0 0) .slot) slot-limit) _ b))
+
+  change-at : (j : ℕ) → j < length ps → getD (slip-of ps .changes) j no-change ≡ change-of (getD ps j (pair 0 0))
+  unfolding slip-of
+  change-at j h = filled-at slot-limit no-change (map change-of ps) j ∙ List·getD-map change-of ps j (pair 0 0)
+
+  slip-count : slip-of ps .count ≡ length ps
+  unfolding slip-of
+  slip-count = refl
+
+  pub listed-fits : SlipFits (slip-of ps)
+  listed-fits = record {
+    few = omega (arith, slip-count, slip-few D width, few);
+    slots-fit = λ j h. let k : j < length ps = omega (arith, h, slip-count) in rw (change-at j k) (bound j k .0);
+    values-fit = λ j h. let k : j < length ps = omega (arith, h, slip-count) in rw (change-at j k) (bound j k .1);
+  }
+
+  pub listed-room : byte-count (slip-width (slip-of ps .count)) ≤ 37
+  listed-room = omega (arith, slip-count, slip-few D width, few)
+
+-- The record of the flags is that of the rules fired.
+pub record-same : (ns : List ℕ) (ran : List Bool) (count : ℕ) → ran ≡ tabulate (λ i. names ns (suc i)) rule-limit → count ≤ rule-limit → firing.fired-record ran count ≡ fired-record count ns
+unfolding firing.fired-record fired-bits fired-record
+record-same ns ran count e h =
+    rw e (ap pack (is-tabulate (λ i. names ns (suc i)) count false (tabulate (λ i. getD (tabulate (λ k. names ns (suc k)) rule-limit) i false) count)
+    (tabulate-length (λ i. getD (tabulate (λ k. names ns (suc k)) rule-limit) i false) count)
+    (λ i l. tabulate-at (λ i. getD (tabulate (λ k. names ns (suc k)) rule-limit) i false) count i false l ∙ tabulate-at (λ k. names ns (suc k)) rule-limit i false (omega (arith, l, h)))))
+
+-- The record takes the bytes that its bits fill.
+record-length : (ran : List Bool) (count : ℕ) → length (firing.fired-record ran count) ≡ byte-count count
+unfolding firing.fired-record fired-bits
+record-length ran count = pack-length (tabulate (λ i. getD ran i false) count) ∙ ap (λ (k : ℕ). byte-count k) (tabulate-length (λ i. getD ran i false) count)
+
+-- An output with the record at its front has room for it.
+pub record-there : (ran : List Bool) (count : ℕ) (c c′ : List ℕ) → c′ ≡ firing.fired-record ran count ++ drop (byte-count count) c → byte-count count ≤ length c′
+record-there ran count c c′ e = rw (e, length-append (firing.fired-record ran count) (drop (byte-count count) c), record-length ran count) (omega arith)
+
+-- Written to the front of an output, bytes of so great a length.
+front-is : (ys out : List ℕ) (n : ℕ) → length ys ≡ n → ys ++ drop n out ≡ written ys out
+front-is ys out n e = rw e refl
+
+-- What the code leaves where no slot is in conflict.
+module _ (t : Table) (card : Card) (slip : Slip) (O : InOrder t card slip) (sh : Shaped t) (g : Firing)
+    (fires : g ≡ firing-of t (card .values) (add-pairs (changes-of slip) (replicate pair-places false))) where
+  abbrev fired-in-order : List ℕ
+  fired-in-order = response strict (rules-of t) (values-of card) (changes-of slip)
+
+  abbrev ends-with : Pairs
+  ends-with = changes (rules-of t) (changes-of slip) fired-in-order
+
+  pub same-changes : set-of (g .changes) ≡ ends-with
+  same-changes = fired-changes t (O .fireable) sh (card .values) (values-of card) (changes-of slip) (values-same card (O .rest-empty)) (slip-placed slip (O .slip-fits)) g fires
+
+  same-rules : g .fired ≡ tabulate (λ i. names fired-in-order (suc i)) rule-limit
+  same-rules = fired-rules t (O .fireable) sh (card .values) (values-of card) (changes-of slip) (values-same card (O .rest-empty)) (slip-placed slip (O .slip-fits)) g fires
+
+  few-rules : t .count ≤ rule-limit
+  few-rules = O .fireable .fits .rules-fit
+
+  counted-rules : length (rules-of t) ≡ t .count
+  counted-rules = rules-length t (omega (arith, few-rules, sh .rule-places))
+
+  -- 40 leaves the outputs.
+  pub conflict-ends : (slot : ℕ) (o : Outputs) → slot ≡ conflict-slot (t .width) row (set-of (g .changes)) → slot < t .width
+      → Ends (ending (rules-of t) (t .width) (values-of card) (changes-of slip)) (Refused 40 slot) o o
+  unfolding outcome-of outputs-after
+  conflict-ends slot o e h =
+      let w : slot ≡ conflict-slot (t .width) row ends-with = e ∙ ap (conflict-slot (t .width) row) same-changes in
+      rw (ending-conflict (rules-of t) (t .width) (values-of card) (changes-of slip) (omega (arith, w, h)), w) (refl, refl)
+
+  -- The new card in its places, and its values.
+  pub next-values : values-of (record { values = new-places (t .width) (g .changes) (card .values); count = t .width }) ≡ new-card (t .width) row ends-with (values-of card)
+  unfolding new-places
+  next-values =
+      card-values (t .width) (new-card (t .width) row (set-of (g .changes)) (card .values)) (new-card-length (t .width) (set-of (g .changes)) (card .values))
+      ∙ new-card-same (t .width) (set-of (g .changes)) ends-with (card .values) (values-of card) same-changes (values-same card (O .rest-empty))
+
+  pub next-in-order : CardFits (record { values = new-places (t .width) (g .changes) (card .values); count = t .width })
+  unfolding new-places
+  next-in-order =
+      next-fits (t .width) (new-card (t .width) row (set-of (g .changes)) (card .values)) (O .few-slots) (new-card-length (t .width) (set-of (g .changes)) (card .values))
+      (new-value-fits (t .width) (set-of (g .changes)) (card .values) (λ i h. O .card-fits .values-fit i (omega (arith, h, O .same-width))))
+
+  -- The answer is written.
+  pub answer-ends : (slot n m : ℕ) (a b c a′ b′ c′ : List ℕ) → slot ≡ conflict-slot (t .width) row (set-of (g .changes)) → t .width ≤ slot
+      → a′ ≡ card-bytes (values-of (record { values = new-places (t .width) (g .changes) (card .values); count = t .width })) ++ drop (byte-count (card-width (t .width))) a
+      → (s : Slip) → s ≡ slip-of (changes-slip (t .width) row (set-of (g .changes)))
+      → n ≡ byte-count (slip-width (s .count)) → b′ ≡ slip-bytes (changes-of s) ++ drop (byte-count (slip-width (s .count))) b
+      → c′ ≡ firing.fired-record (g .fired) (t .count) ++ drop (byte-count (t .count)) c → m ≡ ones-in (take (byte-count (t .count)) c′)
+      → Ends (ending (rules-of t) (t .width) (values-of card) (changes-of slip)) (Answered n m) (outputs a b c) (outputs a′ b′ c′)
+  unfolding outcome-of outputs-after answer-of
+  answer-ends slot n m a b c a′ b′ c′ e h ea s es en eb ec em =
+      let w : slot ≡ conflict-slot (t .width) row ends-with = e ∙ ap (conflict-slot (t .width) row) same-changes in
+      let x = ending-answer (rules-of t) (t .width) (values-of card) (changes-of slip) (omega (arith, w, h)) in
+      rw x (ap₂ (λ (i j : ℕ). Answered i j) (en ∙ changes-size) (em ∙ ap ones-in fired-front), λ i. outputs (card-part i) (changes-part i) (fired-part i))
+    where
+      listed : changes-of s ≡ changes-slip (t .width) row ends-with
+      listed = ap changes-of es ∙ slip-changes (changes-slip (t .width) row (set-of (g .changes))) ∙ ap (changes-slip (t .width) row) same-changes
+
+      size : s .count ≡ length (changes-slip (t .width) row ends-with)
+      size = sym (slip-length s) ∙ ap length listed
+
+      changes-size : byte-count (slip-width (s .count)) ≡ length (slip-bytes (changes-slip (t .width) row ends-with))
+      changes-size = ap (λ (k : ℕ). byte-count (slip-width k)) size ∙ sym (slip-bytes-length (changes-slip (t .width) row ends-with))
+
+      record-is : firing.fired-record (g .fired) (t .count) ≡ fired-record (length (rules-of t)) fired-in-order
+      record-is = record-same fired-in-order (g .fired) (t .count) same-rules few-rules ∙ ap (λ (k : ℕ). fired-record k fired-in-order) (sym counted-rules)
+
+      record-size : length (firing.fired-record (g .fired) (t .count)) ≡ byte-count (t .count)
+      record-size = record-length (g .fired) (t .count)
+
+      fired-front : take (byte-count (t .count)) c′ ≡ fired-record (length (rules-of t)) fired-in-order
+      fired-front =
+          ap (take (byte-count (t .count))) ec ∙ ap (λ (k : ℕ). take k (firing.fired-record (g .fired) (t .count) ++ drop (byte-count (t .count)) c)) (sym record-size)
+          ∙ take-append-seam (firing.fired-record (g .fired) (t .count)) (drop (byte-count (t .count)) c) ∙ record-is
+
+      card-part : a′ ≡ written (card-bytes (new-card (t .width) row ends-with (values-of card))) a
+      card-part =
+          ea ∙ ap (λ (vs : List ℕ). card-bytes vs ++ drop (byte-count (card-width (t .width))) a) next-values
+          ∙ front-is (card-bytes (new-card (t .width) row ends-with (values-of card))) a (byte-count (card-width (t .width)))
+          (card-bytes-length (new-card (t .width) row ends-with (values-of card)) ∙ ap (λ (k : ℕ). byte-count (card-width k)) (new-card-length (t .width) ends-with (values-of card)))
+
+      changes-part : b′ ≡ written (slip-bytes (changes-slip (t .width) row ends-with)) b
+      changes-part =
+          eb ∙ ap (λ (ps : List Pair). slip-bytes ps ++ drop (byte-count (slip-width (s .count))) b) listed
+          ∙ front-is (slip-bytes (changes-slip (t .width) row ends-with)) b (byte-count (slip-width (s .count))) (sym changes-size)
+
+      fired-part : c′ ≡ written (fired-record (length (rules-of t)) fired-in-order) c
+      fired-part =
+          ec ∙ front-is (firing.fired-record (g .fired) (t .count)) c (byte-count (t .count)) record-size ∙ ap (λ (ys : List ℕ). written ys c) record-is

@@ -1,0 +1,5 @@
+pub mod TallyLaws
+pub mod SlipLaws
+pub mod Fired
+pub mod AnswerLaws
+pub mod RespondLaws

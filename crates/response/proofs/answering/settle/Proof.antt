@@ -1,0 +1,142 @@
+-- `response::answering::settle` meets its contract.
+-- Assumes nothing.
+use mathlib.Core.Path.{_≡_, sym, ap, _∙_}
+use mathlib.Core.Bool.{false}
+use mathlib.Core.List.{List, _++_}
+use Prim.Native.Nat.{ℕ}
+use lib.ListN.{take, drop, replicate}
+use lib.Seq.{length-take-le}
+use Rattle.table.specs.Shape.{Shaped}
+use Rattle.table.specs.Limits.{pair-places}
+use Rattle.laws.specs.Packed.{byte-count}
+use Rattle.table.specs.Flat.{set-of, add-pairs}
+use Rattle.table.proofs.Shape.{shaped}
+use Rattle.cards.specs.Forms.{card-width, card-bytes}
+use Rattle.cards.specs.Cards.{values-of, changes-of}
+use Rattle.firing.specs.Record.{ones-in}
+use Rattle.firing.specs.Firing.{firing-of}
+use Rattle.response.proofs.AnswerLaws.{conflict-ends, next-in-order, listed-fits, listed-room, record-there, answer-ends}
+use native.Mathlib.Omega.{arith}
+use borrow.Author.Needs.{needs}
+use Rattle.response.proofs.answering.settle.Statement.{statement}
+use Rattle.response.proofs.answering.settle.Tie as tie
+
+-- Where the function starts, and the shape of the table that it takes.
+abbrev start : tie.After-fire → tie.Start
+start f = f .before .before .before .before .before .before .before
+
+shape : (s : tie.Start) → Shaped (s .args .t)
+shape s = shaped (s .args .t) _ (s .good .0)
+
+-- What fires, from the slip's flags.
+fires : (f : tie.After-fire) → f .fire .result ≡ firing-of (start f .args .t) (start f .args .card .values) (add-pairs (changes-of (start f .args .slip)) (replicate pair-places false))
+fires f = f .fire .ensures ∙ ap (firing-of (start f .args .t) (start f .args .card .values)) (f .before .before .flags-of .ensures)
+
+-- The firing that came before each place.
+abbrev by-card : tie.After-write-card-arg → tie.After-fire
+by-card c = c .before .before .before .before .before .before .before .before .before
+
+abbrev by-slip : tie.After-write-slip-arg → tie.After-fire
+by-slip c = by-card (c .before .before .before .before .before .before)
+
+abbrev by-record : tie.After-record-of-arg → tie.After-fire
+by-record c = by-slip (c .before .before .before .before .before)
+
+abbrev by-size : tie.After-slice-known6 → tie.After-fire
+by-size c = by-record (c .before .before .before)
+
+flags-of-requires : tie.Need-flags-of-requires
+flags-of-requires c κs = search needs
+
+fire-requires : tie.Need-fire-requires
+fire-requires c κs = search needs
+
+conflict-slot-requires : tie.Need-conflict-slot-requires
+conflict-slot-requires c κs = search needs
+
+returns : tie.Need-returns
+returns c =
+    let f = c .before .before .before .before in
+    let s = start f in
+    conflict-ends (s .args .t) (s .args .card) (s .args .slip) (s .pre .0) (shape s) (f .fire .result) (fires f) (c .before .conflict-slot .result) _ (c .before .conflict-slot .ensures) (c .if1 .taken)
+
+new-values-requires : tie.Need-new-values-requires
+new-values-requires c κs = search needs
+
+write-card-requires : tie.Need-write-card-requires
+write-card-requires c κs =
+    let f = by-card c in
+    let s = start f in
+    (rw (c .before .new-values .ensures) (next-in-order (s .args .t) (s .args .card) (s .args .slip) (s .pre .0) (shape s) (f .fire .result) (fires f)), s .pre .1 .card-room)
+
+slip-of-requires : tie.Need-slip-of-requires
+slip-of-requires c κs = search needs
+
+write-slip-requires : tie.Need-write-slip-requires
+write-slip-requires c κs =
+    let s = start (by-slip c) in
+    rw (c .before .slip-of .ensures) (listed-fits _ (s .args .t .width) (s .pre .0 .few-slots), omega (arith, listed-room (set-of (by-slip c .fire .result .changes)) (s .args .t .width) (s .pre .0 .few-slots), s .pre .1 .changes-there))
+
+record-of-requires : tie.Need-record-of-requires
+record-of-requires c κs = let s = start (by-record c) in (s .pre .0 .fireable .fits .rules-fit, s .pre .1 .fired-room)
+
+bytes-for-requires : tie.Need-bytes-for-requires
+bytes-for-requires c κs = omega (arith, start (by-size c) .pre .0 .fireable .fits .rules-fit)
+
+-- The record stands at the front of its output.
+room : tie.Need-slice-reshare-prefix-count-fired
+room c = rw (c .bytes-for .ensures) (record-there _ _ _ _ (c .before .before .before .record-of .ensures))
+
+slice-reshare-prefix-count-fired : tie.Need-slice-reshare-prefix-count-fired
+slice-reshare-prefix-count-fired c = room c
+
+slice-aggregate-count-fired : tie.Need-slice-aggregate-count-fired
+slice-aggregate-count-fired c = sym (length-take-le (c .before .bytes-for .result) _ (room (c .before)))
+
+count-fired-requires : tie.Need-count-fired-requires
+count-fired-requires c κs = rw (length-take-le (c .before .bytes-for .result) _ (room (c .before))) (omega (arith, c .before .bytes-for .ensures, start (by-size (c .before .before)) .pre .0 .fireable .fits .rules-fit))
+
+same-length : tie.Need-same-length
+same-length c = search needs
+
+same-length-2 : tie.Need-same-length-2
+same-length-2 c = search needs
+
+same-length-3 : tie.Need-same-length-3
+same-length-3 c = search needs
+
+returns-2 : tie.Need-returns-2
+returns-2 c =
+    let k = c .before .before .before in
+    let r = k .before .before .before in
+    let l = r .before .before .before .before .before in
+    let a = l .before .before .before .before .before .before in
+    let f = by-card a in
+    let s = start f in
+    answer-ends (s .args .t) (s .args .card) (s .args .slip) (s .pre .0) (shape s) (f .fire .result) (fires f) _ _ _ _ _ _ _ _ _ (a .before .before .before .before .before .before .conflict-slot .ensures) (a .before .before .before .before .before .if1 .left)
+    (l .before .before .before .before .before .write-card .ensures .1
+    ∙ ap (λ (vs : List ℕ). card-bytes (values-of (record { values = vs; count = s .args .t .width })) ++ drop (byte-count (card-width (s .args .t .width))) (s .args .renewed .now)) (a .before .new-values .ensures))
+    (l .before .slip-of .result) (l .before .slip-of .ensures) (r .before .before .before .before .write-slip .ensures .0) (r .before .before .before .before .write-slip .ensures .1) (k .before .before .record-of .ensures)
+    (c .count-fired .ensures ∙ ap (λ (n : ℕ). ones-in (take n (k .before .before .record-of .last .1 .1 .0))) (c .before .before .bytes-for .ensures))
+
+pub settle-spec : {M : Type 1} → statement M
+settle-spec =
+    tie.close
+    (tie.spec
+    flags-of-requires
+    fire-requires
+    conflict-slot-requires
+    returns
+    new-values-requires
+    write-card-requires
+    slip-of-requires
+    write-slip-requires
+    record-of-requires
+    bytes-for-requires
+    slice-reshare-prefix-count-fired
+    slice-aggregate-count-fired
+    count-fired-requires
+    same-length
+    same-length-2
+    same-length-3
+    returns-2)

@@ -1,0 +1,22 @@
+-- `response::counting::is_full` meets its contract.
+-- Assumes nothing.
+use mathlib.Core.Path.{sym}
+use Rattle.response.proofs.TallyLaws.{full-answered, full-refused, not-full}
+use native.Mathlib.Omega.{arith}
+use borrow.Author.Needs.{needs}
+use Rattle.response.proofs.counting.is_full.Statement.{statement}
+use Rattle.response.proofs.counting.is_full.Tie as tie
+use Rattle.response.proofs.counting.is_full.Reads as reads
+use Rattle.response.proofs.counting.is_full.Lts as lts
+
+returns : tie.Need-returns
+returns c = sym (full-answered _ (c .if1 .taken))
+
+returns-2 : tie.Need-returns-2
+returns-2 c = sym (full-refused _ (search needs) (c .if2 .taken))
+
+returns-3 : tie.Need-returns-3
+returns-3 c = sym (not-full _ (search needs) (c .if2 .left))
+
+pub is-full-spec : {M : Type 1} → statement M
+is-full-spec = tie.close (tie.spec returns returns-2 returns-3)

@@ -1,0 +1,120 @@
+-- The response to a slip: document 01, 'Order of a response: 32, 31, 20 to 28, 30, 40. Each of these but 32 adds one to slips refused; an answer adds one to slips answered.'
+use Prim.Native.Nat.{ℕ, _+_}
+use mathlib.Core.Path.{_≡_}
+use mathlib.Core.Bool.{Bool, cond}
+use mathlib.Core.List.{List, _++_}
+use lib.Dec.{leb, ltb}
+use lib.ListN.{length, drop}
+use Rattle.laws.specs.Truth.{_∨ᵇ_}
+use Rattle.laws.specs.Packed.{byte-count}
+use Rattle.model.specs.Rules.{Pair, Rule}
+use Rattle.table.specs.declared.Table.{Table}
+use Rattle.table.specs.Link.{rules-of, value-counts}
+use Rattle.strata.specs.Sound.{sound}
+use Rattle.cards.specs.Answers.{Taking, taken, refused}
+use Rattle.cards.specs.Forms.{card-width, read-card, read-slip}
+use Rattle.response.specs.declared.Tally.{Tally}
+use Rattle.response.specs.declared.Outcome.{Outcome}
+use Rattle.response.specs.declared.Outcome.the-variants.{Answered, Refused}
+use Rattle.response.specs.declared.Response.{Response}
+use Rattle.firing.specs.Record.{ones-in}
+use Rattle.response.specs.Ending.{Answer, ending}
+
+-- First one thing is taken, then another by it; a refusal stays.
+infixl 20 _then_
+unfoldable pub _then_ : {A B : Type 0} → Taking A → (A → Taking B) → Taking B
+taken a then f = f a
+refused k s then f = refused k s
+
+-- The lengths of the three outputs.
+pub record Rooms : Type 0 where
+  pub for-card : ℕ
+  pub for-changes : ℕ
+  pub for-fired : ℕ
+
+-- The most that changes take: 32 of them.
+abbrev pub changes-room : ℕ
+changes-room = 37
+
+-- 30: an output too short for so many slots and rules, 1 the card, 2 the changes, 3 the fired record; the first short one is named.
+unfoldable pub if-room : {A : Type 0} → ℕ → ℕ → Rooms → Taking A → Taking A
+if-room width count rooms u =
+    cond (ltb (rooms .for-card) (byte-count (card-width width))) (refused 30 1)
+    (cond (ltb (rooms .for-changes) changes-room) (refused 30 2) (cond (ltb (rooms .for-fired) (byte-count count)) (refused 30 3) u))
+
+-- By rules over slots of so many values each: 20 to 28, 30, then the response.
+unfoldable pub responded : List ℕ → List Rule → List ℕ → List ℕ → Rooms → Taking Answer
+responded counts rs card slip rooms =
+    read-card counts card then λ S.
+    read-slip counts slip then λ I.
+    if-room (length counts) (length rs) rooms (ending rs (length counts) S I)
+
+-- 31 before them.
+unfoldable pub worked : Table → List ℕ → List ℕ → Rooms → Taking Answer
+worked t card slip rooms = cond (sound t) (responded (value-counts t) (rules-of t) card slip rooms) (refused 31 0)
+
+-- 32: either tally at 9,999 or above.
+unfoldable pub is-full : Tally → Bool
+is-full y = leb 9999 (y .answered) ∨ᵇ leb 9999 (y .refused)
+
+-- 32 before all.
+unfoldable pub respond-to : Table → Tally → List ℕ → List ℕ → Rooms → Taking Answer
+respond-to t y card slip rooms = cond (is-full y) (refused 32 0) (worked t card slip rooms)
+
+-- The outcome: an answer says the length of the changes and how many rules fired.
+unfoldable pub outcome-of : Taking Answer → Outcome
+outcome-of (taken a) = Answered (length (a .changes)) (ones-in (a .fired))
+outcome-of (refused k s) = Refused k s
+
+-- One slip more answered, or one more refused.
+abbrev pub one-answered : Tally → Tally
+one-answered y = record { answered = y .answered + 1; refused = y .refused }
+
+abbrev pub one-refused : Tally → Tally
+one-refused y = record { answered = y .answered; refused = y .refused + 1 }
+
+unfoldable pub counted : Tally → Taking Answer → Tally
+counted y (taken a) = one-answered y
+counted y (refused k s) = one-refused y
+
+-- The tally after a response: 32 is not counted.
+unfoldable pub tally-after : Tally → Taking Answer → Tally
+tally-after y u = cond (is-full y) y (counted y u)
+
+-- The response.
+unfoldable pub response-to : Table → Tally → List ℕ → List ℕ → Rooms → Response
+response-to t y card slip rooms = record { outcome = outcome-of (respond-to t y card slip rooms); tally = tally-after y (respond-to t y card slip rooms) }
+
+-- The contents of the three outputs, and their lengths.
+pub record Outputs : Type 0 where
+  pub card : List ℕ
+  pub changes : List ℕ
+  pub fired : List ℕ
+
+abbrev pub outputs : List ℕ → List ℕ → List ℕ → Outputs
+outputs a b c = record { card = a; changes = b; fired = c }
+
+abbrev pub rooms-of : List ℕ → List ℕ → List ℕ → Rooms
+rooms-of a b c = record { for-card = length a; for-changes = length b; for-fired = length c }
+
+-- An output once bytes are written to its front: what stands beyond them stays.
+abbrev pub written : List ℕ → List ℕ → List ℕ
+written ys out = ys ++ drop (length ys) out
+
+-- The outputs after a response: an answer is written, a refusal leaves all.
+unfoldable pub outputs-after : Taking Answer → Outputs → Outputs
+outputs-after (taken a) o = outputs (written (a .new-card) (o .card)) (written (a .changes) (o .changes)) (written (a .fired) (o .fired))
+outputs-after (refused k s) o = o
+
+-- What a function that works out a response leaves: its outcome, and the outputs.
+abbrev pub Ends : Taking Answer → Outcome → Outputs → Outputs → Type 0
+Ends u r before after = (r ≡ outcome-of u) × (after ≡ outputs-after u before)
+
+-- The number of a refusal, 0 for none, and its second number.
+abbrev pub refusal-number : Outcome → ℕ
+refusal-number (Answered n f) = 0
+refusal-number (Refused k s) = k
+
+abbrev pub second-number : Outcome → ℕ
+second-number (Answered n f) = 0
+second-number (Refused k s) = s

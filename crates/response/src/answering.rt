@@ -1,0 +1,88 @@
+// The answer to a card and a slip that are in order. These are not entry points: table, card, slip and outputs were tested before.
+ghost use lib.ListN.{length};
+ghost use Rattle.table.specs.Link.{rules-of};
+ghost use Rattle.cards.specs.Cards.{values-of, changes-of};
+ghost use Rattle.response.specs.Ending.{ending};
+ghost use Rattle.response.specs.Respond.{outputs, rooms-of, if-room, Ends};
+ghost use Rattle.response.specs.InOrder.{InOrder, HasRoom};
+use crate::Outcome;
+use crate::slips::flags_of;
+use crate::slips::slip_of;
+use cards::Card;
+use cards::Slip;
+use cards::fields::bytes_for;
+use cards::pack::write_card;
+use cards::pack::write_slip;
+use firing::Firing;
+use firing::ending::conflict_slot;
+use firing::ending::new_values;
+use firing::records::count_fired;
+use firing::records::record_of;
+use table::Table;
+
+// Fires the rules and writes the answer; a conflict writes nothing.
+fn settle(
+    t: Table,
+    card: Card,
+    slip: Slip,
+    renewed: &mut [u8],
+    changes: &mut [u8],
+    fired: &mut [u8],
+) -> Outcome
+    requires { ⌜ InOrder t card slip × HasRoom (t .width) (t .count) (rooms-of (now renewed) (now changes) (now fired)) ⌝ }
+    ensures { λ r. ⌜ Ends (ending (rules-of t) (t .width) (values-of card) (changes-of slip)) r
+        (outputs (now (renewed .entry)) (now (changes .entry)) (now (fired .entry))) (outputs (now (renewed .exit)) (now (changes .exit)) (now (fired .exit))) ⌝ }
+{
+    let width = t.width;
+    let count = t.count;
+    let values = card.values;
+    let flags = flags_of(slip);
+    let firing = firing::fire(t, &values, flags);
+    let ended = firing.changes;
+    let slot = conflict_slot(&ended, width);
+    if slot < width {
+        return Outcome::Refused(40, slot);
+    }
+    let ran = firing.fired;
+    let next = Card {
+        values: new_values(&values, &ended, width),
+        count: width,
+    };
+    write_card(next, renewed);
+    let listed = slip_of(&ended, width);
+    let length = write_slip(listed, changes);
+    record_of(&ran, count, fired);
+    let size = bytes_for(count);
+    let total = count_fired(&fired[..size]);
+    Outcome::Answered(length, total)
+}
+
+// The bytes that 32 changes take.
+const CHANGES: usize = 37;
+
+// 30 with the first output that is too short, 1 the card, 2 the changes, 3 the fired record; else the answer.
+pub fn finish(
+    t: Table,
+    card: Card,
+    slip: Slip,
+    renewed: &mut [u8],
+    changes: &mut [u8],
+    fired: &mut [u8],
+) -> Outcome
+    requires { ⌜ InOrder t card slip ⌝ }
+    ensures { λ r. ⌜ Ends (if-room (t .width) (length (rules-of t)) (rooms-of (now (renewed .entry)) (now (changes .entry)) (now (fired .entry))) (ending (rules-of t) (t .width) (values-of card) (changes-of slip))) r
+        (outputs (now (renewed .entry)) (now (changes .entry)) (now (fired .entry))) (outputs (now (renewed .exit)) (now (changes .exit)) (now (fired .exit))) ⌝ }
+{
+    let width = t.width;
+    let count = t.count;
+    if renewed.len() < bytes_for(6 + 4 * width) {
+        return Outcome::Refused(30, 1);
+    }
+    if changes.len() < CHANGES {
+        return Outcome::Refused(30, 2);
+    }
+    if fired.len() < bytes_for(count) {
+        return Outcome::Refused(30, 3);
+    }
+    settle(t, card, slip, renewed, changes, fired)
+}

@@ -1,0 +1,127 @@
+//! The stored cases of the project's program: three files for each, one of which may be missing, and what the program prints.
+
+use crate::cards::{card_bytes, slip_bytes};
+use crate::listing::listing;
+
+const SLOTS: &str = "SLOT x {0,1}; SLOT y {0,1}; SLOT z {0,1};";
+const A: &str = "WHEN x *= 1 IF y |= 0 THEN z := 1;";
+const B: &str = "WHEN z *= 1 IF y |= 0 THEN y := 1;";
+const C: &str = "WHEN z *= 1 IF y |= 0 THEN x := 1;";
+const D: &str = "WHEN y *= 1 IF NOT x *= 1 THEN z := 1;";
+const E: &str = "WHEN y *= 1 IF x |= 0 THEN x := 1;";
+const H: &str = "WHEN x *= 1 IF TRUE THEN x := 0;";
+
+/// The card on which the three slots are 0, and the slips that change x or y to 1.
+const ZEROS: [u8; 3] = [0x0C, 0x44, 0x40];
+const X_TO_1: [u8; 2] = [0x04, 0x04];
+const Y_TO_1: [u8; 2] = [0x04, 0x24];
+
+/// The files of a case, in the order in which the program opens them; none for a file that is not there.
+pub struct Case {
+    pub files: [Option<Vec<u8>>; 3],
+}
+
+/// The names of the files.
+pub const NAMES: [&str; 3] = ["rules.txt", "card.bin", "slip.bin"];
+
+/// A case with all its files.
+fn case(text: &str, card: &[u8], slip: &[u8]) -> Case {
+    Case { files: [Some(text.as_bytes().to_vec()), Some(card.to_vec()), Some(slip.to_vec())] }
+}
+
+/// A case over the slots x, y and z.
+fn rules(rules: &[&str], card: &[u8], slip: &[u8]) -> Case {
+    case(&format!("{SLOTS} {}", rules.join(" ")), card, slip)
+}
+
+/// The lettered cases.
+fn lettered() -> Vec<Case> {
+    vec![
+        rules(&[A], &ZEROS, &X_TO_1),
+        rules(&[B], &ZEROS, &X_TO_1),
+        rules(&[A, B], &ZEROS, &X_TO_1),
+        rules(&[A, C], &ZEROS, &X_TO_1),
+        rules(&[D, E], &ZEROS, &Y_TO_1),
+        rules(&[A, B], &[0x0C, 0, 0], &X_TO_1),
+        rules(&[A], &ZEROS, &slip_bytes(&[(0, 1)])),
+        rules(&[H], &ZEROS, &X_TO_1),
+        rules(&["WHEN x *= 1 IF TRUE AND y |= 0 THEN z := 1;"], &ZEROS, &X_TO_1),
+        rules(&["WHEN x *= 1 IF y |= 0 AND TRUE THEN z := 1;"], &ZEROS, &X_TO_1),
+        rules(&[A, B], &[0x0C, 0x44, 0xC0], &X_TO_1),
+        rules(&[A, B], &[0x0C, 0x44, 0x41], &X_TO_1),
+    ]
+}
+
+/// The limits of a text, each kept and broken.
+fn limits() -> Vec<Case> {
+    let named = |size: usize| case(&format!("SLOT {} {{v}};", "n".repeat(size)), &card_bytes(&[0]), &slip_bytes(&[(0, 1)]));
+    let many = |count: usize| rules(&vec![A; count], &ZEROS, &X_TO_1);
+    let tests = |count: usize| {
+        let rule = format!("WHEN x *= 1 IF {} THEN z := 1;", vec!["y |= 0"; count].join(" AND "));
+        rules(&[&rule], &ZEROS, &X_TO_1)
+    };
+    let long = |size: usize| case(&" ".repeat(size), &[0], &[0]);
+    let pairs = [named(24), named(25), many(255), many(256), tests(8), tests(9), long(65_535), long(65_536)];
+    pairs.into_iter().chain([rules(&["("], &ZEROS, &X_TO_1), case("", &[0], &[0])]).collect()
+}
+
+/// Every refusal of a card and of a slip, and the longest that their counts allow.
+fn entries() -> Vec<Case> {
+    let cards: [&[u8]; 6] = [&[], &[0x0C, 0x44], &[0x08, 0x44], &[0xFC], &[0x0C, 0x44, 0x40, 0], &[0x0C, 0xC4, 0x41]];
+    let longest = [vec![0xFC], vec![0; 32]].concat();
+    let slips: [&[u8]; 5] = [&[], &[0x04], &[0x00, 0x00], &[0x04, 0x05], &[0x04, 0x00]];
+    let changes: [&[(u8, u8)]; 6] =
+        [&[], &[(3, 1)], &[(1, 1), (1, 1)], &[(1, 1), (0, 1)], &[(0, 3)], &[(0, 2), (1, 2), (2, 2)]];
+    let by_card = cards.iter().map(|card| rules(&[A, B], card, &X_TO_1));
+    let by_slip = slips.iter().map(|slip| rules(&[A, B], &ZEROS, slip));
+    let by_changes = changes.iter().map(|changes| rules(&[A, B], &ZEROS, &slip_bytes(changes)));
+    let slip_of_63 = [vec![0xFC], vec![0; 71]].concat();
+    let ends = [rules(&[A, B], &longest, &X_TO_1), rules(&[A, B], &ZEROS, &slip_of_63)];
+    by_card.chain(by_slip).chain(by_changes).chain(ends).collect()
+}
+
+/// Files that are not there: the first of them in the order of opening is named.
+fn missing() -> Vec<Case> {
+    let without = |gone: &[usize]| {
+        let mut case = rules(&[A, B], &ZEROS, &X_TO_1);
+        gone.iter().for_each(|at| case.files[*at] = None);
+        case
+    };
+    vec![without(&[0]), without(&[1]), without(&[2]), without(&[1, 2]), without(&[0, 1, 2])]
+}
+
+/// The example of a dialect dictionary: an undated slot stays undated, and a word last heard before 1800 is labelled.
+fn dialect() -> Case {
+    let folder = std::path::Path::new(env!("CARGO_MANIFEST_DIR")).join("../../examples/dialect");
+    Case { files: NAMES.map(|name| std::fs::read(folder.join(name)).ok()) }
+}
+
+/// All stored cases.
+pub fn cases() -> Vec<Case> {
+    let mut cases = lettered();
+    cases.extend(limits());
+    cases.extend(entries());
+    cases.extend(missing());
+    cases.push(dialect());
+    cases
+}
+
+/// The folder of a case.
+pub fn folder(at: usize) -> String {
+    format!("c{at:02}")
+}
+
+/// What the program prints for a case; a name is shown with its folder.
+fn printed(at: usize, case: &Case) -> String {
+    let absent = case.files.iter().zip(NAMES).find(|(file, _)| file.is_none());
+    match (absent, &case.files) {
+        (Some((_, name)), _) => format!("unread {}/{name}\n", folder(at)),
+        (None, [Some(text), Some(card), Some(slip)]) => listing(text, card, slip),
+        (None, _) => unreachable!("no file is absent"),
+    }
+}
+
+/// The output over all cases.
+pub fn output() -> String {
+    cases().iter().enumerate().map(|(at, case)| format!("case {at}\n{}", printed(at, case))).collect()
+}
