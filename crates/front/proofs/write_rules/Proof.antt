@@ -1,0 +1,35 @@
+-- `write_rules` is safe and ends.
+-- Assumes nothing.
+use Prim.Native.Nat.{_-_}
+use borrow.Author.Needs.{needs}
+use Rattle.front.proofs.write_rules.Statement.{statement}
+use Rattle.front.proofs.write_rules.Tie as tie
+
+abbrev Inv-loop : tie.InvT-loop
+Inv-loop t «record» i₀ i = Unit
+
+abbrev μ-loop : tie.MeasureT-loop
+μ-loop t «record» i₀ i = 255 - i
+
+loop-holds : tie.Need-loop-holds Inv-loop μ-loop
+loop-holds c = search needs
+
+write-rule-requires : tie.Need-write-rule-requires Inv-loop μ-loop
+write-rule-requires c κs = search needs
+
+add-i : tie.Need-add-i Inv-loop μ-loop
+add-i c = search needs
+
+loop-less : tie.Need-loop-less Inv-loop μ-loop
+loop-less c = search needs
+
+loop-again : tie.Need-loop-again Inv-loop μ-loop
+loop-again c = search needs
+
+returns : tie.Need-returns Inv-loop μ-loop
+returns c = search needs
+
+pub write-rules-spec : {M : Type 1} → statement M
+write-rules-spec =
+    tie.close
+    (tie.spec Inv-loop μ-loop loop-holds write-rule-requires add-i loop-less loop-again returns)

@@ -1,0 +1,4 @@
+// The program: the response to slip.bin on card.bin by rules.txt.
+fn main() {
+    front::run_on(b"rules.txt", b"card.bin", b"slip.bin");
+}
