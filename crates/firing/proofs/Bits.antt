@@ -14,6 +14,7 @@ use Rattle.laws.specs.Below.{count-below}
 use Rattle.laws.specs.Numbers.{tally}
 use Rattle.laws.specs.Tabulated.{tabulate}
 use Rattle.laws.specs.Packed.{number-of, byte-count, byte-at, pack}
+use Rattle.laws.proofs.Packed.{number-lt}
 use Rattle.laws.proofs.Counted.{count-over}
 use Rattle.laws.proofs.Tabulated.{tabulate-length, tabulate-at}
 use Rattle.laws.proofs.Fronts.{tabulate-next}
@@ -36,15 +37,6 @@ number-next (a ∷ bs) b =
     go true = omega arith
     go false = omega arith
 
-pub number-small : (bs : List Bool) → number-of bs < 2 ^ length bs
-unfolding number-of
-number-small [] = omega arith
-number-small (b ∷ bs) = omega (arith, pow-suc 2 (length bs), number-small bs, top b)
-  where
-    top : (b : Bool) → cond b (2 ^ length bs) 0 ≤ 2 ^ length bs
-    top true = omega arith
-    top false = omega arith
-
 pow-top : (d j : ℕ) → j + d ≡ 7 → 2 ^ j ≤ 128
 pow-top zero j e = let z : j ≡ 7 = omega arith in rw z (omega arith)
 pow-top (suc d) j e = omega (arith, pow-suc 2 j, pow-top d (suc j) (omega arith))
@@ -64,7 +56,7 @@ until-next bs k j = rw (add-one j, tabulate-next (λ i. getD bs (8 * k + i) fals
 pub until-half : (bs : List Bool) (k j : ℕ) → j < 8 → bits-until bs k j < 128
 unfolding bits-until
 until-half bs k j h =
-    omega (arith, rw (tabulate-length (λ i. getD bs (8 * k + i) false) j) at (number-small (tabulate (λ i. getD bs (8 * k + i) false) j)), pow-top (7 - j) j (omega arith))
+    omega (arith, rw (tabulate-length (λ i. getD bs (8 * k + i) false) j) at (number-lt (tabulate (λ i. getD bs (8 * k + i) false) j)), pow-top (7 - j) j (omega arith))
 
 pub until-end : (bs : List Bool) (k : ℕ) → bits-until bs k 8 ≡ byte-at bs k
 unfolding bits-until byte-at

@@ -38,8 +38,9 @@ use Rattle.cards.specs.declared.Change.{Change}
 use Rattle.cards.specs.declared.Slip.{Slip}
 use Rattle.cards.specs.Answers.{Taking, taken, refused}
 use Rattle.cards.specs.Forms.{card-width, slip-width, card-bytes, slip-bytes}
-use Rattle.cards.specs.Cards.{CardFits, SlipFits, no-change, pair-of, change-of, values-of, changes-of, slip-of}
+use Rattle.cards.specs.Cards.{CardFits, SlipFits, no-change, pair-of, change-of, values-of, changes-of, card-of, slip-of}
 use Rattle.cards.proofs.Formed.{slip-length}
+use Rattle.cards.proofs.EntryTrips.{card-of-values, slip-of-changes}
 use Rattle.cards.proofs.Written.{card-bytes-length, slip-bytes-length}
 use Rattle.firing.specs.declared.Firing.{Firing}
 use Rattle.firing.specs.Firing.{firing-of}
@@ -90,8 +91,8 @@ module _ (rs : List Rule) (width : ℕ) (S : List ℕ) (I : List Pair) where
 
 -- The card of so many values in their places has them.
 pub card-values : (width : ℕ) (xs : List ℕ) → length xs ≡ width → values-of (record { values = filled slot-limit 0 xs; count = width }) ≡ xs
-unfolding values-of
-card-values width xs l = sym (is-tabulate (λ i. getD (filled slot-limit 0 xs) i 0) width 0 xs l (λ i h. sym (filled-at slot-limit 0 xs i)))
+unfolding card-of
+card-values width xs l = ap (λ (n : ℕ). values-of (record { values = filled slot-limit 0 xs; count = n })) (sym l) ∙ card-of-values xs
 
 -- The new card by places is that by the card's values.
 pub new-card-same : (width : ℕ) (D E : Pairs) (values S : List ℕ) → D ≡ E → SameCard values S → new-card width row D values ≡ new-card width row E S
@@ -134,13 +135,6 @@ slip-few D (suc w) = ⊎-elim
     (λ x. rw (le-ltb (value-in row D w) row x, length-append (changes-slip w row D) []) (omega (arith, slip-few D w)))
     (λ x. rw (lt-ltb (value-in row D w) row x, length-append (changes-slip w row D) (pair w (value-in row D w) ∷ [])) (omega (arith, slip-few D w)))
     (le-or-lt row (value-in row D w))
-
--- The changes of a slip made of pairs are the pairs.
-pub slip-changes : (ps : List Pair) → changes-of (slip-of ps) ≡ ps
-unfolding changes-of slip-of
-slip-changes ps =
-    sym (is-tabulate (λ j. pair-of (getD (filled slot-limit no-change (map change-of ps)) j no-change)) (length ps) (pair 0 0) ps refl
-    (λ j h. sym (ap pair-of (filled-at slot-limit no-change (map change-of ps) j ∙ List·getD-map change-of ps j (pair 0 0)))))
 
 -- The slip that is written fits, and 37 bytes hold it.
 module _ (D : Pairs) (width : ℕ) (few : width ≤ slot-limit) where
@@ -247,7 +241,7 @@ module _ (t : Table) (card : Card) (slip : Slip) (O : InOrder t card slip) (sh :
       rw x (ap₂ (λ (i j : ℕ). Answered i j) (en ∙ changes-size) (em ∙ ap ones-in fired-front), λ i. outputs (card-part i) (changes-part i) (fired-part i))
     where
       listed : changes-of s ≡ changes-slip (t .width) row ends-with
-      listed = ap changes-of es ∙ slip-changes (changes-slip (t .width) row (set-of (g .changes))) ∙ ap (changes-slip (t .width) row) same-changes
+      listed = ap changes-of es ∙ slip-of-changes (changes-slip (t .width) row (set-of (g .changes))) ∙ ap (changes-slip (t .width) row) same-changes
 
       size : s .count ≡ length (changes-slip (t .width) row ends-with)
       size = sym (slip-length s) ∙ ap length listed

@@ -2,36 +2,34 @@
 -- Assumes nothing.
 use mathlib.Core.Path.{_≡_, refl, sym, ap, _∙_}
 use mathlib.Core.Bool.{Bool, true, false, cond}
-use mathlib.Core.List.{List, map}
+use mathlib.Core.List.{List}
 use mathlib.Core.Logic.{⊎-elim}
 use Prim.Native.Nat.{ℕ, _≤_, _<_}
 use native.Mathlib.Omega.{arith}
 use lib.Dec.{T}
-use lib.ListN.{length, getD, List·getD-map, List·getD-eq-default}
+use lib.ListN.{length, getD, List·getD-eq-default}
 use borrow.Author.Tests.{lt-ltb, le-ltb}
 use Rattle.laws.specs.Filled.{filled}
 use Rattle.laws.specs.Packed.{byte-count}
 use Rattle.laws.proofs.Fronts.{filled-at}
 use Rattle.model.specs.Rules.{Pair, Rule}
-use Rattle.model.proofs.Pairs.{among-at}
 use Rattle.table.specs.declared.Table.{Table}
 use Rattle.table.specs.Limits.{slot-limit}
 use Rattle.table.specs.Shape.{Shaped}
 use Rattle.table.specs.Link.{rules-of, value-counts}
-use Rattle.table.proofs.Link.{counts-length, count-is}
 use Rattle.strata.specs.Sound.{sound}
-use Rattle.strata.proofs.Sound.{sound-width, sound-values}
+use Rattle.strata.proofs.Sound.{sound-width}
 use Rattle.cards.specs.declared.Outcome.the-variants.{Accepted, Refused}
 use Rattle.cards.specs.declared.Card.{Card}
 use Rattle.cards.specs.declared.Slip.{Slip}
 use Rattle.cards.specs.declared.CardRead.{CardRead}
 use Rattle.cards.specs.declared.SlipRead.{SlipRead}
-use Rattle.cards.specs.Answers.{passed, Taking, taken, refused}
-use Rattle.cards.specs.Forms.{card-width, slip-test, read-card, read-slip}
-use Rattle.cards.specs.Cards.{CardFits, SlipFits, no-change, change-of, card-of, slip-of, card-read, slip-read}
-use Rattle.cards.proofs.Tested.{no-pair}
-use Rattle.cards.proofs.Passed.{values-pass, card-pass}
-use Rattle.cards.proofs.Having.{Has, tested-has, tested-few, card-tested, slip-tested}
+use Rattle.cards.specs.Answers.{Taking, taken, refused}
+use Rattle.cards.specs.Forms.{card-width, card-test, slip-test, read-card, read-slip}
+use Rattle.cards.specs.Cards.{CardFits, SlipFits, card-of, slip-of, card-read, slip-read}
+use Rattle.cards.proofs.Passed.{slots-length, sound-slots, card-pass, card-fits, slip-fits}
+use Rattle.cards.proofs.EntryTrips.{card-of-values, slip-of-changes}
+use Rattle.cards.proofs.Having.{tested-few, card-tested, slip-tested}
 use Rattle.firing.proofs.Responses.{sound-fireable}
 use Rattle.response.specs.declared.Tally.{Tally}
 use Rattle.response.specs.declared.Outcome.{Outcome}
@@ -110,43 +108,21 @@ module _ (width count : ℕ) (rooms : Rooms) (u : Taking Answer) where
   room-enough a b c = rw (le-ltb (rooms .for-card) (byte-count (card-width width)) a, le-ltb (rooms .for-changes) changes-room b, le-ltb (rooms .for-fired) (byte-count count) c) refl
 
 module _ (t : Table) (sh : Shaped t) (e : sound t ≡ true) where
-  -- The table's counts: one for each slot, 15 at most.
-  widths : length (value-counts t) ≡ t .width
-  widths = counts-length t (omega (arith, sound-width t e, sh .slot-places))
-
-  count-small : (i : ℕ) → i < t .width → getD (value-counts t) i 0 ≤ 15
-  count-small i h = rw (count-is t i h) (sound-values t sh e i h .1)
-
   -- A card that is taken, in its places.
   card-in-order : (card S : List ℕ) → read-card (value-counts t) card ≡ taken S → (length S ≡ t .width) × CardFits (card-of S) × ((s : ℕ) → card-of S .count ≤ s → getD (card-of S .values) s 0 ≡ 0)
   unfolding card-of
   card-in-order card S r =
-      let c = card-pass (value-counts t) S (card-tested (value-counts t) card S r) in
-      let l : length S ≡ t .width = c .0 ∙ widths in (
-        l,
-        record {
-          few = omega (arith, l, sound-width t e);
-          values-fit = λ i h. rw (filled-at slot-limit 0 S i) (omega (arith, values-pass 0 (value-counts t) S (c .1) i (omega (arith, h, c .0)) h, count-small i (omega (arith, h, l))));
-        },
-        λ s h. filled-at slot-limit 0 S s ∙ List·getD-eq-default S 0 h,
-      )
+      let p = card-tested (value-counts t) card S r in
+      (card-pass (value-counts t) S p .0 ∙ slots-length t sh e,
+      card-fits (value-counts t) (card-of S) (sound-slots t sh e) (ap (card-test (value-counts t)) (card-of-values S) ∙ p),
+      λ s h. filled-at slot-limit 0 S s ∙ List·getD-eq-default S 0 h)
 
   -- A slip that is taken, in its places.
   slip-in-order : (slip : List ℕ) (I : List Pair) → read-slip (value-counts t) slip ≡ taken I → SlipFits (slip-of I)
   unfolding slip-of
   slip-in-order slip I r =
       let p = slip-tested (value-counts t) slip I r in
-      record {
-        few = omega (arith, tested-few (value-counts t) 0 0 I p (omega arith), widths, sound-width t e);
-        slots-fit = λ j h. rw (placed j h) (omega (arith, has p j h .below, widths, sound-width t e));
-        values-fit = λ j h. rw (placed j h) (omega (arith, has p j h .last, count-small (getD I j no-pair .slot) (omega (arith, has p j h .below, widths))));
-      }
-    where
-      placed : (j : ℕ) → j < length I → getD (filled slot-limit no-change (map change-of I)) j no-change ≡ change-of (getD I j no-pair)
-      placed j h = filled-at slot-limit no-change (map change-of I) j ∙ List·getD-map change-of I j no-pair
-
-      has : slip-test (value-counts t) I ≡ passed → (j : ℕ) → j < length I → Has (value-counts t) (getD I j no-pair)
-      has p j h = tested-has (value-counts t) 0 0 I p (getD I j no-pair) (among-at I j no-pair h)
+      slip-fits (value-counts t) (slip-of I) (sound-slots t sh e) (omega (arith, tested-few (value-counts t) 0 0 I p (omega arith), slots-length t sh e, sound-width t e)) (ap (slip-test (value-counts t)) (slip-of-changes I) ∙ p)
 
   -- Together they are in order.
   both-in-order : (card slip S : List ℕ) (I : List Pair) → read-card (value-counts t) card ≡ taken S → read-slip (value-counts t) slip ≡ taken I → InOrder t (card-of S) (slip-of I)

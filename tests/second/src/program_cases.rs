@@ -3,18 +3,19 @@
 use crate::cards::{card_bytes, slip_bytes};
 use crate::listing::listing;
 
-const SLOTS: &str = "SLOT x {0,1}; SLOT y {0,1}; SLOT z {0,1};";
-const A: &str = "WHEN x *= 1 IF y |= 0 THEN z := 1;";
-const B: &str = "WHEN z *= 1 IF y |= 0 THEN y := 1;";
-const C: &str = "WHEN z *= 1 IF y |= 0 THEN x := 1;";
-const D: &str = "WHEN y *= 1 IF NOT x *= 1 THEN z := 1;";
-const E: &str = "WHEN y *= 1 IF x |= 0 THEN x := 1;";
-const H: &str = "WHEN x *= 1 IF TRUE THEN x := 0;";
+/// The slots of the lettered cases, and their rules.
+pub const SLOTS: &str = "SLOT x {0,1}; SLOT y {0,1}; SLOT z {0,1};";
+pub const A: &str = "WHEN x *= 1 IF y |= 0 THEN z := 1;";
+pub const B: &str = "WHEN z *= 1 IF y |= 0 THEN y := 1;";
+pub const C: &str = "WHEN z *= 1 IF y |= 0 THEN x := 1;";
+pub const D: &str = "WHEN y *= 1 IF NOT x *= 1 THEN z := 1;";
+pub const E: &str = "WHEN y *= 1 IF x |= 0 THEN x := 1;";
+pub const H: &str = "WHEN x *= 1 IF TRUE THEN x := 0;";
 
 /// The card on which the three slots are 0, and the slips that change x or y to 1.
-const ZEROS: [u8; 3] = [0x0C, 0x44, 0x40];
-const X_TO_1: [u8; 2] = [0x04, 0x04];
-const Y_TO_1: [u8; 2] = [0x04, 0x24];
+pub const ZEROS: [u8; 3] = [0x0C, 0x44, 0x40];
+pub const X_TO_1: [u8; 2] = [0x04, 0x04];
+pub const Y_TO_1: [u8; 2] = [0x04, 0x24];
 
 /// The files of a case, in the order in which the program opens them; none for a file that is not there.
 pub struct Case {

@@ -4,26 +4,11 @@ use second::cards::{unpack_card, unpack_slip};
 use second::engine::{Engine, Second};
 use second::firing_checks::{given, Given};
 use second::listing::listing;
+use second::program_cases::{A, B, C, D, E, SLOTS, X_TO_1, Y_TO_1, ZEROS};
 use second::read::read;
 use second::response::fired_count;
 use second::table31::tested;
 use second::{refusal, Refusal};
-
-const SLOTS: &str = "SLOT x {0,1}; SLOT y {0,1}; SLOT z {0,1};";
-const A: &str = "WHEN x *= 1 IF y |= 0 THEN z := 1;";
-const B: &str = "WHEN z *= 1 IF y |= 0 THEN y := 1;";
-const C: &str = "WHEN z *= 1 IF y |= 0 THEN x := 1;";
-const D: &str = "WHEN y *= 1 IF NOT x *= 1 THEN z := 1;";
-const E: &str = "WHEN y *= 1 IF x |= 0 THEN x := 1;";
-
-/// The card on which all three slots are 0.
-const ZEROS: [u8; 3] = [0x0C, 0x44, 0x40];
-
-/// The slip that changes x to 1.
-const X_TO_1: [u8; 2] = [0x04, 0x04];
-
-/// The slip that changes y to 1: count 1, slot 1, value 2.
-const Y_TO_1: [u8; 2] = [0x04, 0x24];
 
 /// The text of the three slots and some rules.
 fn text(rules: &[&str]) -> Vec<u8> {
