@@ -6,7 +6,7 @@ use native.Mathlib.Numerals.{add-one}
 use mathlib.Core.Path.{_≡_, refl, sym, ap, _∙_}
 use mathlib.Core.List.{List, [], _∷_, _++_, append-assoc}
 use lib.ListN.{length, getD, length-append, take, drop, set, replicate, length-set, length-replicate, take-append-drop}
-use lib.Seq.{drop-cons, length-take-le, take-suc-set, take-append-seam}
+use lib.Seq.{length-take-le, take-suc-set, take-append-seam}
 use Rattle.laws.specs.Filled.{filled, Filled}
 
 -- No place is used.

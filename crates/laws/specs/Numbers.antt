@@ -1,6 +1,6 @@
 -- Tests over the numbers 1 to k: one that passes, the lowest that passes, how many pass; and sums.
 use Prim.Native.Nat.{ℕ, zero, suc, _+_, _≤_}
-use mathlib.Core.Bool.{Bool, true, false, cond}
+use mathlib.Core.Bool.{Bool, false, cond}
 use Rattle.laws.specs.Truth.{_∨ᵇ_}
 
 -- `n` is one of the numbers 1 to `count`.

@@ -1,18 +1,18 @@
 -- Laws of the reading of conditions.
 -- Assumes nothing.
-use Prim.Native.Nat.{ℕ, zero, suc, _+_, _-_, _≤_, _<_}
+use Prim.Native.Nat.{ℕ, _+_, _-_, _<_}
 use native.Mathlib.Omega.{arith}
-use mathlib.Core.Path.{_≡_, refl, sym, ap, _∙_}
-use mathlib.Core.Bool.{Bool, true, false, cond}
+use mathlib.Core.Path.{_≡_, refl, ap, _∙_}
+use mathlib.Core.Bool.{false}
 use mathlib.Core.List.{List, [], _∷_, _++_, map}
-use lib.ListN.{length, take, drop, set}
+use lib.ListN.{take, set}
 use borrow.Author.Tests.{eq-eqb, ne-eqb}
 use types.Run.{OneOf, miss}
 use denote.Enum.Declared.{tagOf}
 use Rattle.laws.specs.Filled.{Filled}
 use Rattle.laws.proofs.Filled.{filled-used}
 use Rattle.laws.proofs.Lists.{map-append}
-use Rattle.text.specs.Tokens.{Token, word, name, NOT, AND, THEN, TRUE}
+use Rattle.text.specs.Tokens.{Token, word, NOT, AND, THEN, TRUE}
 use Rattle.text.specs.declared.Token as code
 use Rattle.text.specs.declared.Token.the-variants as v
 use Rattle.text.proofs.Token as kinds
@@ -21,7 +21,7 @@ use Rattle.table.specs.Link.{literal-of}
 use Rattle.table.specs.Shape as shape
 use Rattle.table.specs.declared.Literal.{Literal}
 use Rattle.grammar.specs.Files.{Slot}
-use Rattle.grammar.specs.Reading.{Part, took, stop, expects, fork, read-literal, no-literal, read-literals, read-condition}
+use Rattle.grammar.specs.Reading.{took, stop, expects, fork, read-literal, no-literal, read-literals, read-condition}
 use Rattle.grammar.specs.Limits.{max-literals}
 use Rattle.reader.specs.Places.{fault-of, shown-past, which, one, other, neither}
 use Rattle.reader.proofs.Places.{follow, fork-which, next-is, next-not}

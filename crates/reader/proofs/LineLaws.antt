@@ -11,7 +11,7 @@ use Rattle.grammar.specs.Limits.{max-values}
 use Rattle.grammar.specs.Files.{Slot, spellings, slot-names}
 use Rattle.grammar.specs.Reading.{Part, took, stop, _then_, expects, a-name, new, new-name, no-value, read-list, read-values, read-line}
 use Rattle.table.specs.Limits.{value-limit}
-use Rattle.reader.specs.Places.{Choice, which, step-part, Step-lies}
+use Rattle.reader.specs.Places.{Choice, which, step-part}
 use Rattle.reader.specs.Spans.{Span-lies}
 use Rattle.reader.specs.Index.{span-name, span-names}
 use Rattle.reader.specs.Lines.{span-limit, Remainder, outcome-part, read-head, Values-lie, Line-lies}

@@ -1,10 +1,10 @@
 -- Laws of the reading of lists, one part at a time.
 -- Assumes nothing.
-use Prim.Native.Nat.{ℕ, zero, suc}
-use mathlib.Core.Path.{_≡_, refl, ap, _∙_}
+use Prim.Native.Nat.{ℕ, suc}
+use mathlib.Core.Path.{_≡_, ap, _∙_}
 use mathlib.Core.List.{List, [], _∷_, _++_}
 use Rattle.text.specs.Tokens.{Token}
-use Rattle.grammar.specs.Reading.{Part, took, stop, _then_, fork, read-list}
+use Rattle.grammar.specs.Reading.{Part, took, stop, _then_, read-list}
 use Rattle.reader.specs.Places.{which, one, other, neither}
 use Rattle.reader.proofs.Places.{follow, fork-which}
 

@@ -1,14 +1,14 @@
 -- The token at a position of the remainder, and what each kind of token means to a step.
 -- Assumes nothing.
-use Prim.Native.Nat.{ℕ, _+_, _≤_, _<_}
+use Prim.Native.Nat.{ℕ, _+_, _≤_}
 use native.Mathlib.Omega.{arith}
 use mathlib.Core.Path.{_≡_, refl, sym, ap, subst, _∙_}
 use mathlib.Core.Bool.{Bool, true, false, cond}
 use mathlib.Core.List.{List, [], _∷_, map}
 use lib.Dec.{eqb}
-use lib.ListN.{length, take, drop}
+use lib.ListN.{length, drop}
 use borrow.Author.Tests.{eq-eqb, ne-eqb}
-use Rattle.text.specs.Tokens.{Name, Token, word, name, long, bad, tokens-from}
+use Rattle.text.specs.Tokens.{Name, Token, word, name, long, bad}
 use Rattle.text.specs.Next.{next-at, tokens-at, shown, Lies}
 use Rattle.text.specs.declared.Next.{Next}
 use Rattle.text.specs.declared.Token as code
@@ -19,7 +19,7 @@ use denote.Enum.Declared.{tagOf}
 use Rattle.text.proofs.Cut.{moved, tokens-moved}
 use Rattle.text.proofs.Position.{tokens-next, next-lies}
 use Rattle.grammar.specs.Reading.{Part, took, stop, expects, fork, a-name, begins-with, if-next}
-use Rattle.reader.specs.Places.{fault-of, tokens-past, name-past, shown-past, Choice, one, other, neither, which, Step-lies}
+use Rattle.reader.specs.Places.{fault-of, tokens-past, shown-past, Choice, one, other, neither, which, Step-lies}
 use Rattle.reader.specs.declared.step.Step.{Step}
 use Rattle.reader.specs.declared.step.Step.the-variants as step
 

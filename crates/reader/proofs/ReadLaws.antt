@@ -1,20 +1,19 @@
 -- What the reading keeps from one statement to the next.
 -- Assumes nothing.
-use Prim.Native.Nat.{ℕ, zero, suc, _+_, _*_, _-_, _≤_, _<_}
+use Prim.Native.Nat.{ℕ, _+_, _*_, _-_, _≤_, _<_}
 use native.Mathlib.Omega.{arith}
-use mathlib.Core.Path.{_≡_, refl, sym, ap, ap₂, subst, _∙_}
-use mathlib.Core.List.{List, [], _∷_, _++_, map}
+use mathlib.Core.Path.{_≡_, sym, ap, subst, _∙_}
+use mathlib.Core.List.{List, [], _∷_, _++_}
 use lib.ListN.{length, take, drop, set, replicate, length-drop}
 use lib.Seq.{take-all, sets}
 use borrow.Author.Tests.{le-leb, lt-leb}
-use Rattle.laws.specs.Filled.{filled}
 use Rattle.text.specs.Tokens.{tokens, tokens-from}
 use Rattle.model.specs.Rules as model
-use Rattle.grammar.specs.Limits.{max-text, max-slots}
+use Rattle.grammar.specs.Limits.{max-text}
 use Rattle.grammar.specs.Files.{Slot, File}
 use Rattle.grammar.specs.Reading.{Answer, accepted, refused, read, read-tokens, read-lines}
 use Rattle.table.specs.Limits.{slot-limit, rule-limit, pair-places, row}
-use Rattle.table.specs.Empty.{unused-rule, unused-slot, empty-table}
+use Rattle.table.specs.Empty.{empty-table}
 use Rattle.table.specs.Link.{rule-of}
 use Rattle.table.specs.declared.Rule.{Rule}
 use Rattle.table.specs.declared.Table.{Table}

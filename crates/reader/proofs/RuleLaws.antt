@@ -1,9 +1,9 @@
 -- Laws of the reading of rules.
 -- Assumes nothing.
 use Prim.Native.Nat.{ℕ}
-use mathlib.Core.Path.{_≡_, refl, sym, ap, _∙_}
-use mathlib.Core.List.{List, [], _∷_}
-use Rattle.text.specs.Tokens.{Token, WHEN, IF, THEN, BECOMES, SEMICOLON}
+use mathlib.Core.Path.{_≡_, refl, _∙_}
+use mathlib.Core.List.{List}
+use Rattle.text.specs.Tokens.{Token, WHEN, IF, BECOMES, SEMICOLON}
 use Rattle.model.specs.Rules.{Pair, Literal, Rule}
 use Rattle.grammar.specs.Files.{Slot}
 use Rattle.grammar.specs.Reading.{Part, took, stop, _then_, expects, read-slot, read-value, read-condition, read-assign, read-rule}

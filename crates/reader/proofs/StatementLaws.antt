@@ -2,15 +2,15 @@
 -- Assumes nothing.
 use Prim.Native.Nat.{ℕ, zero, suc, _+_, _-_, _≤_, _<_}
 use native.Mathlib.Omega.{arith}
-use mathlib.Core.Path.{_≡_, refl, sym, ap, ap₂, _∙_}
-use mathlib.Core.Bool.{Bool, true, false}
+use mathlib.Core.Path.{_≡_, refl, ap, _∙_}
+use mathlib.Core.Bool.{true, false}
 use mathlib.Core.List.{List, [], _∷_, _++_}
 use lib.ListN.{length, length-append}
 use Rattle.text.specs.Tokens.{Token, SLOT, WHEN}
 use Rattle.model.specs.Rules.{Rule}
 use Rattle.grammar.specs.Limits.{max-slots, max-rules}
-use Rattle.grammar.specs.Files.{Slot, File}
-use Rattle.grammar.specs.Reading.{Part, took, stop, Answer, accepted, refused, begins-with, if-next, expects, go-on, read-line, read-rule, read-lines, read-rules}
+use Rattle.grammar.specs.Files.{Slot}
+use Rattle.grammar.specs.Reading.{took, stop, accepted, refused, begins-with, if-next, expects, go-on, read-line, read-rule, read-lines, read-rules}
 use types.Run.{OneOf, miss}
 use denote.Enum.Declared.{tagOf}
 use Rattle.text.specs.declared.Token as code

@@ -1,12 +1,12 @@
 -- Laws of the table that a reading gives.
 -- Assumes nothing.
-use Prim.Native.Nat.{ℕ, zero, suc, _+_, _≤_, _<_}
+use Prim.Native.Nat.{ℕ, _+_, _<_}
 use native.Mathlib.Omega.{arith}
-use mathlib.Core.Path.{_≡_, refl, sym, ap, ap₂, _∙_}
+use mathlib.Core.Path.{_≡_, refl, sym, ap, _∙_}
 use mathlib.Core.List.{List, [], _∷_, _++_, map}
-use lib.ListN.{length, length-append, length-map, take, set, replicate}
+use lib.ListN.{length, length-append, length-map, take, set}
 use lib.Seq.{length-take-le}
-use Rattle.laws.specs.Filled.{filled, Filled}
+use Rattle.laws.specs.Filled.{filled}
 use Rattle.laws.proofs.Filled.{filled-is, filled-snoc}
 use Rattle.laws.proofs.Lists.{map-append}
 use Rattle.model.specs.Rules as model
@@ -19,7 +19,7 @@ use Rattle.table.specs.declared.Assignment.{Assignment}
 use Rattle.table.specs.declared.Rule.{Rule}
 use Rattle.table.specs.declared.Slot as slotted
 use Rattle.table.specs.declared.Table.{Table}
-use Rattle.grammar.specs.Files.{Slot, File}
+use Rattle.grammar.specs.Files.{Slot}
 use Rattle.reader.specs.Tables.{literal-for, rule-for, table-for}
 use Rattle.reader.specs.Index.{slot-for}
 use Rattle.reader.specs.Assignments.{assignment-for}

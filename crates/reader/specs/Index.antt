@@ -1,8 +1,8 @@
 -- The spans of the slots and values declared so far, and a slot as the table has it.
 use Prim.Native.Nat.{ℕ, _+_, _-_, _*_, _/_, _%_, _≤_, _<_}
 use mathlib.Core.Path.{_≡_}
-use mathlib.Core.List.{List, [], _∷_, _++_, map}
-use lib.ListN.{length, take, drop, replicate}
+use mathlib.Core.List.{List, [], _∷_, map}
+use lib.ListN.{length, take, drop}
 use Rattle.laws.specs.Filled.{filled}
 use Rattle.text.specs.Tokens.{Name}
 use Rattle.grammar.specs.Files.{Slot, slot-names, values-of}

@@ -1,6 +1,6 @@
 -- The table that a reading gives: document 01, 'Rule text'. Unused places are zero, a refused reading gives a table without slots or rules.
 use Prim.Native.Nat.{ℕ}
-use mathlib.Core.List.{List, map}
+use mathlib.Core.List.{map}
 use lib.ListN.{length}
 use Rattle.laws.specs.Filled.{filled}
 use Rattle.model.specs.Rules as model

@@ -4,7 +4,7 @@ use mathlib.Core.Path.{_≡_, refl, sym, ap, ap₂, fun-ext, _∙_}
 use mathlib.Core.Bool.{Bool, true, false, cond}
 use mathlib.Core.List.{List, [], _∷_, _++_, map}
 use mathlib.Core.Logic.{⊎-elim}
-use Prim.Native.Nat.{ℕ, suc, zero, _+_, _*_, _/_, _≤_, _<_}
+use Prim.Native.Nat.{ℕ, suc, zero, _+_, _≤_, _<_}
 use native.Mathlib.Omega.{arith}
 use lib.Dec.{T, ltb, ltb→lt}
 use lib.ListN.{length, getD, take, drop, replicate, length-append, List·getD-map, List·getD-eq-default}
@@ -31,12 +31,11 @@ use Rattle.table.specs.declared.Table.{Table}
 use Rattle.table.specs.Limits.{slot-limit, row, pair-places, rule-limit}
 use Rattle.table.specs.Shape.{Shaped}
 use Rattle.table.specs.Link.{rules-of}
-use Rattle.table.specs.Flat.{Placed, set-of, add-pairs}
+use Rattle.table.specs.Flat.{set-of, add-pairs}
 use Rattle.table.proofs.Link.{rules-length}
 use Rattle.cards.specs.declared.Card.{Card}
-use Rattle.cards.specs.declared.Change.{Change}
 use Rattle.cards.specs.declared.Slip.{Slip}
-use Rattle.cards.specs.Answers.{Taking, taken, refused}
+use Rattle.cards.specs.Answers.{taken, refused}
 use Rattle.cards.specs.Forms.{card-width, slip-width, card-bytes, slip-bytes}
 use Rattle.cards.specs.Cards.{CardFits, SlipFits, no-change, pair-of, change-of, values-of, changes-of, card-of, slip-of}
 use Rattle.cards.proofs.Formed.{slip-length}
@@ -47,7 +46,7 @@ use Rattle.firing.specs.Firing.{firing-of}
 use Rattle.firing.specs.Record.{fired-bits, ones-in}
 use Rattle.firing.specs.Record as firing
 use Rattle.firing.specs.Ending.{new-places}
-use Rattle.response.specs.Ending.{Answer, fired-record, answer-of, settled, ending}
+use Rattle.response.specs.Ending.{fired-record, answer-of, settled, ending}
 use Rattle.response.specs.declared.Outcome.the-variants.{Answered, Refused}
 use Rattle.response.specs.Respond.{Outputs, outputs, written, outcome-of, outputs-after, Ends}
 use Rattle.response.specs.InOrder.{InOrder}

@@ -7,7 +7,7 @@ use Prim.Native.Nat.{ℕ, suc}
 use lib.Dec.{T}
 use lib.ListN.{replicate, length-replicate}
 use Rattle.laws.specs.Tabulated.{tabulate}
-use Rattle.model.specs.Rules.{Pair, Pairs, among}
+use Rattle.model.specs.Rules.{Pair, among}
 use Rattle.model.specs.Orders.{names, changes}
 use Rattle.model.specs.Strata.{strict}
 use Rattle.model.specs.Response.{response}

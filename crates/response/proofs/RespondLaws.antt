@@ -1,15 +1,12 @@
 -- The tests of a response one after the other, and what they leave.
 -- Assumes nothing.
 use mathlib.Core.Path.{_≡_, refl, sym, ap, _∙_}
-use mathlib.Core.Bool.{Bool, true, false, cond}
+use mathlib.Core.Bool.{true, false}
 use mathlib.Core.List.{List}
-use mathlib.Core.Logic.{⊎-elim}
 use Prim.Native.Nat.{ℕ, _≤_, _<_}
 use native.Mathlib.Omega.{arith}
-use lib.Dec.{T}
 use lib.ListN.{length, getD, List·getD-eq-default}
 use borrow.Author.Tests.{lt-ltb, le-ltb}
-use Rattle.laws.specs.Filled.{filled}
 use Rattle.laws.specs.Packed.{byte-count}
 use Rattle.laws.proofs.Fronts.{filled-at}
 use Rattle.model.specs.Rules.{Pair, Rule}
@@ -112,10 +109,11 @@ module _ (t : Table) (sh : Shaped t) (e : sound t ≡ true) where
   card-in-order : (card S : List ℕ) → read-card (value-counts t) card ≡ taken S → (length S ≡ t .width) × CardFits (card-of S) × ((s : ℕ) → card-of S .count ≤ s → getD (card-of S .values) s 0 ≡ 0)
   unfolding card-of
   card-in-order card S r =
-      let p = card-tested (value-counts t) card S r in
-      (card-pass (value-counts t) S p .0 ∙ slots-length t sh e,
-      card-fits (value-counts t) (card-of S) (sound-slots t sh e) (ap (card-test (value-counts t)) (card-of-values S) ∙ p),
-      λ s h. filled-at slot-limit 0 S s ∙ List·getD-eq-default S 0 h)
+      let p = card-tested (value-counts t) card S r in (
+        card-pass (value-counts t) S p .0 ∙ slots-length t sh e,
+        card-fits (value-counts t) (card-of S) (sound-slots t sh e) (ap (card-test (value-counts t)) (card-of-values S) ∙ p),
+        λ s h. filled-at slot-limit 0 S s ∙ List·getD-eq-default S 0 h,
+      )
 
   -- A slip that is taken, in its places.
   slip-in-order : (slip : List ℕ) (I : List Pair) → read-slip (value-counts t) slip ≡ taken I → SlipFits (slip-of I)

@@ -7,7 +7,7 @@ use lib.Dec.{leb, ltb}
 use lib.ListN.{length, drop}
 use Rattle.laws.specs.Truth.{_∨ᵇ_}
 use Rattle.laws.specs.Packed.{byte-count}
-use Rattle.model.specs.Rules.{Pair, Rule}
+use Rattle.model.specs.Rules.{Rule}
 use Rattle.table.specs.declared.Table.{Table}
 use Rattle.table.specs.Link.{rules-of, value-counts}
 use Rattle.strata.specs.Sound.{sound}

@@ -1,10 +1,10 @@
 -- What the whole reading answers: accepted exactly where the text is a file whose rules have strata, and then with its table and the least strata; 18 exactly where the text is a file without strata.
 -- Assumes nothing.
-use mathlib.Core.Path.{_≡_, refl, sym, ap, subst, _∙_}
+use mathlib.Core.Path.{_≡_, refl, sym, ap, _∙_}
 use mathlib.Core.Bool.{Bool, true, false, cond}
 use mathlib.Core.List.{List}
 use mathlib.Core.Logic.{_↔_, ⊎-elim}
-use Prim.Native.Nat.{ℕ, _≤_, _<_}
+use Prim.Native.Nat.{ℕ, _≤_}
 use native.Mathlib.Omega.{arith}
 use lib.Dec.{T, eqb}
 use lib.ListN.{length}
@@ -12,15 +12,14 @@ use borrow.Author.Tests.{eqb-true, eqb-false, eq-eqb, ne-eqb}
 use Rattle.laws.specs.Numbers.{Numbered}
 use Rattle.model.specs.Rules as model
 use Rattle.model.specs.Strata.{strict, Strata}
-use Rattle.model.specs.Circles.{on-circle, circle-of}
+use Rattle.model.specs.Circles.{circle-of}
 use Rattle.model.specs.Least.{strata-of}
-use Rattle.model.proofs.Circles.{circle-lowest}
 use Rattle.model.proofs.Strata.{no-circle, no-strata, least-strata}
 use Rattle.table.specs.declared.Table.{Table}
 use Rattle.table.specs.Empty.{empty-table}
 use Rattle.table.specs.Fits.{TableFits}
 use Rattle.table.specs.Link.{rules-of, stratum-at, value-counts}
-use Rattle.text.specs.Tokens.{Token, tokens}
+use Rattle.text.specs.Tokens.{Token}
 use Rattle.grammar.specs.Files.{File}
 use Rattle.grammar.specs.Meaning.{Is-file}
 use Rattle.grammar.specs.Reading.{Answer, accepted, refused, read}

@@ -1,8 +1,8 @@
 -- The table of a file that is read: it has the file's rules, its places are full, and it is well-formed.
 -- Assumes nothing.
 use mathlib.Core.Path.{_≡_, refl, sym, ap, ap₂, _∙_}
-use mathlib.Core.Bool.{Bool, true, false}
-use mathlib.Core.List.{List, [], _∷_, _++_, map}
+use mathlib.Core.Bool.{Bool, false}
+use mathlib.Core.List.{List, [], _∷_, map}
 use Prim.Native.Nat.{ℕ, zero, suc, _≤_, _<_}
 use native.Mathlib.Omega.{arith}
 use lib.Dec.{T, leb, leb→le, le→leb}
@@ -17,23 +17,20 @@ use Rattle.laws.proofs.Filled.{filled-length, filled-front, filled-each}
 use Rattle.model.specs.Rules as model
 use Rattle.model.specs.Orders as orders
 use Rattle.table.specs.declared.Literal.{Literal}
-use Rattle.table.specs.declared.Assignment.{Assignment}
 use Rattle.table.specs.declared.Rule.{Rule}
 use Rattle.table.specs.declared.Slot.{Slot}
-use Rattle.table.specs.declared.Table.{Table}
 use Rattle.table.specs.Limits.{slot-limit, value-limit, rule-limit, literal-limit, assignment-limit}
 use Rattle.table.specs.Shape.{no-literal, no-assignment, no-rule, no-slot, no-name, LiteralShaped, AssignmentShaped, RuleShaped, SlotShaped, Shaped}
 use Rattle.table.specs.Empty.{unused-rule, unused-slot}
-use Rattle.table.specs.Link.{literal-of, assignment-of, rule-of, rules-of, used-rules, value-counts, slots-of}
-use Rattle.table.specs.Names.{has-slot, has-value}
+use Rattle.table.specs.Link.{literal-of, assignment-of, rule-of, rules-of, value-counts}
+use Rattle.table.specs.Names.{has-slot}
 use Rattle.table.proofs.Names.{slot-inside, value-inside}
 use Rattle.table.proofs.Link.{count-is}
 use lib.Seq.{getD-take}
 use Rattle.grammar.specs.Files as files
 use Rattle.grammar.specs.Files.{File}
-use Rattle.strata.specs.Sound.{has-pair, each-once, named, rule-right, well-formed}
-use Rattle.strata.proofs.WellFormed.{WellFormed, well-formed-i}
-use Rattle.strata.proofs.RuleTests.{pair-lacking, pair-there}
+use Rattle.strata.specs.Sound.{has-pair, named, rule-right, well-formed}
+use Rattle.strata.proofs.WellFormed.{well-formed-i}
 use Rattle.reader.specs.Index.{slot-for, name-for}
 use Rattle.reader.specs.Assignments.{assignment-for}
 use Rattle.reader.specs.Tables.{literal-for, rule-for, table-for}

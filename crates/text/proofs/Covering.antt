@@ -1,8 +1,8 @@
 -- The tokens of a text cover it but for white.
 -- Assumes nothing.
-use Prim.Native.Nat.{ℕ, zero, suc, _+_, _≤_, _<_}
+use Prim.Native.Nat.{ℕ, zero, suc, _+_, _≤_}
 use native.Mathlib.Omega.{arith}
-use mathlib.Core.Path.{_≡_, refl, sym, ap, subst, _∙_}
+use mathlib.Core.Path.{_≡_, refl, sym, subst}
 use mathlib.Core.Bool.{Bool, true, false, cond}
 use mathlib.Core.List.{List, [], _∷_, _++_}
 use lib.Dec.{eqb, ltb}
@@ -10,9 +10,9 @@ use lib.ListN.{length, take, drop, getD, length-drop, take-append-drop}
 use lib.Seq.{length-take-le}
 use borrow.Author.Tests.{eqb-true, eqb-false, ne-eqb, ltb-true}
 use Rattle.text.specs.Classes.{one-of, between, class-of}
-use Rattle.text.specs.Tokens.{Name, Token, word, name, long, bad, SEMICOLON, run, run-token, word-or-name, same-letters, one-further, place, reserved, mark-of, equals-first, token-here, more-bytes, unless-white, tokens-from, tokens}
+use Rattle.text.specs.Tokens.{word, long, bad, run, run-token, word-or-name, same-letters, one-further, place, reserved, mark-of, token-here, more-bytes, tokens-from, tokens}
 use Rattle.text.specs.Covering.{marks, spelling, Spells, Covers, done, white, token}
-use Rattle.text.proofs.Cut.{run-le, bytes-le, tokens-step}
+use Rattle.text.proofs.Cut.{bytes-le}
 use Rattle.text.proofs.Position.{tokens-skip}
 
 -- Names compared as the same are the same.

@@ -1,17 +1,17 @@
 -- The token at a position, by what the code sees there.
 -- Assumes nothing.
-use Prim.Native.Nat.{ℕ, zero, suc, _+_, _-_, _≤_, _<_}
+use Prim.Native.Nat.{ℕ, suc, _+_, _-_, _≤_, _<_}
 use native.Mathlib.Omega.{arith}
 use native.Mathlib.Numerals.{add-one}
 use mathlib.Core.Path.{_≡_, refl, sym, ap, _∙_}
-use mathlib.Core.Bool.{Bool, true, false, cond}
-use mathlib.Core.List.{List, [], _∷_}
-use lib.Dec.{eqb, ltb}
+use mathlib.Core.Bool.{true, false}
+use mathlib.Core.List.{List}
+use lib.Dec.{eqb}
 use lib.ListN.{length, take, drop, getD, drop-of-length-le, length-drop}
 use lib.Seq.{drop-cons, length-take-le}
 use borrow.Author.Tests.{eq-eqb, ne-eqb, lt-ltb, le-ltb}
 use Rattle.text.specs.Classes.{class-of}
-use Rattle.text.specs.Tokens.{Name, Token, word, name, long, bad, run, run-token, word-or-name, place, reserved, mark-of, equals-first, token-here, more-bytes}
+use Rattle.text.specs.Tokens.{Name, Token, run, run-token, place, reserved, mark-of, equals-first, token-here, more-bytes}
 use Rattle.text.specs.Next.{white, coded, next-from, next-at}
 use Rattle.text.specs.declared.Next.{Next}
 use Rattle.text.specs.declared.Token as code

@@ -8,13 +8,11 @@ use mathlib.Core.List.{List, [], _∷_}
 use lib.Dec.{eqb, ltb}
 use lib.ListN.{length, take, drop, length-drop}
 use lib.Seq.{drop-drop, length-take-le}
-use borrow.Author.Tests.{eqb-true, ne-eqb, ltb-false}
+use borrow.Author.Tests.{eqb-true, ltb-false}
 use Rattle.laws.proofs.Lists.{drop-next}
 use Rattle.text.specs.Classes.{class-of}
-use Rattle.text.specs.Tokens.{Name, Token, word, name, long, bad, run, run-token, word-or-name, place, reserved, mark-of, equals-first, token-here, more-bytes, unless-white, tokens-from}
+use Rattle.text.specs.Tokens.{Token, word, name, long, bad, run, run-token, word-or-name, place, reserved, mark-of, equals-first, token-here, more-bytes, tokens-from}
 use Rattle.text.specs.Next.{white, coded, next-from, next-at, tokens-at, shown, Lies}
-use Rattle.text.specs.declared.Token as code
-use Rattle.text.specs.declared.Token.the-variants as v
 use Rattle.text.proofs.Cut.{Token-stands, here-stands, run-le, equals-le, tokens-step}
 
 -- The tokens after a token already taken.

@@ -4,7 +4,7 @@ use mathlib.Core.Path.{_≡_}
 use mathlib.Core.List.{List, [], _∷_, _++_}
 use lib.ListN.{length, getD}
 use Rattle.text.specs.Classes.{class-of}
-use Rattle.text.specs.Tokens.{Name, Token, word, name, long, bad, reserved}
+use Rattle.text.specs.Tokens.{Token, word, name, long, bad, reserved}
 
 -- The marks in the order of their numbers: `{ } , ; *= |= :=`.
 abbrev pub marks : List (List ℕ)

@@ -1,15 +1,9 @@
 -- `write_assignments` is safe and ends.
 -- Assumes nothing.
-use Prim.Native.Nat.{_-_, _≤_}
-use lib.ListN.{length}
+use Prim.Native.Nat.{_-_}
 use borrow.Author.Needs.{needs}
 use Rattle.read_cases.proofs.write_assignments.Statement.{statement}
 use Rattle.read_cases.proofs.write_assignments.Tie as tie
-use Rattle.read_cases.proofs.write_assignments.Reads as reads
-use Rattle.read_cases.proofs.write_assignments.Lts as lts
-use Rattle.io.proofs.write_all.Reads as write-all-reads
-use Rattle.read_cases.proofs.write_number.Reads as write-number-reads
-use Rattle.table.proofs.wide.Reads as wide-reads
 
 abbrev Inv-loop : tie.InvT-loop
 Inv-loop r i₀ t5 i = Unit

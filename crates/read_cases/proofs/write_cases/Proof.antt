@@ -5,12 +5,6 @@ use lib.ListN.{length}
 use borrow.Author.Needs.{needs}
 use Rattle.read_cases.proofs.write_cases.Statement.{statement}
 use Rattle.read_cases.proofs.write_cases.Tie as tie
-use Rattle.read_cases.proofs.write_cases.Reads as reads
-use Rattle.read_cases.proofs.write_cases.Lts as lts
-use Rattle.io.proofs.write_all.Reads as write-all-reads
-use Rattle.read_cases.proofs.pair.Reads as pair-reads
-use Rattle.read_cases.proofs.write_number.Reads as write-number-reads
-use Rattle.read_cases.proofs.write_reading.Reads as write-reading-reads
 
 abbrev Inv-loop : tie.InvT-loop
 Inv-loop cases at₀ number₀ t6 t7 at number = (at ≤ length cases) × (number ≤ at)

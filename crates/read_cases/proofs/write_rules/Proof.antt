@@ -1,13 +1,9 @@
 -- `write_rules` is safe and ends.
 -- Assumes nothing.
-use Prim.Native.Nat.{_-_, _≤_}
-use lib.ListN.{length}
+use Prim.Native.Nat.{_-_}
 use borrow.Author.Needs.{needs}
 use Rattle.read_cases.proofs.write_rules.Statement.{statement}
 use Rattle.read_cases.proofs.write_rules.Tie as tie
-use Rattle.read_cases.proofs.write_rules.Reads as reads
-use Rattle.read_cases.proofs.write_rules.Lts as lts
-use Rattle.read_cases.proofs.write_rule.Reads as write-rule-reads
 
 abbrev Inv-loop : tie.InvT-loop
 Inv-loop t i₀ i = Unit

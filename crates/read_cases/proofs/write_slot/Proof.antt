@@ -1,15 +1,9 @@
 -- `write_slot` is safe and ends.
 -- Assumes nothing.
-use Prim.Native.Nat.{_-_, _≤_}
-use lib.ListN.{length}
+use Prim.Native.Nat.{_-_}
 use borrow.Author.Needs.{needs}
 use Rattle.read_cases.proofs.write_slot.Statement.{statement}
 use Rattle.read_cases.proofs.write_slot.Tie as tie
-use Rattle.read_cases.proofs.write_slot.Reads as reads
-use Rattle.read_cases.proofs.write_slot.Lts as lts
-use Rattle.io.proofs.write_all.Reads as write-all-reads
-use Rattle.table.proofs.slot_name.Reads as slot-name-reads
-use Rattle.table.proofs.value_name.Reads as value-name-reads
 
 abbrev Inv-loop : tie.InvT-loop
 Inv-loop text t slot code₀ value₀ t8 t9 code value = Unit

@@ -1,13 +1,9 @@
 -- `write_slots` is safe and ends.
 -- Assumes nothing.
-use Prim.Native.Nat.{_-_, _≤_}
-use lib.ListN.{length}
+use Prim.Native.Nat.{_-_}
 use borrow.Author.Needs.{needs}
 use Rattle.read_cases.proofs.write_slots.Statement.{statement}
 use Rattle.read_cases.proofs.write_slots.Tie as tie
-use Rattle.read_cases.proofs.write_slots.Reads as reads
-use Rattle.read_cases.proofs.write_slots.Lts as lts
-use Rattle.read_cases.proofs.write_slot.Reads as write-slot-reads
 
 abbrev Inv-loop : tie.InvT-loop
 Inv-loop text t i₀ i = Unit

@@ -1,9 +1,8 @@
 -- `read_statements` meets its contract: from one statement to the next the remainder comes to what the whole text comes to.
 -- Assumes nothing.
-use Prim.Native.Nat.{ℕ, suc, _+_, _-_, _≤_, _<_}
+use Prim.Native.Nat.{_-_}
 use native.Mathlib.Omega.{arith}
-use mathlib.Core.Path.{_≡_, refl, sym, ap, subst, _∙_}
-use mathlib.Core.List.{List, []}
+use mathlib.Core.Path.{_≡_, sym, ap, subst, _∙_}
 use lib.ListN.{length, length-take, length-drop}
 use Rattle.text.specs.Tokens.{tokens}
 use Rattle.grammar.specs.Reading.{read-tokens}
@@ -15,12 +14,6 @@ use Rattle.reader.specs.declared.statements.Kind.the-variants as kind
 use borrow.Author.Needs.{needs}
 use Rattle.reader.proofs.read_statements.Statement.{statement}
 use Rattle.reader.proofs.read_statements.Tie as tie
-use Rattle.reader.proofs.read_statements.Reads as reads
-use Rattle.reader.proofs.read_statements.Lts as lts
-use Rattle.reader.proofs.lines.enter.Reads as enter-reads
-use Rattle.reader.proofs.lines.slot_of.Reads as slot-of-reads
-use Rattle.reader.proofs.statements.statement_next.Reads as statement-next-reads
-use Rattle.table.proofs.empty_table.Reads as empty-table-reads
 
 abbrev Inv-loop : tie.InvT-loop
 Inv-loop text t₀ heads₀ bodies₀ rest₀ base₀ t heads bodies rest base = Halfway text t heads bodies rest base

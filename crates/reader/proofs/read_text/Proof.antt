@@ -7,10 +7,6 @@ use Rattle.reader.proofs.ReadLaws.{answer-refused, read-long, read-shor
 use borrow.Author.Needs.{needs}
 use Rattle.reader.proofs.read_text.Statement.{statement}
 use Rattle.reader.proofs.read_text.Tie as tie
-use Rattle.reader.proofs.read_text.Reads as reads
-use Rattle.reader.proofs.read_text.Lts as lts
-use Rattle.reader.proofs.read_statements.Reads as read-statements-reads
-use Rattle.table.proofs.empty_table.Reads as empty-table-reads
 
 empty-table-requires : tie.Need-empty-table-requires
 empty-table-requires c κs = search needs

@@ -2,10 +2,8 @@
 -- Assumes nothing.
 use mathlib.Core.Path.{_≡_, sym, _∙_}
 use mathlib.Core.Bool.{false}
-use borrow.Author.Tests.{not-true, not-false}
-use Rattle.response.specs.Respond.{is-full, rooms-of}
+use Rattle.response.specs.Respond.{is-full}
 use Rattle.response.proofs.RespondLaws.{full-response, counted-answer, counted-refusal}
-use native.Mathlib.Omega.{arith}
 use borrow.Author.Needs.{needs}
 use Rattle.response.proofs.respond.Statement.{statement}
 use Rattle.response.proofs.respond.Tie as tie

@@ -20,7 +20,6 @@ use Rattle.cards.proofs.EntryTrips.{card-of-values, slip-of-changes}
 use Rattle.response.specs.Ending.{ending}
 use Rattle.response.specs.Respond.{rooms-of, if-room}
 use Rattle.response.proofs.RespondLaws.{card-taken, card-refused, slip-taken, slip-refused, ends-refused, ends-same, worked-31, worked-on, responded-card, responded-slip, responded-on, in-order}
-use native.Mathlib.Omega.{arith}
 use borrow.Author.Needs.{needs}
 use Rattle.response.proofs.work.Statement.{statement}
 use Rattle.response.proofs.work.Tie as tie

@@ -1,10 +1,7 @@
 -- `read` meets its contract.
 -- Assumes nothing.
-use mathlib.Core.Path.{ap, _∙_, sym}
-use Rattle.reader.specs.declared.Outcome.the-variants.{Refused}
 use Rattle.strata.specs.declared.Outcome.the-variants.{Layered, Circle}
 use Rattle.rule_file.proofs.Answers.{file-fits, whole-layered, whole-refused}
-use native.Mathlib.Omega.{arith}
 use borrow.Author.Needs.{needs}
 use Rattle.rule_file.proofs.read.Statement.{statement}
 use Rattle.rule_file.proofs.read.Tie as tie

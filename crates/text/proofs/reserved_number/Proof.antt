@@ -5,9 +5,6 @@ use Rattle.text.proofs.Steps as steps
 use borrow.Author.Needs.{needs}
 use Rattle.text.proofs.reserved_number.Statement.{statement}
 use Rattle.text.proofs.reserved_number.Tie as tie
-use Rattle.text.proofs.reserved_number.Reads as reads
-use Rattle.text.proofs.reserved_number.Lts as lts
-use Rattle.text.proofs.word_or.Reads as word-or-reads
 
 slice-aggregate-word-or : tie.Need-slice-aggregate-word-or
 slice-aggregate-word-or c = search needs

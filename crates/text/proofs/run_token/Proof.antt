@@ -5,9 +5,6 @@ use borrow.Author.Needs.{needs}
 use Rattle.text.proofs.Here as here
 use Rattle.text.proofs.run_token.Statement.{statement}
 use Rattle.text.proofs.run_token.Tie as tie
-use Rattle.text.proofs.run_token.Reads as reads
-use Rattle.text.proofs.run_token.Lts as lts
-use Rattle.text.proofs.reserved_number.Reads as reserved-number-reads
 
 sub-size : tie.Need-sub-size
 sub-size c = search needs

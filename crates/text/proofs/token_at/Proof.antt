@@ -12,13 +12,6 @@ use Rattle.text.proofs.Cut.{run-le}
 use Rattle.text.proofs.Here as here
 use Rattle.text.proofs.token_at.Statement.{statement}
 use Rattle.text.proofs.token_at.Tie as tie
-use Rattle.text.proofs.token_at.Reads as reads
-use Rattle.text.proofs.token_at.Lts as lts
-use Rattle.text.proofs.classes.class_of.Reads as class-of-reads
-use Rattle.text.proofs.mark_of.Reads as mark-of-reads
-use Rattle.text.proofs.run_end.Reads as run-end-reads
-use Rattle.text.proofs.run_token.Reads as run-token-reads
-use Rattle.text.proofs.white_end.Reads as white-end-reads
 
 -- The text, the position asked for, and the first byte that is not white.
 abbrev text-of : tie.Else1 → List ℕ

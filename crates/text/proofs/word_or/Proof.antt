@@ -4,9 +4,6 @@ use mathlib.Core.Path.{sym, _∙_}
 use borrow.Author.Needs.{needs}
 use Rattle.text.proofs.word_or.Statement.{statement}
 use Rattle.text.proofs.word_or.Tie as tie
-use Rattle.text.proofs.word_or.Reads as reads
-use Rattle.text.proofs.word_or.Lts as lts
-use Rattle.text.proofs.same_bytes.Reads as same-bytes-reads
 
 same-bytes-requires : tie.Need-same-bytes-requires
 same-bytes-requires c κs = search needs

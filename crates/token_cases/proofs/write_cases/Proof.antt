@@ -5,12 +5,6 @@ use lib.ListN.{length}
 use borrow.Author.Needs.{needs}
 use Rattle.token_cases.proofs.write_cases.Statement.{statement}
 use Rattle.token_cases.proofs.write_cases.Tie as tie
-use Rattle.token_cases.proofs.write_cases.Reads as reads
-use Rattle.token_cases.proofs.write_cases.Lts as lts
-use Rattle.io.proofs.print_decimal.Reads as print-decimal-reads
-use Rattle.io.proofs.write_all.Reads as write-all-reads
-use Rattle.token_cases.proofs.pair.Reads as pair-reads
-use Rattle.token_list.proofs.write_tokens.Reads as write-tokens-reads
 
 abbrev Inv-loop : tie.InvT-loop
 Inv-loop cases at₀ number₀ t6 t7 at number = (at ≤ length cases) × (number ≤ at)

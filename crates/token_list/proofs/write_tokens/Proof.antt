@@ -2,7 +2,7 @@
 -- Assumes nothing.
 use Prim.Native.Nat.{ℕ, suc, _-_, _≤_, _<_}
 use native.Mathlib.Omega.{arith}
-use mathlib.Core.List.{List, [], _∷_}
+use mathlib.Core.List.{[], _∷_}
 use lib.ListN.{length}
 use types.Run.{OneOf, miss}
 use denote.Enum.Declared.{tagOf}
@@ -14,10 +14,6 @@ use Rattle.text.proofs.Position.{next-lies}
 use borrow.Author.Needs.{needs}
 use Rattle.token_list.proofs.write_tokens.Statement.{statement}
 use Rattle.token_list.proofs.write_tokens.Tie as tie
-use Rattle.token_list.proofs.write_tokens.Reads as reads
-use Rattle.token_list.proofs.write_tokens.Lts as lts
-use Rattle.text.proofs.token_at.Reads as token-at-reads
-use Rattle.token_list.proofs.write_token.Reads as write-token-reads
 
 -- A token that is not the end moves the position on.
 moves : (size from : ℕ) (t : code.Token) (next : ℕ) → OneOf (1 ∷ 2 ∷ 3 ∷ 4 ∷ []) (tagOf kinds.the-type t) → Lies size from t next → from < next

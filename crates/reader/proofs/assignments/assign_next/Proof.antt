@@ -10,11 +10,6 @@ use Rattle.reader.proofs.AssignmentLaws as assignments
 use borrow.Author.Needs.{needs}
 use Rattle.reader.proofs.assignments.assign_next.Statement.{statement}
 use Rattle.reader.proofs.assignments.assign_next.Tie as tie
-use Rattle.reader.proofs.assignments.assign_next.Reads as reads
-use Rattle.reader.proofs.assignments.assign_next.Lts as lts
-use Rattle.reader.proofs.assignments.assignments_next.Reads as assignments-next-reads
-use Rattle.reader.proofs.assignments.single_assignment.Reads as single-assignment-reads
-use Rattle.reader.proofs.step.word_next.Reads as word-next-reads
 
 -- The position after the `{`.
 open-lies : (c : tie.After-open) → Step-lies (length (c .before .before .before .before .before .before .args .rest .now)) (c .before .before .before .before .before .before .args .at) (step.At (c .open .given .0 .0))

@@ -9,10 +9,6 @@ use Rattle.reader.proofs.AssignmentLaws as assignments
 use borrow.Author.Needs.{needs}
 use Rattle.reader.proofs.assignments.assignment_next.Statement.{statement}
 use Rattle.reader.proofs.assignments.assignment_next.Tie as tie
-use Rattle.reader.proofs.assignments.assignment_next.Reads as reads
-use Rattle.reader.proofs.assignments.assignment_next.Lts as lts
-use Rattle.reader.proofs.assignments.assignment_value.Reads as assignment-value-reads
-use Rattle.reader.proofs.assignments.target_next.Reads as target-next-reads
 
 -- The slot that was found is 0 to 31.
 target-lies : (c : tie.After-target) → Slot-lies (length (c .before .before .before .before .before .before .args .rest .now)) (c .before .before .before .before .before .before .args .at) (number.Is (c .target .given .0 .0) (c .target .given .0 .1 .0))

@@ -11,11 +11,6 @@ use Rattle.reader.proofs.AssignmentLaws as assignments
 use borrow.Author.Needs.{needs}
 use Rattle.reader.proofs.assignments.assignment_value.Statement.{statement}
 use Rattle.reader.proofs.assignments.assignment_value.Tie as tie
-use Rattle.reader.proofs.assignments.assignment_value.Reads as reads
-use Rattle.reader.proofs.assignments.assignment_value.Lts as lts
-use Rattle.reader.proofs.literals.byte.Reads as byte-reads
-use Rattle.reader.proofs.names.value_next.Reads as value-next-reads
-use Rattle.reader.proofs.step.word_next.Reads as word-next-reads
 
 -- The position after the mark.
 mark-lies : (c : tie.After-mark) → Step-lies (length (c .before .before .before .before .before .before .args .rest .now)) (c .before .before .before .before .before .before .args .at) (step.At (c .mark .given .0 .0))

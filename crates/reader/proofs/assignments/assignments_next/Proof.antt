@@ -18,13 +18,6 @@ use Rattle.reader.proofs.AssignmentLaws as assignments
 use borrow.Author.Needs.{needs}
 use Rattle.reader.proofs.assignments.assignments_next.Statement.{statement}
 use Rattle.reader.proofs.assignments.assignments_next.Tie as tie
-use Rattle.reader.proofs.assignments.assignments_next.Reads as reads
-use Rattle.reader.proofs.assignments.assignments_next.Lts as lts
-use Rattle.reader.proofs.assignments.assignment_next.Reads as assignment-next-reads
-use Rattle.reader.proofs.assignments.no_assignments.Reads as no-assignments-reads
-use Rattle.reader.proofs.assignments.surplus_fault.Reads as surplus-fault-reads
-use Rattle.reader.proofs.assignments.with_assignment.Reads as with-assignment-reads
-use Rattle.reader.proofs.step.fork_next.Reads as fork-next-reads
 
 abbrev Inv-loop : tie.InvT-loop
 Inv-loop text rest heads bodies start list₀ at₀ list at =

@@ -14,9 +14,6 @@ use Rattle.reader.proofs.AssignmentLaws as assignments
 use borrow.Author.Needs.{needs}
 use Rattle.reader.proofs.assignments.is_assigned.Statement.{statement}
 use Rattle.reader.proofs.assignments.is_assigned.Tie as tie
-use Rattle.reader.proofs.assignments.is_assigned.Reads as reads
-use Rattle.reader.proofs.assignments.is_assigned.Lts as lts
-use Rattle.table.proofs.wide.Reads as wide-reads
 
 abbrev Inv-loop : tie.InvT-loop
 Inv-loop slot list count i₀ i = (i ≤ assignment-limit) × (assigns (drop i (pairs-in list)) slot ≡ assigns (pairs-in list) slot)

@@ -4,8 +4,6 @@ use mathlib.Core.Path.{refl}
 use Rattle.laws.specs.Filled.{filled}
 use Rattle.reader.proofs.assignments.no_assignments.Statement.{statement}
 use Rattle.reader.proofs.assignments.no_assignments.Tie as tie
-use Rattle.reader.proofs.assignments.no_assignments.Reads as reads
-use Rattle.reader.proofs.assignments.no_assignments.Lts as lts
 
 returns : tie.Need-returns
 unfolding filled

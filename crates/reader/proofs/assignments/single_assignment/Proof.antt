@@ -9,11 +9,6 @@ use Rattle.reader.proofs.AssignmentLaws as assignments
 use borrow.Author.Needs.{needs}
 use Rattle.reader.proofs.assignments.single_assignment.Statement.{statement}
 use Rattle.reader.proofs.assignments.single_assignment.Tie as tie
-use Rattle.reader.proofs.assignments.single_assignment.Reads as reads
-use Rattle.reader.proofs.assignments.single_assignment.Lts as lts
-use Rattle.reader.proofs.assignments.assignment_next.Reads as assignment-next-reads
-use Rattle.reader.proofs.assignments.no_assignments.Reads as no-assignments-reads
-use Rattle.reader.proofs.assignments.with_assignment.Reads as with-assignment-reads
 
 -- The position after the assignment.
 read-lies : (c : tie.After-read) → Assignment-lies (length (c .before .before .before .before .before .before .before .args .rest .now)) (c .before .before .before .before .before .before .before .args .at) (read.Took (c .read .given .0 .0) (c .read .given .0 .1 .0))

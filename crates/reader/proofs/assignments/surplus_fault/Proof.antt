@@ -6,9 +6,6 @@ use Rattle.reader.proofs.AssignmentLaws as assignments
 use borrow.Author.Needs.{needs}
 use Rattle.reader.proofs.assignments.surplus_fault.Statement.{statement}
 use Rattle.reader.proofs.assignments.surplus_fault.Tie as tie
-use Rattle.reader.proofs.assignments.surplus_fault.Reads as reads
-use Rattle.reader.proofs.assignments.surplus_fault.Lts as lts
-use Rattle.reader.proofs.step.name_next.Reads as name-next-reads
 
 name-next-requires : tie.Need-name-next-requires
 name-next-requires c κs = search needs

@@ -8,10 +8,6 @@ use Rattle.reader.proofs.AssignmentLaws as assignments
 use borrow.Author.Needs.{needs}
 use Rattle.reader.proofs.assignments.target_next.Statement.{statement}
 use Rattle.reader.proofs.assignments.target_next.Tie as tie
-use Rattle.reader.proofs.assignments.target_next.Reads as reads
-use Rattle.reader.proofs.assignments.target_next.Lts as lts
-use Rattle.reader.proofs.assignments.is_assigned.Reads as is-assigned-reads
-use Rattle.reader.proofs.names.slot_next.Reads as slot-next-reads
 
 -- The slot that was found is 0 to 31.
 found-lies : (c : tie.After-found) → Slot-lies (length (c .before .before .before .before .before .args .rest .now)) (c .before .before .before .before .before .args .at) (number.Is (c .found .given .0 .0) (c .found .given .0 .1 .0))

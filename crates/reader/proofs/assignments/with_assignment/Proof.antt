@@ -8,8 +8,6 @@ use Rattle.reader.proofs.AssignmentLaws as assignments
 use borrow.Author.Needs.{needs}
 use Rattle.reader.proofs.assignments.with_assignment.Statement.{statement}
 use Rattle.reader.proofs.assignments.with_assignment.Tie as tie
-use Rattle.reader.proofs.assignments.with_assignment.Reads as reads
-use Rattle.reader.proofs.assignments.with_assignment.Lts as lts
 
 mul-assignment : tie.Need-mul-assignment
 mul-assignment c = search needs

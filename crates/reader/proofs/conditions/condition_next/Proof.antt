@@ -1,9 +1,8 @@
 -- `condition_next` meets its contract.
 -- Assumes nothing.
-use Prim.Native.Nat.{ℕ, suc, _+_, _-_, _≤_, _<_}
+use Prim.Native.Nat.{ℕ, _-_}
 use native.Mathlib.Omega.{arith}
-use mathlib.Core.Path.{_≡_, refl, sym, ap, subst, _∙_}
-use mathlib.Core.List.{List, [], _∷_}
+use mathlib.Core.Path.{_≡_, ap, subst, _∙_}
 use lib.ListN.{length}
 use Rattle.laws.proofs.Filled.{filled-none}
 use Rattle.table.specs.Shape.{no-literal}
@@ -16,12 +15,6 @@ use Rattle.reader.proofs.ConditionLaws as conditions
 use borrow.Author.Needs.{needs}
 use Rattle.reader.proofs.conditions.condition_next.Statement.{statement}
 use Rattle.reader.proofs.conditions.condition_next.Tie as tie
-use Rattle.reader.proofs.conditions.condition_next.Reads as reads
-use Rattle.reader.proofs.conditions.condition_next.Lts as lts
-use Rattle.reader.proofs.conditions.literals_next.Reads as literals-next-reads
-use Rattle.reader.proofs.conditions.no_literals.Reads as no-literals-reads
-use Rattle.reader.proofs.step.fork_next.Reads as fork-next-reads
-use Rattle.reader.proofs.step.word_next.Reads as word-next-reads
 
 -- TRUE stood there.
 open-lies : (c : tie.After-opening) → Step-lies (length (c .before .before .before .before .before .before .args .rest .now)) (c .before .before .before .before .before .before .args .at) (step.At (c .opening .given .0 .0))

@@ -1,11 +1,11 @@
 -- `literals_next` meets its contract.
 -- Assumes nothing.
-use Prim.Native.Nat.{ℕ, suc, _+_, _-_, _≤_, _<_}
+use Prim.Native.Nat.{ℕ, _-_, _≤_, _<_}
 use native.Mathlib.Omega.{arith}
 use mathlib.Core.Path.{_≡_, refl, sym, ap, ap₂, subst, _∙_}
 use mathlib.Core.Bool.{false}
 use Rattle.model.specs.Rules as model
-use mathlib.Core.List.{List, [], _∷_}
+use mathlib.Core.List.{List, []}
 use lib.ListN.{length}
 use Rattle.laws.specs.Filled.{Filled}
 use Rattle.laws.proofs.Filled.{filled-none, filled-add}
@@ -21,12 +21,6 @@ use Rattle.reader.proofs.ConditionLaws as conditions
 use borrow.Author.Needs.{needs}
 use Rattle.reader.proofs.conditions.literals_next.Statement.{statement}
 use Rattle.reader.proofs.conditions.literals_next.Tie as tie
-use Rattle.reader.proofs.conditions.literals_next.Reads as reads
-use Rattle.reader.proofs.conditions.literals_next.Lts as lts
-use Rattle.reader.proofs.conditions.no_literals.Reads as no-literals-reads
-use Rattle.reader.proofs.conditions.no_more.Reads as no-more-reads
-use Rattle.reader.proofs.literals.literal_next.Reads as literal-next-reads
-use Rattle.reader.proofs.step.fork_next.Reads as fork-next-reads
 
 abbrev Inv-loop : tie.InvT-loop
 Inv-loop text rest heads bodies start list₀ at₀ list at = (start ≤ at) × Filled 8 no-literal (list .places) (list .count) × ((base : ℕ) (slots : List Slot) → Looked text slots heads bodies

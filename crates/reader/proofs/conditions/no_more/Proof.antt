@@ -1,20 +1,13 @@
 -- `no_more` meets its contract.
 -- Assumes nothing.
-use Prim.Native.Nat.{ℕ, suc, _+_, _-_, _≤_, _<_}
-use native.Mathlib.Omega.{arith}
-use mathlib.Core.Path.{_≡_, refl, sym, ap, subst, _∙_}
-use mathlib.Core.List.{List, [], _∷_}
-use lib.ListN.{length}
+use Prim.Native.Nat.{_-_}
+use mathlib.Core.Path.{refl, sym, ap, _∙_}
 use Rattle.grammar.specs.Reading.{stop, no-literal}
 use Rattle.reader.proofs.Places as places
 use Rattle.reader.proofs.ConditionLaws as conditions
 use borrow.Author.Needs.{needs}
 use Rattle.reader.proofs.conditions.no_more.Statement.{statement}
 use Rattle.reader.proofs.conditions.no_more.Tie as tie
-use Rattle.reader.proofs.conditions.no_more.Reads as reads
-use Rattle.reader.proofs.conditions.no_more.Lts as lts
-use Rattle.reader.proofs.step.fault_of.Reads as fault-of-reads
-use Rattle.text.proofs.token_at.Reads as token-at-reads
 
 token-at-requires : tie.Need-token-at-requires
 token-at-requires c κs = search needs

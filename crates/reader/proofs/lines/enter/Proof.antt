@@ -11,8 +11,6 @@ use Rattle.table.specs.Limits.{value-limit}
 use borrow.Author.Needs.{needs}
 use Rattle.reader.proofs.lines.enter.Statement.{statement}
 use Rattle.reader.proofs.lines.enter.Tie as tie
-use Rattle.reader.proofs.lines.enter.Reads as reads
-use Rattle.reader.proofs.lines.enter.Lts as lts
 
 abbrev Inv-loop : tie.InvT-loop
 Inv-loop heads bodies₀ number span spans first i₀ bodies i = (i ≤ value-limit) × (sets bodies (first + i) (drop i spans) ≡ sets bodies₀ first spans)

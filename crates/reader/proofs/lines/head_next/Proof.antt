@@ -16,10 +16,6 @@ use Rattle.reader.proofs.LineLaws as lines
 use borrow.Author.Needs.{needs}
 use Rattle.reader.proofs.lines.head_next.Statement.{statement}
 use Rattle.reader.proofs.lines.head_next.Tie as tie
-use Rattle.reader.proofs.lines.head_next.Reads as reads
-use Rattle.reader.proofs.lines.head_next.Lts as lts
-use Rattle.reader.proofs.lines.new_next.Reads as new-next-reads
-use Rattle.reader.proofs.step.word_next.Reads as word-next-reads
 
 -- SLOT stands first, and where it ends.
 word-read : (c : tie.After-word) → expects SLOT (tokens-past (c .before .before .before .before .before .args .rest .now) (c .before .before .before .before .before .args .base) (c .before .before .before .before .before .args .start))

@@ -18,11 +18,6 @@ use Rattle.reader.proofs.LineLaws as lines
 use borrow.Author.Needs.{needs}
 use Rattle.reader.proofs.lines.line_next.Statement.{statement}
 use Rattle.reader.proofs.lines.line_next.Tie as tie
-use Rattle.reader.proofs.lines.line_next.Reads as reads
-use Rattle.reader.proofs.lines.line_next.Lts as lts
-use Rattle.reader.proofs.lines.head_next.Reads as head-next-reads
-use Rattle.reader.proofs.lines.values_next.Reads as values-next-reads
-use Rattle.reader.proofs.step.word_next.Reads as word-next-reads
 
 -- The slot's name was read, and lies in the text.
 head-read : (c : tie.After-head) (slots : List Slot) → Listed (c .before .before .before .before .before .args .text .now) (c .before .before .before .before .before .args .heads .now) (spellings (slot-names slots))

@@ -18,10 +18,6 @@ use Rattle.reader.proofs.LineLaws as lines
 use borrow.Author.Needs.{needs}
 use Rattle.reader.proofs.lines.new_next.Statement.{statement}
 use Rattle.reader.proofs.lines.new_next.Tie as tie
-use Rattle.reader.proofs.lines.new_next.Reads as reads
-use Rattle.reader.proofs.lines.new_next.Lts as lts
-use Rattle.reader.proofs.names.find.Reads as find-reads
-use Rattle.reader.proofs.step.name_next.Reads as name-next-reads
 
 -- The name that was read lies in the remainder.
 name-lies : (c : tie.After-named) → Named-lies (length (c .before .before .before .before .before .before .args .rest .now)) (c .before .before .before .before .before .before .args .at) (named.At (c .named .given .0 .0) (c .named .given .0 .1 .0) (c .named .given .0 .1 .1 .0))

@@ -13,9 +13,6 @@ use Rattle.reader.specs.Index.{place-of}
 use borrow.Author.Needs.{needs}
 use Rattle.reader.proofs.lines.slot_of.Statement.{statement}
 use Rattle.reader.proofs.lines.slot_of.Tie as tie
-use Rattle.reader.proofs.lines.slot_of.Reads as reads
-use Rattle.reader.proofs.lines.slot_of.Lts as lts
-use Rattle.reader.proofs.lines.name_of.Reads as name-of-reads
 
 abbrev Inv-loop : tie.InvT-loop
 Inv-loop span count spans values₀ i₀ values i = (i ≤ value-limit) × (length values ≡ value-limit) × (take i values ≡ map place-of (take i spans))

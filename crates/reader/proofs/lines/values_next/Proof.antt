@@ -19,10 +19,6 @@ use Rattle.reader.proofs.LineLaws as lines
 use borrow.Author.Needs.{needs}
 use Rattle.reader.proofs.lines.values_next.Statement.{statement}
 use Rattle.reader.proofs.lines.values_next.Tie as tie
-use Rattle.reader.proofs.lines.values_next.Reads as reads
-use Rattle.reader.proofs.lines.values_next.Lts as lts
-use Rattle.reader.proofs.lines.new_next.Reads as new-next-reads
-use Rattle.reader.proofs.step.fork_next.Reads as fork-next-reads
 
 -- The values so far are those of the spans, and what is left of the reading gives what the whole gives.
 abbrev Inv-loop : tie.InvT-loop

@@ -1,18 +1,11 @@
 -- `literal_next` meets its contract.
 -- Assumes nothing.
-use Prim.Native.Nat.{ℕ, suc, _+_, _-_, _≤_, _<_}
-use native.Mathlib.Omega.{arith}
-use mathlib.Core.Path.{_≡_, refl, sym, ap, subst, _∙_}
-use mathlib.Core.List.{List}
-use lib.ListN.{length}
+use Prim.Native.Nat.{_-_}
+use mathlib.Core.Path.{_∙_}
 use Rattle.reader.proofs.LiteralLaws as literals
 use borrow.Author.Needs.{needs}
 use Rattle.reader.proofs.literals.literal_next.Statement.{statement}
 use Rattle.reader.proofs.literals.literal_next.Tie as tie
-use Rattle.reader.proofs.literals.literal_next.Reads as reads
-use Rattle.reader.proofs.literals.literal_next.Lts as lts
-use Rattle.reader.proofs.literals.plain_literal.Reads as plain-literal-reads
-use Rattle.reader.proofs.literals.skip_nots.Reads as skip-nots-reads
 
 skip-nots-requires : tie.Need-skip-nots-requires
 skip-nots-requires c κs = search needs

@@ -1,20 +1,15 @@
 -- `literal_value` meets its contract.
 -- Assumes nothing.
-use Prim.Native.Nat.{ℕ, suc, _+_, _-_, _≤_, _<_}
+use Prim.Native.Nat.{_-_}
 use native.Mathlib.Omega.{arith}
-use mathlib.Core.Path.{_≡_, refl, sym, ap, subst, _∙_}
-use mathlib.Core.List.{List}
-use lib.ListN.{length, take, drop, getD}
+use mathlib.Core.Path.{ap, subst, _∙_}
+use lib.ListN.{length}
 use Rattle.reader.specs.Spans.{number-part, Number-lies}
 use Rattle.reader.specs.declared.names.Number.the-variants as number
 use Rattle.reader.proofs.LiteralLaws as literals
 use borrow.Author.Needs.{needs}
 use Rattle.reader.proofs.literals.literal_value.Statement.{statement}
 use Rattle.reader.proofs.literals.literal_value.Tie as tie
-use Rattle.reader.proofs.literals.literal_value.Reads as reads
-use Rattle.reader.proofs.literals.literal_value.Lts as lts
-use Rattle.reader.proofs.literals.byte.Reads as byte-reads
-use Rattle.reader.proofs.names.value_next.Reads as value-next-reads
 
 -- The value that was found is 1 to 15.
 found-lies : (c : tie.After-found) → Number-lies 15 (length (c .before .before .before .before .before .before .args .rest .now)) (c .before .before .before .before .before .before .args .at) (number.Is (c .found .given .0 .0) (c .found .given .0 .1 .0))

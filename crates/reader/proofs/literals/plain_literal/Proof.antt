@@ -1,8 +1,8 @@
 -- `plain_literal` meets its contract.
 -- Assumes nothing.
-use Prim.Native.Nat.{ℕ, suc, _+_, _-_, _≤_, _<_}
+use Prim.Native.Nat.{ℕ, _-_}
 use native.Mathlib.Omega.{arith}
-use mathlib.Core.Path.{_≡_, refl, sym, ap, subst, _∙_}
+use mathlib.Core.Path.{_≡_, ap, subst, _∙_}
 use mathlib.Core.List.{List}
 use lib.ListN.{length}
 use Rattle.grammar.specs.Files.{Slot}
@@ -15,11 +15,6 @@ use Rattle.reader.proofs.LiteralLaws as literals
 use borrow.Author.Needs.{needs}
 use Rattle.reader.proofs.literals.plain_literal.Statement.{statement}
 use Rattle.reader.proofs.literals.plain_literal.Tie as tie
-use Rattle.reader.proofs.literals.plain_literal.Reads as reads
-use Rattle.reader.proofs.literals.plain_literal.Lts as lts
-use Rattle.reader.proofs.literals.literal_value.Reads as literal-value-reads
-use Rattle.reader.proofs.names.slot_next.Reads as slot-next-reads
-use Rattle.reader.proofs.step.fork_next.Reads as fork-next-reads
 
 -- The slot that was read, and where.
 slot-lies : (c : tie.After-found) → Slot-lies (length (c .before .before .before .before .before .before .args .rest .now)) (c .before .before .before .before .before .before .args .at) (number.Is (c .found .given .0 .0) (c .found .given .0 .1 .0))

@@ -1,11 +1,11 @@
 -- `skip_nots` meets its contract.
 -- Assumes nothing.
-use Prim.Native.Nat.{ℕ, suc, _+_, _-_, _≤_, _<_}
+use Prim.Native.Nat.{ℕ, _-_, _≤_}
 use native.Mathlib.Omega.{arith}
-use mathlib.Core.Path.{_≡_, refl, sym, ap, subst, _∙_}
+use mathlib.Core.Path.{_≡_, refl, sym, ap, _∙_}
 use mathlib.Core.List.{List}
-use lib.ListN.{length, take, drop, getD}
-use mathlib.Core.Bool.{Bool, false}
+use lib.ListN.{length}
+use mathlib.Core.Bool.{false}
 use Rattle.grammar.specs.Files.{Slot}
 use Rattle.grammar.specs.Reading.{read-literal, plain-literal}
 use Rattle.reader.specs.Places.{tokens-past}
@@ -14,9 +14,6 @@ use Rattle.reader.proofs.LiteralLaws as literals
 use borrow.Author.Needs.{needs}
 use Rattle.reader.proofs.literals.skip_nots.Statement.{statement}
 use Rattle.reader.proofs.literals.skip_nots.Tie as tie
-use Rattle.reader.proofs.literals.skip_nots.Reads as reads
-use Rattle.reader.proofs.literals.skip_nots.Lts as lts
-use Rattle.text.proofs.token_at.Reads as token-at-reads
 
 abbrev Inv-loop : tie.InvT-loop
 Inv-loop rest start at₀ negated₀ at negated = (start ≤ at) × ((base : ℕ) (slots : List Slot) → read-literal (tokens-past rest base start) slots false ≡ read-literal (tokens-past rest base at) slots negated)

@@ -1,18 +1,14 @@
 -- `find` meets its contract.
 -- Assumes nothing.
-use Prim.Native.Nat.{ℕ, suc, _+_, _-_, _≤_, _<_}
+use Prim.Native.Nat.{ℕ, _-_, _≤_, _<_}
 use native.Mathlib.Omega.{arith}
-use mathlib.Core.Path.{_≡_, refl, sym, ap, _∙_}
 use mathlib.Core.List.{List}
-use lib.ListN.{length, take, drop, getD}
+use lib.ListN.{length}
 use Rattle.reader.specs.Spans.{Listed}
 use Rattle.reader.proofs.Spans.{Left, left-start, left-end, left-zero, left-found, left-next}
 use borrow.Author.Needs.{needs}
 use Rattle.reader.proofs.names.find.Statement.{statement}
 use Rattle.reader.proofs.names.find.Tie as tie
-use Rattle.reader.proofs.names.find.Reads as reads
-use Rattle.reader.proofs.names.find.Lts as lts
-use Rattle.reader.proofs.names.is_at.Reads as is-at-reads
 
 abbrev Inv-loop : tie.InvT-loop
 Inv-loop text spans name i₀ i = (i ≤ length spans) × ((names : List (List ℕ)) → Listed text spans names → Left text spans name names i)

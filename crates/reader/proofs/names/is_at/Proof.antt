@@ -1,17 +1,12 @@
 -- `is_at` meets its contract.
 -- Assumes nothing.
-use Prim.Native.Nat.{ℕ, suc, _+_, _-_, _≤_, _<_}
+use Prim.Native.Nat.{_-_}
 use native.Mathlib.Omega.{arith}
 use native.Mathlib.Nat.{add-sub-cancel-left}
-use mathlib.Core.Path.{_≡_, refl, sym, ap, _∙_}
-use mathlib.Core.List.{List}
-use lib.ListN.{length, take, drop, getD}
+use mathlib.Core.Path.{_∙_}
 use borrow.Author.Needs.{needs}
 use Rattle.reader.proofs.names.is_at.Statement.{statement}
 use Rattle.reader.proofs.names.is_at.Tie as tie
-use Rattle.reader.proofs.names.is_at.Reads as reads
-use Rattle.reader.proofs.names.is_at.Lts as lts
-use Rattle.text.proofs.same_bytes.Reads as same-bytes-reads
 
 sub-if2 : tie.Need-sub-if2
 sub-if2 c = search needs

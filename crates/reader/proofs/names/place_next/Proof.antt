@@ -1,10 +1,10 @@
 -- `place_next` meets its contract.
 -- Assumes nothing.
-use Prim.Native.Nat.{ℕ, suc, _+_, _-_, _≤_, _<_}
+use Prim.Native.Nat.{ℕ, _-_, _<_}
 use native.Mathlib.Omega.{arith}
-use mathlib.Core.Path.{_≡_, refl, sym, ap, subst, _∙_}
+use mathlib.Core.Path.{_≡_, ap, subst, _∙_}
 use mathlib.Core.List.{List}
-use lib.ListN.{length, take, drop, getD}
+use lib.ListN.{length, take, drop}
 use native.Mathlib.Nat.{add-sub-cancel-left}
 use Rattle.text.specs.Tokens.{place}
 use Rattle.grammar.specs.Files.{spellings}
@@ -16,10 +16,6 @@ use Rattle.reader.proofs.Spans as spans
 use borrow.Author.Needs.{needs}
 use Rattle.reader.proofs.names.place_next.Statement.{statement}
 use Rattle.reader.proofs.names.place_next.Tie as tie
-use Rattle.reader.proofs.names.place_next.Reads as reads
-use Rattle.reader.proofs.names.place_next.Lts as lts
-use Rattle.reader.proofs.names.find.Reads as find-reads
-use Rattle.reader.proofs.step.name_next.Reads as name-next-reads
 
 -- The name that was read lies in the remainder.
 name-lies : (c : tie.After-named) → Named-lies (length (c .before .before .before .before .before .before .args .rest .now)) (c .before .before .before .before .before .before .args .at) (named.At (c .named .given .0 .0) (c .named .given .0 .1 .0) (c .named .given .0 .1 .1 .0))

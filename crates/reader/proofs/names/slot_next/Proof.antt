@@ -1,10 +1,9 @@
 -- `slot_next` meets its contract.
 -- Assumes nothing.
-use Prim.Native.Nat.{ℕ, suc, _+_, _-_, _≤_, _<_}
+use Prim.Native.Nat.{_-_}
 use native.Mathlib.Omega.{arith}
-use mathlib.Core.Path.{_≡_, refl, sym, ap, subst, _∙_}
-use mathlib.Core.List.{List}
-use lib.ListN.{length, take, drop, getD}
+use mathlib.Core.Path.{_≡_, ap, subst, _∙_}
+use lib.ListN.{length}
 use Rattle.grammar.specs.Files.{slot-names}
 use Rattle.reader.specs.Spans.{number-part, Number-lies}
 use Rattle.reader.specs.declared.names.Number.the-variants as number
@@ -12,9 +11,6 @@ use Rattle.reader.proofs.Spans as spans
 use borrow.Author.Needs.{needs}
 use Rattle.reader.proofs.names.slot_next.Statement.{statement}
 use Rattle.reader.proofs.names.slot_next.Tie as tie
-use Rattle.reader.proofs.names.slot_next.Reads as reads
-use Rattle.reader.proofs.names.slot_next.Lts as lts
-use Rattle.reader.proofs.names.place_next.Reads as place-next-reads
 
 -- The place that was found is 1 to 32.
 found-lies : (c : tie.After-found) → Number-lies 32 (length (c .before .before .before .before .before .before .args .rest .now)) (c .before .before .before .before .before .before .args .at) (number.Is (c .found .given .0 .0) (c .found .given .0 .1 .0))

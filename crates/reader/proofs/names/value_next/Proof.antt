@@ -1,8 +1,8 @@
 -- `value_next` meets its contract.
 -- Assumes nothing.
-use Prim.Native.Nat.{ℕ, suc, _+_, _*_, _-_, _≤_, _<_}
+use Prim.Native.Nat.{ℕ, _+_, _*_, _-_, _≤_}
 use native.Mathlib.Omega.{arith}
-use mathlib.Core.Path.{_≡_, refl, sym, ap, subst, _∙_}
+use mathlib.Core.Path.{_≡_, _∙_}
 use mathlib.Core.List.{List}
 use lib.ListN.{length, take, drop, length-take}
 use native.Mathlib.Nat.{add-sub-cancel-left}
@@ -11,9 +11,6 @@ use Rattle.reader.proofs.Spans as spans
 use borrow.Author.Needs.{needs}
 use Rattle.reader.proofs.names.value_next.Statement.{statement}
 use Rattle.reader.proofs.names.value_next.Tie as tie
-use Rattle.reader.proofs.names.value_next.Reads as reads
-use Rattle.reader.proofs.names.value_next.Lts as lts
-use Rattle.reader.proofs.names.place_next.Reads as place-next-reads
 
 -- The part handed on is the 15 places of the slot's values.
 part-is : (xs : List ℕ) (s : ℕ) → take (s * 16 + 1 + 15 - (s * 16 + 1)) (drop (s * 16 + 1) xs) ≡ take 15 (drop (s * 16 + 1) xs)

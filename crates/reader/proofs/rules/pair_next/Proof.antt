@@ -1,8 +1,8 @@
 -- `pair_next` meets its contract.
 -- Assumes nothing.
-use Prim.Native.Nat.{ℕ, suc, _+_, _-_, _≤_, _<_}
+use Prim.Native.Nat.{ℕ, _-_}
 use native.Mathlib.Omega.{arith}
-use mathlib.Core.Path.{_≡_, refl, sym, ap, subst, _∙_}
+use mathlib.Core.Path.{_≡_, ap, subst, _∙_}
 use mathlib.Core.List.{List}
 use lib.ListN.{length}
 use Rattle.grammar.specs.Files.{Slot}
@@ -16,11 +16,6 @@ use Rattle.reader.proofs.RuleLaws as rules
 use borrow.Author.Needs.{needs}
 use Rattle.reader.proofs.rules.pair_next.Statement.{statement}
 use Rattle.reader.proofs.rules.pair_next.Tie as tie
-use Rattle.reader.proofs.rules.pair_next.Reads as reads
-use Rattle.reader.proofs.rules.pair_next.Lts as lts
-use Rattle.reader.proofs.names.slot_next.Reads as slot-next-reads
-use Rattle.reader.proofs.names.value_next.Reads as value-next-reads
-use Rattle.reader.proofs.step.word_next.Reads as word-next-reads
 
 -- The slot that was read, and where.
 slot-lies : (c : tie.After-found) → Slot-lies (length (c .before .before .before .before .before .before .args .rest .now)) (c .before .before .before .before .before .before .args .at) (number.Is (c .found .given .0 .0) (c .found .given .0 .1 .0))

@@ -1,26 +1,16 @@
 -- `rest_next` meets its contract.
 -- Assumes nothing.
-use Prim.Native.Nat.{ℕ, suc, _+_, _-_, _≤_, _<_}
+use Prim.Native.Nat.{_-_}
 use native.Mathlib.Omega.{arith}
-use mathlib.Core.Path.{_≡_, refl, sym, ap, subst, _∙_}
-use mathlib.Core.List.{List}
-use lib.ListN.{length}
-use Rattle.reader.specs.Places.{step-part, Step-lies}
+use mathlib.Core.Path.{refl, ap, subst, _∙_}
+use Rattle.reader.specs.Places.{Step-lies}
 use Rattle.reader.specs.Conditions.{condition-part}
 use Rattle.reader.specs.Assignments.{pairs-in, pairs-part}
-use Rattle.reader.specs.Rules.{Plain-rule}
 use Rattle.reader.proofs.Places as places
 use Rattle.reader.proofs.RuleLaws as rules
 use borrow.Author.Needs.{needs}
 use Rattle.reader.proofs.rules.rest_next.Statement.{statement}
 use Rattle.reader.proofs.rules.rest_next.Tie as tie
-use Rattle.reader.proofs.rules.rest_next.Reads as reads
-use Rattle.reader.proofs.rules.rest_next.Lts as lts
-use Rattle.reader.proofs.assignments.assign_next.Reads as assign-next-reads
-use Rattle.reader.proofs.conditions.condition_next.Reads as condition-next-reads
-use Rattle.reader.proofs.rules.rule_of.Reads as rule-of-reads
-use Rattle.reader.proofs.step.word_next.Reads as word-next-reads
-use Rattle.table.proofs.empty_rule.Reads as empty-rule-reads
 
 condition-next-requires : tie.Need-condition-next-requires
 condition-next-requires c κs = c .before .before .before .pre .2

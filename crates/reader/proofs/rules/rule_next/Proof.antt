@@ -1,21 +1,14 @@
 -- `rule_next` meets its contract.
 -- Assumes nothing.
-use Prim.Native.Nat.{ℕ, suc, _+_, _-_, _≤_, _<_}
+use Prim.Native.Nat.{_-_}
 use native.Mathlib.Omega.{arith}
-use mathlib.Core.Path.{_≡_, refl, sym, ap, subst, _∙_}
-use mathlib.Core.List.{List}
-use lib.ListN.{length}
+use mathlib.Core.Path.{ap, subst, _∙_}
 use Rattle.reader.specs.Rules.{pair-part, Pair-lies}
 use Rattle.reader.proofs.Places as places
 use Rattle.reader.proofs.RuleLaws as rules
 use borrow.Author.Needs.{needs}
 use Rattle.reader.proofs.rules.rule_next.Statement.{statement}
 use Rattle.reader.proofs.rules.rule_next.Tie as tie
-use Rattle.reader.proofs.rules.rule_next.Reads as reads
-use Rattle.reader.proofs.rules.rule_next.Lts as lts
-use Rattle.reader.proofs.rules.rest_next.Reads as rest-next-reads
-use Rattle.reader.proofs.rules.trigger_next.Reads as trigger-next-reads
-use Rattle.table.proofs.empty_rule.Reads as empty-rule-reads
 
 trigger-next-requires : tie.Need-trigger-next-requires
 trigger-next-requires c κs = search needs

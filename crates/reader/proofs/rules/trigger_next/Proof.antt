@@ -1,20 +1,14 @@
 -- `trigger_next` meets its contract.
 -- Assumes nothing.
-use Prim.Native.Nat.{ℕ, suc, _+_, _-_, _≤_, _<_}
+use Prim.Native.Nat.{_-_}
 use native.Mathlib.Omega.{arith}
-use mathlib.Core.Path.{_≡_, refl, sym, ap, subst, _∙_}
-use mathlib.Core.List.{List}
-use lib.ListN.{length}
+use mathlib.Core.Path.{ap, subst, _∙_}
 use Rattle.reader.specs.Places.{step-part, Step-lies}
 use Rattle.reader.specs.Rules.{pair-part, Pair-lies}
 use Rattle.reader.proofs.RuleLaws as rules
 use borrow.Author.Needs.{needs}
 use Rattle.reader.proofs.rules.trigger_next.Statement.{statement}
 use Rattle.reader.proofs.rules.trigger_next.Tie as tie
-use Rattle.reader.proofs.rules.trigger_next.Reads as reads
-use Rattle.reader.proofs.rules.trigger_next.Lts as lts
-use Rattle.reader.proofs.rules.pair_next.Reads as pair-next-reads
-use Rattle.reader.proofs.step.word_next.Reads as word-next-reads
 
 word-next-requires : tie.Need-word-next-requires
 word-next-requires c κs = search needs

@@ -1,10 +1,8 @@
 -- `rule_statement` meets its contract.
 -- Assumes nothing.
-use Prim.Native.Nat.{ℕ, suc, _+_, _-_, _≤_, _<_}
+use Prim.Native.Nat.{_-_}
 use native.Mathlib.Omega.{arith}
-use mathlib.Core.Path.{_≡_, refl, sym, ap, subst, _∙_}
-use mathlib.Core.List.{List, []}
-use lib.ListN.{length}
+use mathlib.Core.Path.{ap, subst, _∙_}
 use Rattle.grammar.specs.Limits.{max-rules}
 use Rattle.reader.specs.Places.{step-part, Step-lies}
 use Rattle.reader.specs.Rules.{rule-part}
@@ -12,12 +10,6 @@ use Rattle.reader.proofs.StatementLaws as statements
 use borrow.Author.Needs.{needs}
 use Rattle.reader.proofs.statements.rule_statement.Statement.{statement}
 use Rattle.reader.proofs.statements.rule_statement.Tie as tie
-use Rattle.reader.proofs.statements.rule_statement.Reads as reads
-use Rattle.reader.proofs.statements.rule_statement.Lts as lts
-use Rattle.reader.proofs.rules.rule_next.Reads as rule-next-reads
-use Rattle.reader.proofs.statements.no_line.Reads as no-line-reads
-use Rattle.reader.proofs.step.word_next.Reads as word-next-reads
-use Rattle.table.proofs.empty_rule.Reads as empty-rule-reads
 
 word-next-requires : tie.Need-word-next-requires
 word-next-requires c κs = search needs

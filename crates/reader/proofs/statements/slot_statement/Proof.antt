@@ -1,10 +1,8 @@
 -- `slot_statement` meets its contract.
 -- Assumes nothing.
-use Prim.Native.Nat.{ℕ, suc, _+_, _-_, _≤_, _<_}
+use Prim.Native.Nat.{_-_}
 use native.Mathlib.Omega.{arith}
-use mathlib.Core.Path.{_≡_, refl, sym, ap, subst, _∙_}
-use mathlib.Core.List.{List, []}
-use lib.ListN.{length}
+use mathlib.Core.Path.{refl, ap, subst, _∙_}
 use Rattle.grammar.specs.Limits.{max-slots}
 use Rattle.reader.specs.Places.{Step-lies}
 use Rattle.reader.specs.Index.{span-slot}
@@ -14,11 +12,6 @@ use Rattle.reader.proofs.StatementLaws as statements
 use borrow.Author.Needs.{needs}
 use Rattle.reader.proofs.statements.slot_statement.Statement.{statement}
 use Rattle.reader.proofs.statements.slot_statement.Tie as tie
-use Rattle.reader.proofs.statements.slot_statement.Reads as reads
-use Rattle.reader.proofs.statements.slot_statement.Lts as lts
-use Rattle.reader.proofs.lines.line_next.Reads as line-next-reads
-use Rattle.reader.proofs.statements.no_line.Reads as no-line-reads
-use Rattle.table.proofs.empty_rule.Reads as empty-rule-reads
 
 no-line-requires : tie.Need-no-line-requires
 no-line-requires c κs = search needs

@@ -1,14 +1,12 @@
 -- `statement_next` meets its contract.
 -- Assumes nothing.
-use Prim.Native.Nat.{ℕ, suc, _+_, _-_, _≤_, _<_}
-use native.Mathlib.Omega.{arith}
+use Prim.Native.Nat.{ℕ, _-_}
 use mathlib.Core.Path.{_≡_, refl, sym, ap, subst, _∙_}
-use mathlib.Core.List.{List, []}
+use mathlib.Core.List.{List}
 use mathlib.Core.Logic.{⊎-elim}
 use lib.ListN.{length}
 use Rattle.model.specs.Rules as model
 use Rattle.text.specs.Tokens.{SLOT}
-use Rattle.grammar.specs.Reading.{begins-with}
 use Rattle.reader.specs.Places.{tokens-past, step-part}
 use Rattle.reader.specs.Statements.{read-on, statement-answer, Statement-lies}
 use Rattle.reader.proofs.Places as places
@@ -16,14 +14,6 @@ use Rattle.reader.proofs.StatementLaws as statements
 use borrow.Author.Needs.{needs}
 use Rattle.reader.proofs.statements.statement_next.Statement.{statement}
 use Rattle.reader.proofs.statements.statement_next.Tie as tie
-use Rattle.reader.proofs.statements.statement_next.Reads as reads
-use Rattle.reader.proofs.statements.statement_next.Lts as lts
-use Rattle.reader.proofs.statements.no_line.Reads as no-line-reads
-use Rattle.reader.proofs.statements.rule_statement.Reads as rule-statement-reads
-use Rattle.reader.proofs.statements.slot_statement.Reads as slot-statement-reads
-use Rattle.reader.proofs.step.word_next.Reads as word-next-reads
-use Rattle.table.proofs.empty_rule.Reads as empty-rule-reads
-use Rattle.text.proofs.token_at.Reads as token-at-reads
 
 token-at-requires : tie.Need-token-at-requires
 token-at-requires c κs = search needs

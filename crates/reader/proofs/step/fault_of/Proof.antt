@@ -4,8 +4,6 @@ use Rattle.reader.proofs.Places as places
 use borrow.Author.Needs.{needs}
 use Rattle.reader.proofs.step.fault_of.Statement.{statement}
 use Rattle.reader.proofs.step.fault_of.Tie as tie
-use Rattle.reader.proofs.step.fault_of.Reads as reads
-use Rattle.reader.proofs.step.fault_of.Lts as lts
 
 enum-told : tie.Need-enum-told
 enum-told c = search needs

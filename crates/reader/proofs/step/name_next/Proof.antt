@@ -7,10 +7,6 @@ use Rattle.reader.proofs.Places as places
 use borrow.Author.Needs.{needs}
 use Rattle.reader.proofs.step.name_next.Statement.{statement}
 use Rattle.reader.proofs.step.name_next.Tie as tie
-use Rattle.reader.proofs.step.name_next.Reads as reads
-use Rattle.reader.proofs.step.name_next.Lts as lts
-use Rattle.reader.proofs.step.fault_of.Reads as fault-of-reads
-use Rattle.text.proofs.token_at.Reads as token-at-reads
 
 token-at-requires : tie.Need-token-at-requires
 token-at-requires c κs = search needs

@@ -2,12 +2,9 @@
 -- Assumes nothing.
 use mathlib.Core.Path.{sym}
 use Rattle.response.proofs.TallyLaws.{full-answered, full-refused, not-full}
-use native.Mathlib.Omega.{arith}
 use borrow.Author.Needs.{needs}
 use Rattle.response.proofs.counting.is_full.Statement.{statement}
 use Rattle.response.proofs.counting.is_full.Tie as tie
-use Rattle.response.proofs.counting.is_full.Reads as reads
-use Rattle.response.proofs.counting.is_full.Lts as lts
 
 returns : tie.Need-returns
 returns c = sym (full-answered _ (c .if1 .taken))

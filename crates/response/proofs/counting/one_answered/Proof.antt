@@ -5,8 +5,6 @@ use native.Mathlib.Omega.{arith}
 use borrow.Author.Needs.{needs}
 use Rattle.response.proofs.counting.one_answered.Statement.{statement}
 use Rattle.response.proofs.counting.one_answered.Tie as tie
-use Rattle.response.proofs.counting.one_answered.Reads as reads
-use Rattle.response.proofs.counting.one_answered.Lts as lts
 
 add-t2 : tie.Need-add-t2
 add-t2 c = record { fits = let w = room-left _ (c .before .pre) in omega arith }

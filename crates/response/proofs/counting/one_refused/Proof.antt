@@ -5,8 +5,6 @@ use native.Mathlib.Omega.{arith}
 use borrow.Author.Needs.{needs}
 use Rattle.response.proofs.counting.one_refused.Statement.{statement}
 use Rattle.response.proofs.counting.one_refused.Tie as tie
-use Rattle.response.proofs.counting.one_refused.Reads as reads
-use Rattle.response.proofs.counting.one_refused.Lts as lts
 
 add-t2 : tie.Need-add-t2
 add-t2 c = record { fits = let w = room-left _ (c .before .pre) in omega arith }

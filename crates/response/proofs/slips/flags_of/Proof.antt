@@ -8,13 +8,9 @@ use Rattle.table.specs.Limits.{pair-places}
 use Rattle.table.specs.Flat.{add-pairs}
 use Rattle.cards.specs.Cards.{changes-of}
 use Rattle.response.proofs.SlipLaws.{changes-next, changes-end}
-use native.Mathlib.Omega.{arith}
 use borrow.Author.Needs.{needs}
 use Rattle.response.proofs.slips.flags_of.Statement.{statement}
 use Rattle.response.proofs.slips.flags_of.Tie as tie
-use Rattle.response.proofs.slips.flags_of.Reads as reads
-use Rattle.response.proofs.slips.flags_of.Lts as lts
-use Rattle.table.proofs.place.Reads as place-reads
 
 abbrev Inv-loop : tie.InvT-loop
 Inv-loop slip m flags₀ j₀ flags j = (j ≤ m) × (add-pairs (drop j (changes-of slip)) flags ≡ add-pairs (changes-of slip) (replicate pair-places false))

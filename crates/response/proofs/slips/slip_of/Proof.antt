@@ -1,16 +1,11 @@
 -- `response::slips::slip_of` meets its contract.
 -- Assumes nothing.
-use mathlib.Core.Path.{_≡_, refl, ap, ap₂, _∙_}
 use Prim.Native.Nat.{_-_, _≤_}
 use Rattle.table.specs.Flat.{set-of}
 use Rattle.response.proofs.SlipLaws.{Listed, listed-start, listed-over, listed-more, listed-end}
-use native.Mathlib.Omega.{arith}
 use borrow.Author.Needs.{needs}
 use Rattle.response.proofs.slips.slip_of.Statement.{statement}
 use Rattle.response.proofs.slips.slip_of.Tie as tie
-use Rattle.response.proofs.slips.slip_of.Reads as reads
-use Rattle.response.proofs.slips.slip_of.Lts as lts
-use Rattle.firing.proofs.ending.changed_value.Reads as changed-value-reads
 
 abbrev Inv-slots : tie.InvT-slots
 Inv-slots changes width listed₀ count₀ s₀ listed count s = (s ≤ width) × Listed (set-of changes) s listed count

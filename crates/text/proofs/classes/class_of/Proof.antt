@@ -12,8 +12,6 @@ use Rattle.laws.proofs.Tables.{every, at}
 use Rattle.text.specs.Classes.{class-of}
 use Rattle.text.proofs.classes.class_of.Statement.{statement}
 use Rattle.text.proofs.classes.class_of.Tie as tie
-use Rattle.text.proofs.classes.class_of.Reads as reads
-use Rattle.text.proofs.classes.class_of.Lts as lts
 
 -- The entries of the table.
 entries : List ℕ
