@@ -1,0 +1,63 @@
+#!/usr/bin/env python3
+"""The examples of the editors' guide, run by the program: each must get the refusal in whose row it stands; and the guide's listing must be that of examples/dialect.
+
+  tests/editors.py   needs target/bin/rl; exit status 1 where an example comes to something else
+"""
+import os
+import re
+import subprocess
+import sys
+import tempfile
+
+TOP = os.path.dirname(os.path.dirname(os.path.abspath(__file__)))
+SLOTS = b'SLOT dating {before-1900, from-1900};\nSLOT status {current, obsolete};\n'
+CARD, SLIP = bytes.fromhex('08 04'), bytes.fromhex('04 02')
+
+
+def examples(guide):
+    """The number of each row with an example in code, and the three files that it makes."""
+    for row in re.findall(r'^\| (\d\d) \|(.*)\|$', guide, re.M):
+        cells = [cell.strip().replace('\\|', '|') for cell in re.split(r'(?<!\\)\|', row[1])]
+        found = re.fullmatch(r'(card |slip |)`(.*)`', cells[1])
+        if found and found[1] == 'card ':
+            yield row[0], (SLOTS, bytes.fromhex(found[2]), SLIP)
+        elif found and found[1] == 'slip ':
+            yield row[0], (SLOTS, CARD, bytes.fromhex(found[2]))
+        elif found:
+            yield row[0], (SLOTS + found[2].encode(), CARD, SLIP)
+
+
+def printed(files):
+    """What the program prints for three files."""
+    with tempfile.TemporaryDirectory() as folder:
+        for name, content in zip(('rules.txt', 'card.bin', 'slip.bin'), files):
+            with open(os.path.join(folder, name), 'wb') as file:
+                file.write(content)
+        return subprocess.run([os.path.join(TOP, 'target/bin/rl')], cwd=folder, capture_output=True, check=True).stdout.decode()
+
+
+def main():
+    with open(os.path.join(TOP, 'docs/EDITORS.md'), encoding='utf-8') as file:
+        guide = file.read()
+    with open(os.path.join(TOP, 'examples/dialect/expected'), encoding='utf-8') as file:
+        listing = ''.join(f'    {line}' for line in file)
+    wrong, numbers = 0, []
+    for number, files in examples(guide):
+        numbers.append(int(number))
+        if not printed(files).startswith(f'refused {number} '):
+            print(f'the example of {number} comes to {printed(files)!r}')
+            wrong = 1
+    if numbers != [*range(11, 19), *range(20, 29), 40]:
+        print(f'examples stand for {numbers}')
+        wrong = 1
+    if not printed((SLOTS, CARD, SLIP)).startswith('change dating before-1900\n'):
+        print('the card and the slip of the guide get no answer')
+        wrong = 1
+    if listing not in guide:
+        print('the listing of examples/dialect is not in the guide')
+        wrong = 1
+    return wrong
+
+
+if __name__ == '__main__':
+    sys.exit(main())

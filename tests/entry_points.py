@@ -1,0 +1,36 @@
+#!/usr/bin/env python3
+"""Every entry point has an `ensures` and no `requires`; exit status 1 where one has not."""
+import os
+import re
+import sys
+
+TOP = os.path.dirname(os.path.dirname(os.path.abspath(__file__)))
+
+# The functions that a caller may hand anything, by crate.
+ENTRY_POINTS = {
+    'text': ['token_at'],
+    'cursor': ['new', 'peek', 'advance', 'first', 'after'],
+    'table': ['slot_name', 'value_name'],
+    'strata': ['is_well_formed', 'is_sound'],
+    'rule_file': ['read'],
+    'cards': ['unpack_card', 'unpack_slip', 'pack_card', 'pack_slip'],
+    'response': ['respond'],
+}
+
+
+def main():
+    wrong = 0
+    for crate, names in ENTRY_POINTS.items():
+        with open(os.path.join(TOP, 'crates', crate, 'src/lib.rt'), encoding='utf-8') as file:
+            source = file.read()
+        for name in names:
+            found = re.search(r'^pub (?:extern "C" )?fn ' + name + r'\b(.*?)^\{', source, re.M | re.S)
+            head = found[1] if found else ''
+            if 'ensures {' not in head or 'requires' in head:
+                print(f'{crate}::{name} has no promise for every argument')
+                wrong = 1
+    return wrong
+
+
+if __name__ == '__main__':
+    sys.exit(main())
