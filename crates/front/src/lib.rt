@@ -69,17 +69,13 @@ fn is_fired(record: &[u8; RECORD], i: usize) -> bool {
     false
 }
 
-// The line of a rule, from 0.
-fn write_rule(t: Table, record: &[u8; RECORD], i: usize) {
-    if table::RULES <= i {
-        return;
-    }
-    let r = t.rules[i];
+// The line of a rule.
+fn write_rule(number: usize, stratum: u8, fired: bool) {
     io::write_all(STDOUT_FILENO, b"rule ");
-    write_number(i + 1);
+    write_number(number);
     io::write_all(STDOUT_FILENO, b" stratum ");
-    write_number(table::wide(r.stratum));
-    if is_fired(record, i) {
+    write_number(table::wide(stratum));
+    if fired {
         io::write_all(STDOUT_FILENO, b" fired\n");
     } else {
         io::write_all(STDOUT_FILENO, b" idle\n");
@@ -90,10 +86,12 @@ fn write_rule(t: Table, record: &[u8; RECORD], i: usize) {
 fn write_rules(t: Table, record: &[u8; RECORD]) {
     let mut i: usize = 0;
     while i < table::RULES {
-        if i < t.count {
-            write_rule(t, record, i);
-        }
+        let k = i;
         i += 1;
+        if k < t.count {
+            let r = t.rules[k];
+            write_rule(i, r.stratum, is_fired(record, k));
+        }
     }
 }
 

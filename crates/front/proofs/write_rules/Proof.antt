@@ -6,19 +6,28 @@ use Rattle.front.proofs.write_rules.Statement.{statement}
 use Rattle.front.proofs.write_rules.Tie as tie
 
 abbrev Inv-loop : tie.InvT-loop
-Inv-loop t «record» i₀ i = Unit
+Inv-loop «record» t i₀ i = Unit
 
 abbrev μ-loop : tie.MeasureT-loop
-μ-loop t «record» i₀ i = 255 - i
+μ-loop «record» t i₀ i = 255 - i
 
 loop-holds : tie.Need-loop-holds Inv-loop μ-loop
 loop-holds c = search needs
 
-write-rule-requires : tie.Need-write-rule-requires Inv-loop μ-loop
-write-rule-requires c κs = search needs
-
 add-i : tie.Need-add-i Inv-loop μ-loop
 add-i c = search needs
+
+mul-r : tie.Need-mul-r Inv-loop μ-loop
+mul-r c = search needs
+
+element-copy-out-r : tie.Need-element-copy-out-r Inv-loop μ-loop
+element-copy-out-r c = search needs
+
+is-fired-requires : tie.Need-is-fired-requires Inv-loop μ-loop
+is-fired-requires c κs = search needs
+
+write-rule-requires : tie.Need-write-rule-requires Inv-loop μ-loop
+write-rule-requires c κs = search needs
 
 loop-less : tie.Need-loop-less Inv-loop μ-loop
 loop-less c = search needs
@@ -26,10 +35,29 @@ loop-less c = search needs
 loop-again : tie.Need-loop-again Inv-loop μ-loop
 loop-again c = search needs
 
+loop-less-2 : tie.Need-loop-less-2 Inv-loop μ-loop
+loop-less-2 c = search needs
+
+loop-again-2 : tie.Need-loop-again-2 Inv-loop μ-loop
+loop-again-2 c = search needs
+
 returns : tie.Need-returns Inv-loop μ-loop
 returns c = search needs
 
 pub write-rules-spec : {M : Type 1} → statement M
 write-rules-spec =
     tie.close
-    (tie.spec Inv-loop μ-loop loop-holds write-rule-requires add-i loop-less loop-again returns)
+    (tie.spec
+    Inv-loop
+    μ-loop
+    loop-holds
+    add-i
+    mul-r
+    element-copy-out-r
+    is-fired-requires
+    write-rule-requires
+    loop-less
+    loop-again
+    loop-less-2
+    loop-again-2
+    returns)
