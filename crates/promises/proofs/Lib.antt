@@ -8,3 +8,5 @@ pub mod Bounds
 pub mod Orders
 pub mod Rearranged
 pub mod Demand3
+pub mod Called
+pub mod Demand2

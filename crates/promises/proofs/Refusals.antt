@@ -1,6 +1,6 @@
 -- Which refusals a response can give, and where: 20 to 28 and 30 before the rules fire, 40 after, 31 for the table, 32 for the tally.
 -- Assumes nothing.
-use Prim.Native.Nat.{ℕ, suc, _≤_, _<_}
+use Prim.Native.Nat.{ℕ, zero, suc, _≤_, _<_}
 use native.Mathlib.Omega.{arith}
 use mathlib.Core.Path.{_≡_, refl, subst}
 use mathlib.Core.Bool.{Bool, true, false, cond}
@@ -8,6 +8,7 @@ use mathlib.Core.List.{List, [], _∷_}
 use mathlib.Core.Logic.{_⊎_, inl, inr, ⊎-elim}
 use lib.Dec.{eqb, leb, ltb}
 use lib.ListN.{length, getD}
+use borrow.Author.Tests.{ne-eqb}
 use Rattle.laws.specs.Truth.{_∨ᵇ_}
 use Rattle.laws.specs.Packed.{byte-count}
 use Rattle.model.specs.Rules.{Pair, Pairs, Rule}
@@ -19,7 +20,8 @@ use Rattle.strata.specs.Sound.{sound}
 use Rattle.cards.specs.Answers.{Verdict, passed, fault, Taking, taken, refused, after}
 use Rattle.cards.specs.Forms.{count-in, card-width, slip-width, padding, values-in, changes-in, values-test, card-test, change-fault, changes-test, slip-test, read-card, read-slip}
 use Rattle.response.specs.Ending.{answer-of, settled, ending}
-use Rattle.response.specs.Respond.{_then_, Rooms, changes-room, if-room, responded, worked}
+use Rattle.response.specs.declared.Tally.{Tally}
+use Rattle.response.specs.Respond.{_then_, Rooms, changes-room, if-room, responded, worked, is-full, respond-to}
 
 -- A refusal, where it is one, has a number that P holds of.
 abbrev pub Only : {A : Type 0} → (ℕ → Type 0) → Taking A → Type 0
@@ -52,15 +54,15 @@ unfolding _then_
 only-then P (taken a) f g h = h a
 only-then P (refused k s) f g h = g
 
--- A number of those that come before the rules fire.
+-- A number of those that come before the rules fire; 0 is no number of a refusal.
 abbrev pub Early : ℕ → Type 0
-Early k = k ≤ 30
+Early k = (1 ≤ k) × (k ≤ 30)
 
 values-early : (at : ℕ) (ns vs : List ℕ) → OnlyFault Early (values-test at ns vs)
 unfolding values-test
 values-early at [] vs = tt
 values-early at (n ∷ ns) [] = tt
-values-early at (n ∷ ns) (v ∷ vs) = fault-cond Early (ltb n v) (fault 22 at) (values-test (suc at) ns vs) (omega arith) (values-early (suc at) ns vs)
+values-early at (n ∷ ns) (v ∷ vs) = fault-cond Early (ltb n v) (fault 22 at) (values-test (suc at) ns vs) (omega arith, omega arith) (values-early (suc at) ns vs)
 
 change-early : (counts : List ℕ) (low : ℕ) (p : Pair) → change-fault counts low p ≤ 30
 unfolding change-fault
@@ -76,8 +78,11 @@ changes-early : (counts : List ℕ) (low at : ℕ) (ps : List Pair) → OnlyFaul
 unfolding changes-test
 changes-early counts low at [] = tt
 changes-early counts low at (p ∷ ps) =
-    fault-cond Early (eqb (change-fault counts low p) 0) (changes-test counts (suc (p .slot)) (suc at) ps) (fault (change-fault counts low p) at)
-    (changes-early counts (suc (p .slot)) (suc at) ps) (change-early counts low p)
+    go (change-fault counts low p) (change-early counts low p) (changes-early counts (suc (p .slot)) (suc at) ps)
+  where
+    go : (k : ℕ) → k ≤ 30 → OnlyFault Early (changes-test counts (suc (p .slot)) (suc at) ps) → OnlyFault Early (cond (eqb k 0) (changes-test counts (suc (p .slot)) (suc at) ps) (fault k at))
+    go zero h rest = rest
+    go (suc k) h rest = rw (ne-eqb (suc k) 0 (λ e. omega (arith, e))) (let l : 1 ≤ suc k = omega arith in (l, h))
 
 -- A card is refused early,
 pub card-early : (counts ys : List ℕ) → Only Early (read-card counts ys)
@@ -85,9 +90,9 @@ unfolding read-card card-test
 card-early counts ys =
     only-cond Early (eqb (length ys) (byte-count (card-width (count-in ys)))) _ (refused 20 0)
     (only-after Early (card-test counts (values-in ys)) _
-    (fault-cond Early (eqb (length (values-in ys)) (length counts)) (values-test 0 counts (values-in ys)) (fault 21 0) (values-early 0 counts (values-in ys)) (omega arith))
-    (only-cond Early (eqb (padding ys (card-width (count-in ys))) 0) (taken (values-in ys)) (refused 23 0) tt (omega arith)))
-    (omega arith)
+    (fault-cond Early (eqb (length (values-in ys)) (length counts)) (values-test 0 counts (values-in ys)) (fault 21 0) (values-early 0 counts (values-in ys)) (omega arith, omega arith))
+    (only-cond Early (eqb (padding ys (card-width (count-in ys))) 0) (taken (values-in ys)) (refused 23 0) tt (omega arith, omega arith)))
+    (omega arith, omega arith)
 
 -- and so is a slip.
 pub slip-early : (counts ys : List ℕ) → Only Early (read-slip counts ys)
@@ -95,8 +100,8 @@ unfolding read-slip
 slip-early counts ys =
     only-cond Early (eqb (length ys) (byte-count (slip-width (count-in ys)))) _ (refused 24 0)
     (only-after Early (slip-test counts (changes-in ys)) _ (changes-early counts 0 0 (changes-in ys))
-    (only-cond Early (eqb (padding ys (slip-width (count-in ys))) 0) (taken (changes-in ys)) (refused 28 0) tt (omega arith)))
-    (omega arith)
+    (only-cond Early (eqb (padding ys (slip-width (count-in ys))) 0) (taken (changes-in ys)) (refused 28 0) tt (omega arith, omega arith)))
+    (omega arith, omega arith)
 
 -- Early, or 40.
 abbrev pub Known : ℕ → Type 0
@@ -112,9 +117,9 @@ known u h = only-more Early Known (λ k l. inl l) u h
 room-known : {A : Type 0} (width count : ℕ) (rooms : Rooms) (u : Taking A) → Only Known u → Only Known (if-room width count rooms u)
 unfolding if-room
 room-known width count rooms u h =
-    only-cond Known (ltb (rooms .for-card) (byte-count (card-width width))) (refused 30 1) _ (inl (omega arith))
-    (only-cond Known (ltb (rooms .for-changes) changes-room) (refused 30 2) _ (inl (omega arith))
-    (only-cond Known (ltb (rooms .for-fired) (byte-count count)) (refused 30 3) u (inl (omega arith)) h))
+    only-cond Known (ltb (rooms .for-card) (byte-count (card-width width))) (refused 30 1) _ (inl (omega arith, omega arith))
+    (only-cond Known (ltb (rooms .for-changes) changes-room) (refused 30 2) _ (inl (omega arith, omega arith))
+    (only-cond Known (ltb (rooms .for-fired) (byte-count count)) (refused 30 3) u (inl (omega arith, omega arith)) h))
 
 settled-known : (width count : ℕ) (S : List ℕ) (C : Pairs) (ns : List ℕ) → Only Known (settled width count S C ns)
 unfolding settled
@@ -136,8 +141,17 @@ Other j k = k ≡ j → ⊥
 -- So neither 31 nor 32.
 pub responded-other : (j : ℕ) → 30 < j → j < 40 → (counts : List ℕ) (rs : List Rule) (card slip : List ℕ) (rooms : Rooms) → Only (Other j) (responded counts rs card slip rooms)
 responded-other j low high counts rs card slip rooms =
-    only-more Known (Other j) (λ k h e. ⊎-elim (λ (l : k ≤ 30). omega arith) (λ (q : k ≡ 40). omega arith) h) (responded counts rs card slip rooms)
+    only-more Known (Other j) (λ k h e. ⊎-elim (λ (l : Early k). omega (arith, l .1)) (λ (q : k ≡ 40). omega arith) h) (responded counts rs card slip rooms)
     (responded-known counts rs card slip rooms)
+
+-- No refusal has the number 0.
+pub respond-numbered : (t : Table) (y : Tally) (card slip : List ℕ) (rooms : Rooms) → Only (λ k. 1 ≤ k) (respond-to t y card slip rooms)
+unfolding respond-to worked
+respond-numbered t y card slip rooms =
+    only-cond (λ k. 1 ≤ k) (is-full y) (refused 32 0) _ (omega arith)
+    (only-cond (λ k. 1 ≤ k) (sound t) (responded (value-counts t) (rules-of t) card slip rooms) (refused 31 0)
+    (only-more Known (λ k. 1 ≤ k) (λ k h. ⊎-elim (λ (l : Early k). l .0) (λ (q : k ≡ 40). omega (arith, q)) h) (responded (value-counts t) (rules-of t) card slip rooms) (responded-known (value-counts t) (rules-of t) card slip rooms))
+    (omega arith))
 
 -- What follows the tally's test gives no 32.
 pub worked-other : (t : Table) (card slip : List ℕ) (rooms : Rooms) → Only (Other 32) (worked t card slip rooms)

@@ -1,3 +1,4 @@
 pub mod Agreement
 pub mod Day
 pub mod Listing
+pub mod Called

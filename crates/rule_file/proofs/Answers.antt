@@ -33,7 +33,7 @@ use Rattle.strata.specs.Layered.{with-strata, layering}
 use Rattle.strata.specs.Sound.{sound}
 use Rattle.strata.proofs.WellFormed.{well-formed-fits}
 use Rattle.strata.proofs.Passes.{layer-passes, empty-passes, same-rules, same-counts, stratum-now}
-use Rattle.reader.specs.Tables.{table-for, answered}
+use Rattle.reader.specs.Tables.{table-for, answered, refusal-number}
 use Rattle.reader.specs.declared.Outcome.{Outcome}
 use Rattle.reader.specs.declared.Outcome.the-variants.{Accepted, Refused}
 use Rattle.reader.specs.declared.FileRead.{FileRead}
@@ -114,16 +114,16 @@ layered-circle : (f : File) → (circle-of strict (f .rules) ≡ 0 → ⊥) → 
 unfolding layered
 layered-circle f n = rw (ne-eqb (circle-of strict (f .rules)) 0 n) refl
 
--- No fault of a token is 18.
-fault-other : (k : ℕ) (before after : List Token) → Fault k before after → k ≤ 17
-fault-other k before after no-token = omega arith
-fault-other k before after (no-place o) = omega arith
-fault-other k before after (ends-inside o) = omega arith
-fault-other k before after (too-long o) = omega arith
-fault-other k before after (in-place l h o) = h
+-- The grammar's reading gives 10 to 17.
+fault-range : (k : ℕ) (before after : List Token) → Fault k before after → (10 ≤ k) × (k ≤ 17)
+fault-range k before after no-token = (omega arith, omega arith)
+fault-range k before after (no-place o) = (omega arith, omega arith)
+fault-range k before after (ends-inside o) = (omega arith, omega arith)
+fault-range k before after (too-long o) = (omega arith, omega arith)
+fault-range k before after (in-place l h o) = (omega (arith, l), h)
 
-refused-other : (text : List ℕ) (k n : ℕ) → read text ≡ refused k n → k ≤ 17
-refused-other text k n e = ⊎-elim (λ w. omega (arith, w .0)) (λ w. fault-other k _ _ (w .1 .fault)) (refusal-stands text k n e)
+refused-range : (text : List ℕ) (k n : ℕ) → read text ≡ refused k n → (10 ≤ k) × (k ≤ 17)
+refused-range text k n e = ⊎-elim (λ w. (omega (arith, w .0), omega (arith, w .0))) (λ w. fault-range k _ _ (w .1 .fault)) (refusal-stands text k n e)
 
 outcomes-differ : (k n : ℕ) → Accepted ≡ Refused k n → ⊥
 outcomes-differ k n c = let z : _≡_ {A = ℕ} 0 1 = cc in omega arith
@@ -193,7 +193,7 @@ reading-18-iff text k = (λ o. there o (read text) refl, back)
             (f, accepts-iff text f .0 e, no-strata strict (f .rules) n, seconds k _ (sym o ∙ ap (λ (a : FileRead). a .outcome) (reading-file text f e ∙ layered-circle f n)))
     there o (refused j m) e =
         let z = numbers k j m (sym o ∙ ap (λ (a : FileRead). a .outcome) (reading-refused text j m e)) in
-        absurd (omega (arith, z, refused-other text j m e))
+        absurd (omega (arith, z, refused-range text j m e .1))
 
     back : (f : File) × Is-file text f × ((u : ℕ → ℕ) → ¬ Strata strict (f .rules) u) × (k ≡ circle-of strict (f .rules)) → reading text .outcome ≡ Refused 18 k
     back w =
@@ -210,3 +210,19 @@ reading-passes text = go (read text) refl
         let D = read-declared text f e in
         rw (reading-file text f e ∙ sym (layered-table f)) (layer-passes (table-for f) (file-shaped f D) (file-well-formed f D))
     go (refused k n) e = rw (reading-refused text k n e) empty-passes
+
+-- A text is accepted exactly where the number of its refusal is 0.
+pub reading-no-refusal : (text : List ℕ) → refusal-number (reading text .outcome) ≡ 0 → reading text .outcome ≡ Accepted
+reading-no-refusal text e = go (read text) refl
+  where
+    go : (a : Answer) → read text ≡ a → reading text .outcome ≡ Accepted
+    go (accepted f) r = by-circle (eqb (circle-of strict (f .rules)) 0) refl
+      where
+        by-circle : (b : Bool) → eqb (circle-of strict (f .rules)) 0 ≡ b → reading text .outcome ≡ Accepted
+        by-circle true q = ap (λ (a : FileRead). a .outcome) (reading-file text f r ∙ layered-zero f (eqb-true (circle-of strict (f .rules)) 0 q))
+        by-circle false q =
+            let z = ap (λ (a : FileRead). refusal-number (a .outcome)) (reading-file text f r ∙ layered-circle f (eqb-false (circle-of strict (f .rules)) 0 q)) in
+            absurd (omega (arith, z, e))
+    go (refused k n) r =
+        let z = ap (λ (a : FileRead). refusal-number (a .outcome)) (reading-refused text k n r) in
+        absurd (omega (arith, z, e, refused-range text k n r .0))
