@@ -18,7 +18,7 @@ use Rattle.laws.proofs.Packed.{number-lt}
 use Rattle.laws.proofs.Counted.{count-over}
 use Rattle.laws.proofs.Tabulated.{tabulate-length, tabulate-at}
 use Rattle.laws.proofs.Fronts.{tabulate-next}
-use Rattle.firing.specs.Record.{fired-bits, fired-record, ones-in}
+use Rattle.firing.specs.Record.{fired-bits, flag-record, ones-in}
 
 pub one-top : (b : Bool) → cond b 1 0 ≤ 1
 one-top true = omega arith
@@ -135,7 +135,7 @@ count-tally f g zero h = refl
 count-tally f g (suc k) h = rw (h k (omega arith), count-tally f g k (λ i l. h i (omega arith)))
 
 -- The one bits of a record are the rules that it flags.
-pub record-ones : (fired : List Bool) (count : ℕ) (g : ℕ → Bool) → ((i : ℕ) → i < count → getD fired i false ≡ g (suc i)) → ones-in (fired-record fired count) ≡ tally g count
-unfolding fired-record
+pub record-ones : (fired : List Bool) (count : ℕ) (g : ℕ → Bool) → ((i : ℕ) → i < count → getD fired i false ≡ g (suc i)) → ones-in (flag-record fired count) ≡ tally g count
+unfolding flag-record
 record-ones fired count g h =
     pack-ones (fired-bits fired count) ∙ rw (bits-size fired count) (count-tally _ g count (λ i l. bit-inside fired count i l ∙ h i l))

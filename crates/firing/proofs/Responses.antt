@@ -30,7 +30,7 @@ use Rattle.table.proofs.Flat.{set-none, added, added-length, pairs-of-set}
 use Rattle.strata.specs.Sound.{sound}
 use Rattle.strata.proofs.Sound.{sound-fits, sound-strata}
 use Rattle.firing.specs.Firing.{Fireable, fired-in, carried-firing, firing-of}
-use Rattle.firing.specs.Record.{fired-record, ones-in}
+use Rattle.firing.specs.Record.{flag-record, ones-in}
 use Rattle.firing.proofs.Bits.{record-ones}
 
 -- A table that 31 lets pass can be fired.
@@ -60,7 +60,7 @@ module _ (t : Table) (f : Fireable t) (S : List ℕ) (slip : List Bool) where
       λ j. record { changes = flags-of (u .1 j); fired = tabulate (λ i. (u .0 j) (suc i)) rule-limit }
 
   -- The one bits of its record are as many as the rules fired.
-  pub fired-count : t .count ≤ rule-limit → ones-in (fired-record (firing-of t S slip .fired) (t .count)) ≡ tally (names (response strict (rules-of t) S (pairs-of slip))) (t .count)
+  pub fired-count : t .count ≤ rule-limit → ones-in (flag-record (firing-of t S slip .fired) (t .count)) ≡ tally (names (response strict (rules-of t) S (pairs-of slip))) (t .count)
   unfolding firing-of fired-in
   fired-count few =
       record-ones _ (t .count) (names (response strict (rules-of t) S (pairs-of slip)))

@@ -12,8 +12,8 @@ unfoldable pub fired-bits : List Bool → ℕ → List Bool
 fired-bits fired count = tabulate (λ i. getD fired i false) count
 
 -- The record.
-unfoldable pub fired-record : List Bool → ℕ → List ℕ
-fired-record fired count = pack (fired-bits fired count)
+unfoldable pub flag-record : List Bool → ℕ → List ℕ
+flag-record fired count = pack (fired-bits fired count)
 
 -- The one bits of some bytes.
 unfoldable pub ones-in : List ℕ → ℕ

@@ -7,7 +7,7 @@ ghost use lib.Count.{ones};
 ghost use lib.ListN.{length, drop, getD};
 ghost use Rattle.laws.specs.Packed.{byte-count, byte-at};
 ghost use Rattle.table.specs.Limits.{rule-limit};
-ghost use Rattle.firing.specs.Record.{fired-bits, fired-record, ones-in};
+ghost use Rattle.firing.specs.Record.{fired-bits, flag-record, ones-in};
 use table::RULES;
 
 // Bit i of the record: the flag of rule i + 1, and 0 in the padding.
@@ -42,7 +42,7 @@ fn byte_at(fired: &[bool; RULES], count: usize, k: usize) -> u8
 // Writes the record to the front of the output.
 pub fn record_of(fired: &[bool; RULES], count: usize, out: &mut [u8])
     requires { ⌜ (count ≤ rule-limit) × (byte-count count ≤ length (now out)) ⌝ }
-    ensures { λ _. ⌜ now (out .exit) ≡ fired-record (now (fired .entry)) count ++ drop (byte-count count) (now (out .entry)) ⌝ }
+    ensures { λ _. ⌜ now (out .exit) ≡ flag-record (now (fired .entry)) count ++ drop (byte-count count) (now (out .entry)) ⌝ }
 {
     let size = (count + 7) / 8;
     let mut k: usize = 0;

@@ -36,7 +36,7 @@ record-bit count ns only (suc i) =
 
 -- How many rules fired is how many are named.
 pub record-ones : (count : ℕ) (ns : List ℕ) → ones-in (fired-record count ns) ≡ tally (names ns) count
-unfolding fired-record firing.fired-record fired-bits
+unfolding fired-record firing.flag-record fired-bits
 record-ones count ns =
     ap (λ (bs : List Bool). ones-in (pack bs))
     (is-tabulate (λ i. getD (tabulate (λ j. names ns (suc j)) count) i false) count false (tabulate (λ j. names ns (suc j)) count) (tabulate-length (λ j. names ns (suc j)) count) (λ i h. refl))

@@ -164,21 +164,21 @@ module _ (D : Pairs) (width : ℕ) (few : width ≤ slot-limit) where
   listed-room = omega (arith, slip-count, slip-few D width, few)
 
 -- The record of the flags is that of the rules fired.
-pub record-same : (ns : List ℕ) (ran : List Bool) (count : ℕ) → ran ≡ tabulate (λ i. names ns (suc i)) rule-limit → count ≤ rule-limit → firing.fired-record ran count ≡ fired-record count ns
-unfolding firing.fired-record fired-bits fired-record
+pub record-same : (ns : List ℕ) (ran : List Bool) (count : ℕ) → ran ≡ tabulate (λ i. names ns (suc i)) rule-limit → count ≤ rule-limit → firing.flag-record ran count ≡ fired-record count ns
+unfolding firing.flag-record fired-bits fired-record
 record-same ns ran count e h =
     rw e (ap pack (is-tabulate (λ i. names ns (suc i)) count false (tabulate (λ i. getD (tabulate (λ k. names ns (suc k)) rule-limit) i false) count)
     (tabulate-length (λ i. getD (tabulate (λ k. names ns (suc k)) rule-limit) i false) count)
     (λ i l. tabulate-at (λ i. getD (tabulate (λ k. names ns (suc k)) rule-limit) i false) count i false l ∙ tabulate-at (λ k. names ns (suc k)) rule-limit i false (omega (arith, l, h)))))
 
 -- The record takes the bytes that its bits fill.
-record-length : (ran : List Bool) (count : ℕ) → length (firing.fired-record ran count) ≡ byte-count count
-unfolding firing.fired-record fired-bits
+record-length : (ran : List Bool) (count : ℕ) → length (firing.flag-record ran count) ≡ byte-count count
+unfolding firing.flag-record fired-bits
 record-length ran count = pack-length (tabulate (λ i. getD ran i false) count) ∙ ap (λ (k : ℕ). byte-count k) (tabulate-length (λ i. getD ran i false) count)
 
 -- An output with the record at its front has room for it.
-pub record-there : (ran : List Bool) (count : ℕ) (c c′ : List ℕ) → c′ ≡ firing.fired-record ran count ++ drop (byte-count count) c → byte-count count ≤ length c′
-record-there ran count c c′ e = rw (e, length-append (firing.fired-record ran count) (drop (byte-count count) c), record-length ran count) (omega arith)
+pub record-there : (ran : List Bool) (count : ℕ) (c c′ : List ℕ) → c′ ≡ firing.flag-record ran count ++ drop (byte-count count) c → byte-count count ≤ length c′
+record-there ran count c c′ e = rw (e, length-append (firing.flag-record ran count) (drop (byte-count count) c), record-length ran count) (omega arith)
 
 -- Written to the front of an output, bytes of so great a length.
 front-is : (ys out : List ℕ) (n : ℕ) → length ys ≡ n → ys ++ drop n out ≡ written ys out
@@ -231,7 +231,7 @@ module _ (t : Table) (card : Card) (slip : Slip) (O : InOrder t card slip) (sh :
       → a′ ≡ card-bytes (values-of (record { values = new-places (t .width) (g .changes) (card .values); count = t .width })) ++ drop (byte-count (card-width (t .width))) a
       → (s : Slip) → s ≡ slip-of (changes-slip (t .width) row (set-of (g .changes)))
       → n ≡ byte-count (slip-width (s .count)) → b′ ≡ slip-bytes (changes-of s) ++ drop (byte-count (slip-width (s .count))) b
-      → c′ ≡ firing.fired-record (g .fired) (t .count) ++ drop (byte-count (t .count)) c → m ≡ ones-in (take (byte-count (t .count)) c′)
+      → c′ ≡ firing.flag-record (g .fired) (t .count) ++ drop (byte-count (t .count)) c → m ≡ ones-in (take (byte-count (t .count)) c′)
       → Ends (ending (rules-of t) (t .width) (values-of card) (changes-of slip)) (Answered n m) (outputs a b c) (outputs a′ b′ c′)
   unfolding outcome-of outputs-after answer-of
   answer-ends slot n m a b c a′ b′ c′ e h ea s es en eb ec em =
@@ -248,16 +248,16 @@ module _ (t : Table) (card : Card) (slip : Slip) (O : InOrder t card slip) (sh :
       changes-size : byte-count (slip-width (s .count)) ≡ length (slip-bytes (changes-slip (t .width) row ends-with))
       changes-size = ap (λ (k : ℕ). byte-count (slip-width k)) size ∙ sym (slip-bytes-length (changes-slip (t .width) row ends-with))
 
-      record-is : firing.fired-record (g .fired) (t .count) ≡ fired-record (length (rules-of t)) fired-in-order
+      record-is : firing.flag-record (g .fired) (t .count) ≡ fired-record (length (rules-of t)) fired-in-order
       record-is = record-same fired-in-order (g .fired) (t .count) same-rules few-rules ∙ ap (λ (k : ℕ). fired-record k fired-in-order) (sym counted-rules)
 
-      record-size : length (firing.fired-record (g .fired) (t .count)) ≡ byte-count (t .count)
+      record-size : length (firing.flag-record (g .fired) (t .count)) ≡ byte-count (t .count)
       record-size = record-length (g .fired) (t .count)
 
       fired-front : take (byte-count (t .count)) c′ ≡ fired-record (length (rules-of t)) fired-in-order
       fired-front =
-          ap (take (byte-count (t .count))) ec ∙ ap (λ (k : ℕ). take k (firing.fired-record (g .fired) (t .count) ++ drop (byte-count (t .count)) c)) (sym record-size)
-          ∙ take-append-seam (firing.fired-record (g .fired) (t .count)) (drop (byte-count (t .count)) c) ∙ record-is
+          ap (take (byte-count (t .count))) ec ∙ ap (λ (k : ℕ). take k (firing.flag-record (g .fired) (t .count) ++ drop (byte-count (t .count)) c)) (sym record-size)
+          ∙ take-append-seam (firing.flag-record (g .fired) (t .count)) (drop (byte-count (t .count)) c) ∙ record-is
 
       card-part : a′ ≡ written (card-bytes (new-card (t .width) row ends-with (values-of card))) a
       card-part =
@@ -272,4 +272,4 @@ module _ (t : Table) (card : Card) (slip : Slip) (O : InOrder t card slip) (sh :
 
       fired-part : c′ ≡ written (fired-record (length (rules-of t)) fired-in-order) c
       fired-part =
-          ec ∙ front-is (firing.fired-record (g .fired) (t .count)) c (byte-count (t .count)) record-size ∙ ap (λ (ys : List ℕ). written ys c) record-is
+          ec ∙ front-is (firing.flag-record (g .fired) (t .count)) c (byte-count (t .count)) record-size ∙ ap (λ (ys : List ℕ). written ys c) record-is

@@ -7,7 +7,7 @@ use lib.ListN.{length, drop}
 use Rattle.laws.specs.Tabulated.{tabulate}
 use Rattle.laws.specs.Packed.{byte-count, byte-at, pack}
 use Rattle.laws.proofs.Fronts.{front-start, front-next, front-length}
-use Rattle.firing.specs.Record.{fired-bits, fired-record}
+use Rattle.firing.specs.Record.{fired-bits, flag-record}
 use Rattle.firing.proofs.Bits.{bits-size}
 use native.Mathlib.Omega.{arith}
 use borrow.Author.Needs.{needs}
@@ -58,7 +58,7 @@ same-length : tie.Need-same-length Inv-loop μ-loop
 same-length c = kept (c .before)
 
 returns : tie.Need-returns Inv-loop μ-loop
-unfolding fired-record pack
+unfolding flag-record pack
 returns c =
     let a = c .before in
     let s = a .before .before in
