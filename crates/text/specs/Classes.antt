@@ -1,8 +1,10 @@
 -- Document 01, 'Rule text': the classes of bytes.
-use Prim.Native.Nat.{ℕ}
+use Prim.Native.Nat.{ℕ, _<_}
+use mathlib.Core.Path.{_≡_}
 use mathlib.Core.Bool.{Bool, true, false, cond}
 use mathlib.Core.List.{List, [], _∷_}
 use lib.Dec.{eqb, leb}
+use lib.ListN.{getD}
 
 -- A byte is one of those listed.
 abbrev pub one-of : List ℕ → ℕ → Bool
@@ -23,3 +25,7 @@ class-of b =
     (cond (eqb b 45) 3
     (cond (one-of (123 ∷ 125 ∷ 44 ∷ 59 ∷ []) b) 4
     (cond (one-of (42 ∷ 124 ∷ 58 ∷ []) b) 5 0))))))
+
+-- A table of 256 that has the class of each byte at its place.
+abbrev pub Classes : List ℕ → Type 0
+Classes xs = (b : ℕ) → b < 256 → getD xs b 0 ≡ class-of b

@@ -1,6 +1,6 @@
 // The classes of bytes: a table of 256, one for each byte, that steers the reader of rule text.
 ghost use mathlib.Core.Path.{_≡_};
-ghost use Rattle.text.specs.Classes.{class-of};
+ghost use Rattle.text.specs.Classes.{class-of, Classes};
 
 pub const WHITE: u8 = 1;
 
@@ -271,10 +271,18 @@ const CLASSES: [u8; 256] = [
     0,
 ];
 
-// The class of a byte.
-pub fn class_of(b: u8) -> u8
+// The table, made once for each token.
+pub fn table() -> [u8; 256]
+    ensures { λ r. ⌜ Classes r ⌝ }
+{
+    CLASSES
+}
+
+// The class of a byte, by the table.
+pub fn class_of(classes: &[u8; 256], b: u8) -> u8
+    requires { ⌜ Classes (now classes) ⌝ }
     ensures { λ r. ⌜ r ≡ class-of b ⌝ }
 {
     let at = b as usize;
-    CLASSES[at]
+    classes[at]
 }

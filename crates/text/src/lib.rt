@@ -3,6 +3,7 @@ ghost use mathlib.Core.Path.{_≡_};
 ghost use mathlib.Core.Bool.{cond};
 ghost use Prim.Native.Nat.{ℕ, _+_, _-_, _≤_};
 ghost use lib.ListN.{length, take, drop};
+ghost use Rattle.text.specs.Classes.{Classes};
 ghost use Rattle.text.specs.Tokens.{run, run-token, mark-of, place, reserved, same-letters};
 ghost use Rattle.text.specs.Next.{white, coded, next-at};
 
@@ -61,12 +62,13 @@ pub struct Next {
 }
 
 // The position of the first byte from `at` on that is not white.
-pub fn white_end(text: &[u8], at: usize) -> usize
+pub fn white_end(text: &[u8], at: usize, classes: &[u8; 256]) -> usize
+    requires { ⌜ Classes (now classes) ⌝ }
     ensures { λ r. ⌜ r ≡ at + white (drop at (now (text .entry))) ⌝ }
 {
     let mut i = at;
     while i < text.len() {
-        let c = classes::class_of(text[i]);
+        let c = classes::class_of(classes, text[i]);
         if c != classes::WHITE {
             return i;
         }
@@ -76,12 +78,13 @@ pub fn white_end(text: &[u8], at: usize) -> usize
 }
 
 // The position after the name bytes that stand from `at` on.
-pub fn run_end(text: &[u8], at: usize) -> usize
+pub fn run_end(text: &[u8], at: usize, classes: &[u8; 256]) -> usize
+    requires { ⌜ Classes (now classes) ⌝ }
     ensures { λ r. ⌜ r ≡ at + run (drop at (now (text .entry))) ⌝ }
 {
     let mut i = at;
     while i < text.len() {
-        let c = classes::class_of(text[i]);
+        let c = classes::class_of(classes, text[i]);
         if c != classes::ALPHANUMERIC {
             if c != classes::HYPHEN {
                 return i;
@@ -168,7 +171,8 @@ fn run_token(text: &[u8], start: usize, end: usize) -> Token
 pub fn token_at(text: &[u8], at: usize) -> Next
     ensures { λ r. ⌜ r ≡ next-at (now (text .entry)) at ⌝ }
 {
-    let start = white_end(text, at);
+    let classes = classes::table();
+    let start = white_end(text, at, &classes);
     if text.len() <= start {
         return Next {
             token: Token::End,
@@ -176,9 +180,9 @@ pub fn token_at(text: &[u8], at: usize) -> Next
         };
     }
     let b = text[start];
-    let class = classes::class_of(b);
+    let class = classes::class_of(&classes, b);
     if class == classes::ALPHANUMERIC {
-        let end = run_end(text, start + 1);
+        let end = run_end(text, start + 1, &classes);
         return Next {
             token: run_token(text, start, end),
             at: end,

@@ -15,7 +15,7 @@ use Rattle.text.proofs.token_at.Tie as tie
 
 -- The text, the position asked for, and the first byte that is not white.
 abbrev text-of : tie.Else1 → List ℕ
-text-of c = c .before .before .before .args .text .now
+text-of c = c .before .before .before .before .before .args .text .now
 
 abbrev start-of : tie.Else1 → ℕ
 start-of c = c .before .white-end .result
@@ -24,15 +24,18 @@ within : (c : tie.Else1) → start-of c < length (text-of c)
 within c = search needs
 
 -- The class that the code looked up is the byte's.
-class-there : (c : tie.After-class-of) → c .class-of .result ≡ class-of (getD (text-of (c .before .before)) (start-of (c .before .before)) 0)
+class-there : (c : tie.After-class-of) → c .class-of .result ≡ class-of (getD (text-of (c .before .before .before)) (start-of (c .before .before .before)) 0)
 class-there c = c .class-of .ensures
+
+table-requires : tie.Need-table-requires
+table-requires c κs = search needs
 
 white-end-requires : tie.Need-white-end-requires
 white-end-requires c κs = search needs
 
 returns : tie.Need-returns
 returns c =
-    let a = c .before .before .before .args in
+    let a = c .before .before .before .before .before .args in
     sym (here.next-end (a .text .now) (a .at) _ (c .before .white-end .ensures) (c .if1 .taken))
 
 shared-slice-read-b : tie.Need-shared-slice-read-b
@@ -49,7 +52,7 @@ run-end-requires c κs = search needs
 
 run-token-requires : tie.Need-run-token-requires
 run-token-requires c κs =
-    let d = c .before .before .before .before in
+    let d = c .before .before .before .before .before .before in
     let h = within d in
     let e = c .run-end .ensures in
     let r = run-le (drop (start-of d + 1) (text-of d)) in
@@ -58,20 +61,20 @@ run-token-requires c κs =
 
 returns-2 : tie.Need-returns-2
 returns-2 c =
-    let k = c .before .before .before in
-    let d = k .before .before in
-    sym (here.next-run (text-of d) _ (start-of d) _ _ (d .before .white-end .ensures) (within d) (sym (class-there k) ∙ c .before .before .if2 .taken) (c .before .run-end .ensures) (c .run-token .ensures))
+    let k = c .before .before .before .before in
+    let d = k .before .before .before in
+    sym (here.next-run (text-of d) _ (start-of d) _ _ (d .before .white-end .ensures) (within d) (sym (class-there k) ∙ c .before .before .before .if2 .taken) (c .before .run-end .ensures) (c .run-token .ensures))
 
 mark-of-requires : tie.Need-mark-of-requires
 mark-of-requires c κs = search needs
 
-add-t16 : tie.Need-add-t16
-add-t16 c = search needs
+add-t21 : tie.Need-add-t21
+add-t21 c = search needs
 
 returns-3 : tie.Need-returns-3
 returns-3 c =
     let k = c .before .before .before in
-    let d = k .before .before in
+    let d = k .before .before .before in
     sym (here.next-single (text-of d) _ (start-of d) _ (d .before .white-end .ensures) (within d) (sym (class-there k) ∙ c .before .if3 .taken) (c .mark-of .ensures))
 
 add-if5 : tie.Need-add-if5
@@ -86,23 +89,23 @@ shared-slice-read-if6 c = search needs
 mark-of-requires-2 : tie.Need-mark-of-requires-2
 mark-of-requires-2 c κs = search needs
 
-add-t26 : tie.Need-add-t26
-add-t26 c = search needs
+add-t31 : tie.Need-add-t31
+add-t31 c = search needs
 
 returns-4 : tie.Need-returns-4
 returns-4 c =
     let j = c .before .before .before in
     let k = j .before .before .before .before in
-    let d = k .before .before in
+    let d = k .before .before .before in
     sym (here.next-double (text-of d) _ (start-of d) _ (d .before .white-end .ensures) (j .if5 .taken) (sym (class-there k) ∙ j .before .if4 .taken) (c .before .if6 .taken) (c .mark-of2 .ensures))
 
-add-t7 : tie.Need-add-t7
-add-t7 c = search needs
+add-t10 : tie.Need-add-t10
+add-t10 c = search needs
 
 returns-5 : tie.Need-returns-5
 returns-5 c =
     let k = c .before .before .before in
-    let d = k .before .before in
+    let d = k .before .before .before in
     let e = d .before .white-end .ensures in
     sym (⊎-elim
     (λ x. here.next-other (text-of d) _ (start-of d) e (x .1 .taken) (sym (class-there k) ∙ x .0 .taken) (x .3 .left))
@@ -116,6 +119,7 @@ pub token-at-spec : {M : Type 1} → statement M
 token-at-spec =
     tie.close
     (tie.spec
+    table-requires
     white-end-requires
     returns
     shared-slice-read-b
@@ -125,13 +129,13 @@ token-at-spec =
     run-token-requires
     returns-2
     mark-of-requires
-    add-t16
+    add-t21
     returns-3
     add-if5
     add-if6
     shared-slice-read-if6
     mark-of-requires-2
-    add-t26
+    add-t31
     returns-4
-    add-t7
+    add-t10
     returns-5)
