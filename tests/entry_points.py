@@ -15,6 +15,7 @@ ENTRY_POINTS = {
     'rule_file': ['read'],
     'cards': ['unpack_card', 'unpack_slip', 'pack_card', 'pack_slip'],
     'response': ['respond'],
+    'library': ['rl_read', 'rl_is_sound', 'rl_slot_name', 'rl_value_name', 'rl_unpack_card', 'rl_unpack_slip', 'rl_pack_card', 'rl_pack_slip', 'rl_respond'],
 }
 
 

@@ -23,18 +23,21 @@ pub mod pack;
 pub mod unpack;
 
 // An unpacked card: a value for each slot, 0 for no value, and how many slots it counts.
+#[repr(C)]
 pub struct Card {
     pub values: [u8; SLOTS],
     pub count: usize,
 }
 
 // A change of a slot to a value.
+#[repr(C)]
 pub struct Change {
     pub slot: u8,
     pub value: u8,
 }
 
 // An unpacked slip: its changes, and how many it counts.
+#[repr(C)]
 pub struct Slip {
     pub changes: [Change; SLOTS],
     pub count: usize,

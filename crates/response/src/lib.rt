@@ -16,6 +16,7 @@ use counting::one_refused;
 use table::Table;
 
 // Slips answered and slips refused.
+#[repr(C)]
 pub struct Tally {
     pub answered: u16,
     pub refused: u16,

@@ -13,6 +13,8 @@ pub mod gen_text;
 pub mod listing;
 pub mod orders;
 pub mod program_cases;
+#[cfg(feature = "proved")]
+pub mod proved;
 pub mod read;
 pub mod read_lines;
 pub mod response;

@@ -1,4 +1,4 @@
-//! The table by value, with its places and counts, and the rules as the paper speaks of them.
+//! The table by value, with its places and counts, and the rules as the paper speaks of them. The places lie as in C, so that a table can be handed to the proved engine.
 
 /// Limits of a rule file.
 pub const SLOTS: usize = 32;
@@ -8,6 +8,7 @@ pub const LITERALS: usize = 8;
 pub const ASSIGNMENTS: usize = 4;
 
 /// Where a name stands in the rule text.
+#[repr(C)]
 #[derive(Clone, Copy, PartialEq, Eq, Debug, Default)]
 pub struct Name {
     pub start: usize,
@@ -15,6 +16,7 @@ pub struct Name {
 }
 
 /// A slot's place: its name, the names of its values and how many are used.
+#[repr(C)]
 #[derive(Clone, Copy, PartialEq, Eq, Debug, Default)]
 pub struct SlotPlace {
     pub name: Name,
@@ -23,6 +25,7 @@ pub struct SlotPlace {
 }
 
 /// A literal's place: `slot *= value` (becomes) or `slot |= value`, plain or under NOT.
+#[repr(C)]
 #[derive(Clone, Copy, PartialEq, Eq, Debug, Default)]
 pub struct LiteralPlace {
     pub becomes: bool,
@@ -32,6 +35,7 @@ pub struct LiteralPlace {
 }
 
 /// An assignment's place: `slot := value`.
+#[repr(C)]
 #[derive(Clone, Copy, PartialEq, Eq, Debug, Default)]
 pub struct AssignmentPlace {
     pub slot: u8,
@@ -39,6 +43,7 @@ pub struct AssignmentPlace {
 }
 
 /// A rule's place: trigger, literal places and assignment places with the counts used, stratum.
+#[repr(C)]
 #[derive(Clone, Copy, PartialEq, Eq, Debug, Default)]
 pub struct RulePlace {
     pub slot: u8,
@@ -51,6 +56,7 @@ pub struct RulePlace {
 }
 
 /// The table: slot places and rule places with the counts used.
+#[repr(C)]
 #[derive(Clone, PartialEq, Eq, Debug)]
 pub struct Table {
     pub slots: [SlotPlace; SLOTS],

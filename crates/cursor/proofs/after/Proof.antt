@@ -46,10 +46,13 @@ use Rattle.text.proofs.Next as next
 use Rattle.text.proofs.Next.Laws as next-laws
 use Rattle.cursor.proofs.advance as advance
 use Rattle.cursor.proofs.advance.Symbol as advance-def
+use Rattle.cursor.proofs.advance.Symbol.{name as #cursor·advance}
 use Rattle.cursor.proofs.advance.Met as advance-thm
 use Rattle.cursor.proofs.peek as peek
 use Rattle.cursor.proofs.peek.Symbol as peek-def
+use Rattle.cursor.proofs.peek.Symbol.{name as #cursor·peek}
 use Rattle.cursor.proofs.peek.Met as peek-thm
+use Rattle.cursor.proofs.after.Key.{name as #cursor·after}
 use Rattle.cursor.proofs.after as after
 use Rattle.cursor.proofs.after.Statement as stated
 use Rattle.cursor.proofs.after.Code as code

@@ -44,10 +44,13 @@ use Rattle.text.proofs.Next as next
 use Rattle.text.proofs.Next.Laws as next-laws
 use Rattle.cursor.proofs.new as new
 use Rattle.cursor.proofs.new.Symbol as new-def
+use Rattle.cursor.proofs.new.Symbol.{name as #cursor·new}
 use Rattle.cursor.proofs.new.Met as new-thm
 use Rattle.cursor.proofs.peek as peek
 use Rattle.cursor.proofs.peek.Symbol as peek-def
+use Rattle.cursor.proofs.peek.Symbol.{name as #cursor·peek}
 use Rattle.cursor.proofs.peek.Met as peek-thm
+use Rattle.cursor.proofs.first.Key.{name as #cursor·first}
 use Rattle.cursor.proofs.first as first
 use Rattle.cursor.proofs.first.Statement as stated
 use Rattle.cursor.proofs.first.Code as code

@@ -36,6 +36,7 @@ use denote.Exit.{yes}
 use Rattle.cursor.specs.Readers.{at-start}
 use Rattle.cursor.proofs.Reader.Laws as reader-laws
 use Rattle.cursor.proofs.Held.{Shape, shape-laws, fields, text-val, Text-own, text-twice}
+use Rattle.cursor.proofs.new.Key.{name as #cursor·new}
 use Rattle.cursor.proofs.new as new
 use Rattle.cursor.proofs.new.Statement as stated
 use Rattle.cursor.proofs.new.Code as code

@@ -1,0 +1,92 @@
+-- `rl_value_name` meets its contract.
+-- Assumes nothing.
+use mathlib.Core.Path.{_≡_, sym, _∙_}
+use mathlib.Core.Bool.{true}
+use Prim.Native.Nat.{_≤_, _<_}
+use lib.ListN.{getD}
+use borrow.Author.Tests.{not-true, not-false}
+use Rattle.table.specs.Limits.{slot-limit, value-limit}
+use Rattle.table.specs.Shape.{no-slot}
+use Rattle.table.specs.Names.{has-slot, has-value}
+use Rattle.table.proofs.Names.{slot-inside, value-inside}
+use Rattle.library.proofs.Places.{value-slot-lacking, value-there, value-lacking, value-shown}
+use native.Mathlib.Omega.{arith}
+use borrow.Author.Needs.{needs}
+use Rattle.library.proofs.rl_value_name.Statement.{statement}
+use Rattle.library.proofs.rl_value_name.Tie as tie
+
+-- The table has the slot.
+there : (c : tie.Else1) → has-slot (c .before .before .before .args .t2 .width) (c .before .before .before .args .slot) ≡ true
+there c = sym (c .before .has-slot .ensures) ∙ not-false (c .before .has-slot .result) (c .if1 .left)
+
+inside : (c : tie.Else1) → c .before .before .before .args .slot < slot-limit
+inside c = slot-inside _ _ (there c) .0
+
+-- The slot has the value.
+has : (c : tie.Else2) →
+    let a = c .before .before .before .before .before .before .args in
+    has-value (getD (a .t2 .slots) (a .slot) no-slot .count) (a .value) ≡ true
+has c = sym (c .before .has-value .ensures) ∙ not-false (c .before .has-value .result) (c .if2 .left)
+
+within : (c : tie.Else2) → let v = c .before .before .before .before .before .before .args .value in (1 ≤ v) × (v ≤ value-limit)
+within c = let h = value-inside _ _ (has c) in (h .0, h .1 .0)
+
+has-slot-requires : tie.Need-has-slot-requires
+has-slot-requires c κs = search needs
+
+returns : tie.Need-returns
+returns c =
+    let g = c .before in
+    let a = g .before .before .args in
+    value-shown (a .text .now) (a .t2) (a .slot) (a .value) _ (sym (value-slot-lacking _ (a .t2) (a .slot) (a .value) (sym (g .has-slot .ensures) ∙ not-true (g .has-slot .result) (c .if1 .taken))))
+
+mul-s : tie.Need-mul-s
+mul-s c = omega (arith, inside c)
+
+element-copy-out-s : tie.Need-element-copy-out-s
+element-copy-out-s c = inside c
+
+has-value-requires : tie.Need-has-value-requires
+has-value-requires c κs = search needs
+
+returns-2 : tie.Need-returns-2
+returns-2 c =
+    let g = c .before in
+    let e = g .before .before in
+    let a = e .before .before .before .args in
+    value-shown (a .text .now) (a .t2) (a .slot) (a .value) _ (sym (value-lacking _ (a .t2) (a .slot) (a .value) (there e) (sym (g .has-value .ensures) ∙ not-true (g .has-value .result) (c .if2 .taken))))
+
+sub-k : tie.Need-sub-k
+sub-k c = within c .0
+
+mul-name : tie.Need-mul-name
+mul-name c = omega (arith, within c)
+
+element-copy-out-name : tie.Need-element-copy-out-name
+element-copy-out-name c = omega (arith, within c)
+
+place-of-requires : tie.Need-place-of-requires
+place-of-requires c κs = search needs
+
+returns-3 : tie.Need-returns-3
+returns-3 c =
+    let f = c .before .before in
+    let e = f .before .before .before in
+    let a = e .before .before .before .args in
+    value-shown (a .text .now) (a .t2) (a .slot) (a .value) _ (c .place-of .ensures ∙ sym (value-there _ (a .t2) (a .slot) (a .value) (there e) (has f)))
+
+pub rl-value-name-spec : {M : Type 1} → statement M
+rl-value-name-spec =
+    tie.close
+    (tie.spec
+    has-slot-requires
+    returns
+    mul-s
+    element-copy-out-s
+    has-value-requires
+    returns-2
+    sub-k
+    mul-name
+    element-copy-out-name
+    place-of-requires
+    returns-3)

@@ -1,0 +1,53 @@
+-- The results of the boundary: the answers of the entry points with document 01's numbers in place of the enums.
+use Prim.Native.Nat.{ℕ}
+use Rattle.reader.specs.declared.FileRead.{FileRead}
+use Rattle.reader.specs.Tables as reading
+use Rattle.cards.specs.declared.CardRead.{CardRead}
+use Rattle.cards.specs.declared.SlipRead.{SlipRead}
+use Rattle.cards.specs.declared.Packing.{Packing}
+use Rattle.cards.specs.Cards.{refusal-number, second-number, packing-refusal, packing-second, packing-length}
+use Rattle.response.specs.declared.Tally.{Tally}
+use Rattle.response.specs.declared.Outcome.{Outcome}
+use Rattle.response.specs.declared.Outcome.the-variants.{Answered, Refused}
+use Rattle.response.specs.declared.Response.{Response}
+use Rattle.response.specs.Respond as responding
+use Rattle.library.specs.declared.RlRead.{RlRead}
+use Rattle.library.specs.declared.RlCard.{RlCard}
+use Rattle.library.specs.declared.RlSlip.{RlSlip}
+use Rattle.library.specs.declared.RlPacked.{RlPacked}
+use Rattle.library.specs.declared.RlResponse.{RlResponse}
+
+-- A reading: 'Refusals by who can cause them', the number, 0 for none, and the second number; the table as it is.
+abbrev pub read-result : FileRead → RlRead
+read-result r = record { number = reading.refusal-number (r .outcome); second = reading.second-number (r .outcome); table = r .table }
+
+-- An unpacked card.
+abbrev pub card-result : CardRead → RlCard
+card-result r = record { number = refusal-number (r .outcome); second = second-number (r .outcome); card = r .card }
+
+-- An unpacked slip.
+abbrev pub slip-result : SlipRead → RlSlip
+slip-result r = record { number = refusal-number (r .outcome); second = second-number (r .outcome); slip = r .slip }
+
+-- A packing.
+abbrev pub packing-result : Packing → RlPacked
+packing-result p = record { number = packing-refusal p; second = packing-second p; length = packing-length p }
+
+-- The length of the changes that a response says; a refusal has none.
+abbrev pub changes-length : Outcome → ℕ
+changes-length (Answered n f) = n
+changes-length (Refused k s) = 0
+
+-- How many rules fired; none after a refusal.
+abbrev pub fired-count : Outcome → ℕ
+fired-count (Answered n f) = f
+fired-count (Refused k s) = 0
+
+-- An outcome by numbers, with a tally as it is.
+abbrev pub numbered : Outcome → Tally → RlResponse
+numbered o y =
+    record { number = responding.refusal-number o; second = responding.second-number o; length = changes-length o; fired = fired-count o; tally = y }
+
+-- A response.
+abbrev pub response-result : Response → RlResponse
+response-result r = numbered (r .outcome) (r .tally)

@@ -1,0 +1,309 @@
+// The entry points for programs in C and Rust: each hands on exactly what the function of the crate below says, with numbers where that has an enum.
+ghost use mathlib.Core.Path.{_≡_};
+ghost use lib.ListN.{length};
+ghost use Rattle.table.specs.Names.{show-slot, show-value};
+ghost use Rattle.strata.specs.Sound.{sound};
+ghost use Rattle.rule_file.specs.Whole.{reading};
+ghost use Rattle.cards.specs.Cards.{unpacked-card, unpacked-slip, packed-card, packed-slip, card-read, slip-read, packing-of, output-of};
+ghost use Rattle.response.specs.Respond.{rooms-of, outputs, outputs-after, respond-to, response-to};
+ghost use Rattle.library.specs.Results.{read-result, card-result, slip-result, packing-result, numbered, response-result};
+ghost use Rattle.library.specs.Places.{name-place, slot-place, value-place, Shows};
+use cards::Card;
+use cards::Packing;
+use cards::Slip;
+use response::Outcome;
+use response::Tally;
+use table::Name;
+use table::Table;
+
+// A reading: the number of its refusal, 0 where the text is accepted, its second number, and the table, without slots or rules after a refusal.
+#[repr(C)]
+pub struct RlRead {
+    pub number: u8,
+    pub second: usize,
+    pub table: Table,
+}
+
+// Where a name stands in the text: 0, its start and its size; or 31, 0 and 0.
+#[repr(C)]
+pub struct RlName {
+    pub number: u8,
+    pub start: usize,
+    pub size: usize,
+}
+
+// An unpacking of a card: the number of its refusal, 0 for none, its second number, and the card, without slots after a refusal.
+#[repr(C)]
+pub struct RlCard {
+    pub number: u8,
+    pub second: usize,
+    pub card: Card,
+}
+
+// An unpacking of a slip: the same with the slip, without changes after a refusal.
+#[repr(C)]
+pub struct RlSlip {
+    pub number: u8,
+    pub second: usize,
+    pub slip: Slip,
+}
+
+// A packing: the number of its refusal, 0 for none, its second number, and how many bytes are written.
+#[repr(C)]
+pub struct RlPacked {
+    pub number: u8,
+    pub second: usize,
+    pub length: usize,
+}
+
+// A response: the number of its refusal, 0 for none, its second number, the length of the changes, how many rules fired, and the tally after it.
+#[repr(C)]
+pub struct RlResponse {
+    pub number: u8,
+    pub second: usize,
+    pub length: usize,
+    pub fired: usize,
+    pub tally: Tally,
+}
+
+// Reads a rule text: 10 to 18.
+#[no_mangle]
+pub extern "C" fn rl_read(text: &[u8]) -> RlRead
+    ensures { λ r. ⌜ r ≡ read-result (reading (now (text .entry))) ⌝ }
+{
+    let read = rule_file::read(text);
+    let outcome = read.outcome;
+    let t = read.table;
+    match outcome {
+        reader::Outcome::Accepted => {
+            return RlRead {
+                number: 0,
+                second: 0,
+                table: t,
+            };
+        }
+        reader::Outcome::Refused(k, n) => {
+            return RlRead {
+                number: k,
+                second: n,
+                table: t,
+            };
+        }
+    }
+}
+
+// Whether a table is in order: where it is not, the other functions say 31.
+#[no_mangle]
+pub extern "C" fn rl_is_sound(t: Table) -> bool
+    ensures { λ b. ⌜ b ≡ sound t ⌝ }
+{
+    strata::is_sound(t)
+}
+
+// Where a name stands in a text of this length; 31 where it stands outside.
+fn place_of(length: usize, name: Name) -> RlName
+    ensures { λ r. ⌜ r ≡ name-place length name ⌝ }
+{
+    let start = name.start;
+    let size = name.size;
+    if start <= length {
+        if size <= length - start {
+            return RlName {
+                number: 0,
+                start: start,
+                size: size,
+            };
+        }
+    }
+    RlName {
+        number: 31,
+        start: 0,
+        size: 0,
+    }
+}
+
+// Where a slot's name stands in the text, or 31.
+#[no_mangle]
+pub extern "C" fn rl_slot_name(text: &[u8], t: Table, slot: usize) -> RlName
+    ensures { λ r. ⌜ (r ≡ slot-place (length (now (text .entry))) t slot) × Shows (now (text .entry)) r (show-slot (now (text .entry)) t slot) ⌝ }
+{
+    let width = t.width;
+    if !table::has_slot(width, slot) {
+        return RlName {
+            number: 31,
+            start: 0,
+            size: 0,
+        };
+    }
+    let named = t.slots[slot];
+    let name = named.name;
+    place_of(text.len(), name)
+}
+
+// Where the name of a value of a slot stands in the text, values counted from 1, or 31.
+#[no_mangle]
+pub extern "C" fn rl_value_name(text: &[u8], t: Table, slot: usize, value: usize) -> RlName
+    ensures { λ r. ⌜ (r ≡ value-place (length (now (text .entry))) t slot value) × Shows (now (text .entry)) r (show-value (now (text .entry)) t slot value) ⌝ }
+{
+    let width = t.width;
+    if !table::has_slot(width, slot) {
+        return RlName {
+            number: 31,
+            start: 0,
+            size: 0,
+        };
+    }
+    let s = t.slots[slot];
+    let count = s.count;
+    if !table::has_value(count, value) {
+        return RlName {
+            number: 31,
+            start: 0,
+            size: 0,
+        };
+    }
+    let k = value - 1;
+    let name = s.values[k];
+    place_of(text.len(), name)
+}
+
+// Unpacks bytes as a card: 31, 20 to 23.
+#[no_mangle]
+pub extern "C" fn rl_unpack_card(t: Table, bytes: &[u8]) -> RlCard
+    ensures { λ r. ⌜ r ≡ card-result (card-read (unpacked-card t (now (bytes .entry)))) ⌝ }
+{
+    let read = cards::unpack_card(t, bytes);
+    let outcome = read.outcome;
+    let card = read.card;
+    match outcome {
+        cards::Outcome::Accepted => {
+            return RlCard {
+                number: 0,
+                second: 0,
+                card: card,
+            };
+        }
+        cards::Outcome::Refused(number, second) => {
+            return RlCard {
+                number: number,
+                second: second,
+                card: card,
+            };
+        }
+    }
+}
+
+// Unpacks bytes as a slip: 31, 24 to 28.
+#[no_mangle]
+pub extern "C" fn rl_unpack_slip(t: Table, bytes: &[u8]) -> RlSlip
+    ensures { λ r. ⌜ r ≡ slip-result (slip-read (unpacked-slip t (now (bytes .entry)))) ⌝ }
+{
+    let read = cards::unpack_slip(t, bytes);
+    let outcome = read.outcome;
+    let slip = read.slip;
+    match outcome {
+        cards::Outcome::Accepted => {
+            return RlSlip {
+                number: 0,
+                second: 0,
+                slip: slip,
+            };
+        }
+        cards::Outcome::Refused(number, second) => {
+            return RlSlip {
+                number: number,
+                second: second,
+                slip: slip,
+            };
+        }
+    }
+}
+
+// A packing by numbers.
+fn packed(packing: Packing) -> RlPacked
+    ensures { λ r. ⌜ r ≡ packing-result packing ⌝ }
+{
+    match packing {
+        Packing::Packed(length) => {
+            return RlPacked {
+                number: 0,
+                second: 0,
+                length: length,
+            };
+        }
+        Packing::Refused(number, second) => {
+            return RlPacked {
+                number: number,
+                second: second,
+                length: 0,
+            };
+        }
+    }
+}
+
+// Packs a card into the output: 31, 21, 22, and 30 with 1.
+#[no_mangle]
+pub extern "C" fn rl_pack_card(t: Table, card: Card, out: &mut [u8]) -> RlPacked
+    ensures { λ r. ⌜ (r ≡ packing-result (packing-of (packed-card t card (length (now (out .entry))))))
+        × (now (out .exit) ≡ output-of (packed-card t card (length (now (out .entry)))) (now (out .entry))) ⌝ }
+{
+    let packing = cards::pack_card(t, card, out);
+    packed(packing)
+}
+
+// Packs a slip into the output: 31, 24 to 27, and 30 with 2.
+#[no_mangle]
+pub extern "C" fn rl_pack_slip(t: Table, slip: Slip, out: &mut [u8]) -> RlPacked
+    ensures { λ r. ⌜ (r ≡ packing-result (packing-of (packed-slip t slip (length (now (out .entry))))))
+        × (now (out .exit) ≡ output-of (packed-slip t slip (length (now (out .entry)))) (now (out .entry))) ⌝ }
+{
+    let packing = cards::pack_slip(t, slip, out);
+    packed(packing)
+}
+
+// A response by numbers.
+fn answered(outcome: Outcome, tally: Tally) -> RlResponse
+    ensures { λ r. ⌜ r ≡ numbered outcome tally ⌝ }
+{
+    match outcome {
+        Outcome::Answered(length, fired) => {
+            return RlResponse {
+                number: 0,
+                second: 0,
+                length: length,
+                fired: fired,
+                tally: tally,
+            };
+        }
+        Outcome::Refused(number, second) => {
+            return RlResponse {
+                number: number,
+                second: second,
+                length: 0,
+                fired: 0,
+                tally: tally,
+            };
+        }
+    }
+}
+
+// Responds to a card and a slip: 32, 31, 20 to 28, 30, 40; an answer writes the new card, the changes and the fired record, a refusal nothing.
+#[no_mangle]
+pub extern "C" fn rl_respond(
+    t: Table,
+    tally: Tally,
+    card: &[u8],
+    slip: &[u8],
+    renewed: &mut [u8],
+    changes: &mut [u8],
+    fired: &mut [u8],
+) -> RlResponse
+    ensures { λ r. ⌜ (r ≡ response-result (response-to t tally (now (card .entry)) (now (slip .entry)) (rooms-of (now (renewed .entry)) (now (changes .entry)) (now (fired .entry)))))
+        × (outputs (now (renewed .exit)) (now (changes .exit)) (now (fired .exit))
+        ≡ outputs-after (respond-to t tally (now (card .entry)) (now (slip .entry)) (rooms-of (now (renewed .entry)) (now (changes .entry)) (now (fired .entry)))) (outputs (now (renewed .entry)) (now (changes .entry)) (now (fired .entry)))) ⌝ }
+{
+    let response = response::respond(t, tally, card, slip, renewed, changes, fired);
+    let outcome = response.outcome;
+    let after = response.tally;
+    answered(outcome, after)
+}

@@ -1,0 +1,61 @@
+//! A desk in Rust: reads rules.txt, card.bin and slip.bin in a folder, asks for the response and prints what changes, by name.
+
+mod rl;
+
+use std::process::exit;
+
+use rl::Refusal;
+
+/// Reads a file of the folder.
+fn load(folder: &str, name: &str) -> Vec<u8> {
+    std::fs::read(format!("{folder}/{name}")).unwrap_or_else(|_| {
+        println!("unread {name}");
+        exit(1)
+    })
+}
+
+/// Prints a slot's name and a value's name, each a part of the rule text; a card's 0 is no value.
+fn print_pair(what: &str, text: &[u8], table: &rl::Table, slot: usize, value: usize) -> Result<(), Refusal> {
+    let name = String::from_utf8_lossy(rl::slot_name(text, table, slot)?);
+    if value == 0 {
+        println!("{what} {name} -");
+    } else {
+        println!("{what} {name} {}", String::from_utf8_lossy(rl::value_name(text, table, slot, value)?));
+    }
+    Ok(())
+}
+
+/// Reads the rules, shows the card, asks for the response and shows it.
+fn run(text: &[u8], card: &[u8], slip: &[u8]) -> Result<(), Refusal> {
+    let table = rl::read(text)?;
+
+    let before = rl::unpack_card(&table, card)?;
+    for (slot, value) in before.values[..before.count].iter().enumerate() {
+        print_pair("has", text, &table, slot, (*value).into())?;
+    }
+
+    let (mut new_card, mut changes, mut fired) = ([0; rl::CARD_BYTES], [0; rl::SLIP_BYTES], [0; rl::FIRED_BYTES]);
+    let tally = rl::Tally { answered: 0, refused: 0 };
+    let (tally, answer) = rl::respond(&table, tally, card, slip, &mut new_card, &mut changes, &mut fired);
+    let answer = answer?;
+
+    let changed = rl::unpack_slip(&table, &changes[..answer.length])?;
+    for change in &changed.changes[..changed.count] {
+        print_pair("change", text, &table, change.slot.into(), change.value.into())?;
+    }
+    for rule in (0..table.count).filter(|rule| fired[rule / 8] >> (7 - rule % 8) & 1 == 1) {
+        println!("fired {}", rule + 1);
+    }
+    println!("rules fired {}", answer.fired);
+    println!("tally {} {}", tally.answered, tally.refused);
+    Ok(())
+}
+
+fn main() {
+    let folder = std::env::args().nth(1).unwrap_or_else(|| ".".into());
+    let [text, card, slip] = ["rules.txt", "card.bin", "slip.bin"].map(|name| load(&folder, name));
+    if let Err(Refusal { number, second }) = run(&text, &card, &slip) {
+        println!("refused {number} {second}");
+        exit(1);
+    }
+}

@@ -1,0 +1,174 @@
+/* The RL desk for programs in C: link target/staticlib/liblibrary.a, which `rt staticlib library` makes for x86-64. */
+#ifndef RL_H
+#define RL_H
+
+#include <stdbool.h>
+#include <stddef.h>
+#include <stdint.h>
+
+/* The limits of a rule file. */
+#define RL_SLOTS 32
+#define RL_VALUES 15
+#define RL_RULES 255
+#define RL_LITERALS 8
+#define RL_ASSIGNMENTS 4
+
+/* Bytes that any card, any slip of 32 changes and any fired record fit in. */
+#define RL_CARD_BYTES 17
+#define RL_SLIP_BYTES 37
+#define RL_FIRED_BYTES 32
+
+/* Where a name stands in the rule text. */
+typedef struct {
+    size_t start;
+    size_t size;
+} RlPlace;
+
+/* A slot: its name, and the names of its values with the number used; value k (from 1) is at k - 1. */
+typedef struct {
+    RlPlace name;
+    RlPlace values[RL_VALUES];
+    size_t count;
+} RlSlot;
+
+/* A test in a condition: `slot *= value` (becomes) or `slot |= value`, plain or under NOT. */
+typedef struct {
+    bool becomes;
+    bool negated;
+    uint8_t slot;
+    uint8_t value;
+} RlLiteral;
+
+/* `slot := value`. */
+typedef struct {
+    uint8_t slot;
+    uint8_t value;
+} RlAssignment;
+
+/* A rule: its trigger `slot *= value`, its literals and assignments with the numbers used, its stratum. */
+typedef struct {
+    uint8_t slot;
+    uint8_t value;
+    RlLiteral literals[RL_LITERALS];
+    size_t tested;
+    RlAssignment assignments[RL_ASSIGNMENTS];
+    size_t assigned;
+    uint8_t stratum;
+} RlRule;
+
+/* The table: slots (from 0) with the number used, and rules with the number used; rule n (from 1) is at n - 1. 26,824 bytes. */
+typedef struct {
+    RlSlot slots[RL_SLOTS];
+    size_t width;
+    RlRule rules[RL_RULES];
+    size_t count;
+} RlTable;
+
+/* An unpacked card: a value for each slot, 0 for no value, and how many slots it counts. */
+typedef struct {
+    uint8_t values[RL_SLOTS];
+    size_t count;
+} RlCardForm;
+
+/* A change of a slot to a value. */
+typedef struct {
+    uint8_t slot;
+    uint8_t value;
+} RlChange;
+
+/* An unpacked slip: its changes, and how many it counts. */
+typedef struct {
+    RlChange changes[RL_SLOTS];
+    size_t count;
+} RlSlipForm;
+
+/* Slips answered and slips refused, 0 to 9,999 each. */
+typedef struct {
+    uint16_t answered;
+    uint16_t refused;
+} RlTally;
+
+/* In each result `number` is the refusal's number, 0 for none, and `second` its second number. */
+
+/* A reading: the table is without slots or rules after a refusal. */
+typedef struct {
+    uint8_t number;
+    size_t second;
+    RlTable table;
+} RlRead;
+
+/* Where a name stands: 0, its start and its size; or 31, 0 and 0. */
+typedef struct {
+    uint8_t number;
+    size_t start;
+    size_t size;
+} RlName;
+
+/* An unpacked card, without slots after a refusal. */
+typedef struct {
+    uint8_t number;
+    size_t second;
+    RlCardForm card;
+} RlCard;
+
+/* An unpacked slip, without changes after a refusal. */
+typedef struct {
+    uint8_t number;
+    size_t second;
+    RlSlipForm slip;
+} RlSlip;
+
+/* A packing: how many bytes were written, 0 after a refusal. */
+typedef struct {
+    uint8_t number;
+    size_t second;
+    size_t length;
+} RlPacked;
+
+/* A response: the length of the changes, how many rules fired, and the tally after it. */
+typedef struct {
+    uint8_t number;
+    size_t second;
+    size_t length;
+    size_t fired;
+    RlTally tally;
+} RlResponse;
+
+/* In each function a buffer is a pointer and its length; the pointer is not null, also where the length is 0, and an output overlaps no other buffer. A bool is 0 or 1. Nothing else is asked of any argument. */
+
+/* Reads a rule text into a table, or refuses it with 10 to 18. */
+RlRead rl_read(const uint8_t *text, size_t text_length);
+
+/* Says whether a table is in order; with one that is not, the functions below that take it say 31, but for the names. */
+bool rl_is_sound(RlTable table);
+
+/* Says where a slot's name stands in the text, or 31. */
+RlName rl_slot_name(const uint8_t *text, size_t text_length, RlTable table, size_t slot);
+
+/* Says where the name of a slot's value stands in the text, values counted from 1, or 31. */
+RlName rl_value_name(const uint8_t *text, size_t text_length, RlTable table, size_t slot, size_t value);
+
+/* Unpacks bytes as a card, or refuses them with 31, 20 to 23. */
+RlCard rl_unpack_card(RlTable table, const uint8_t *bytes, size_t bytes_length);
+
+/* Unpacks bytes as a slip, or refuses them with 31, 24 to 28. */
+RlSlip rl_unpack_slip(RlTable table, const uint8_t *bytes, size_t bytes_length);
+
+/* Packs a card into the output, or refuses it with 31, 21, 22, 30; bytes beyond the packed length, and all after a refusal, stay as they are. */
+RlPacked rl_pack_card(RlTable table, RlCardForm card, uint8_t *out, size_t out_length);
+
+/* Packs a slip into the output, or refuses it with 31, 24 to 27, 30; other bytes stay as they are. */
+RlPacked rl_pack_slip(RlTable table, RlSlipForm slip, uint8_t *out, size_t out_length);
+
+/* Responds to a packed card and a packed slip: writes the new card (as long as the card), the changes as a packed slip (`length` bytes; the output has 37 at least) and the fired record (a bit for each rule, rule 1 first), or refuses with 32, 31, 20 to 28, 30, 40; other bytes stay as they are. */
+RlResponse rl_respond(RlTable table, RlTally tally, const uint8_t *card, size_t card_length, const uint8_t *slip,
+                      size_t slip_length, uint8_t *new_card, size_t new_card_length, uint8_t *changes,
+                      size_t changes_length, uint8_t *fired, size_t fired_length);
+
+_Static_assert(sizeof(RlSlot) == 264 && sizeof(RlLiteral) == 4 && sizeof(RlAssignment) == 2, "layout");
+_Static_assert(sizeof(RlRule) == 72 && sizeof(RlTable) == 26824 && sizeof(RlRead) == 26840, "layout");
+_Static_assert(sizeof(RlCardForm) == 40 && sizeof(RlSlipForm) == 72 && sizeof(RlTally) == 4, "layout");
+_Static_assert(sizeof(RlName) == 24 && sizeof(RlCard) == 56 && sizeof(RlSlip) == 88, "layout");
+_Static_assert(sizeof(RlPacked) == 24 && sizeof(RlResponse) == 40, "layout");
+
+#endif
