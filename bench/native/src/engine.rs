@@ -1,0 +1,65 @@
+//! What the benchmark asks of an engine, and the native engine as one.
+
+use crate::read::{self, Workspace};
+use crate::response::{self, Answer, Outputs, Tally};
+use crate::table::Table;
+use crate::Refusal;
+
+/// The two entry points that are measured, and the table between them.
+pub trait Engine {
+    /// Reads a text into the engine's table, or gives a refusal 10 to 18 and leaves the table without slots or rules.
+    fn read(&mut self, text: &[u8]) -> Result<(), Refusal>;
+
+    /// The table of the last reading.
+    fn table(&self) -> &Table;
+
+    /// The response: the tally after it, and the answer or 32, 31, 20 to 28, 30, 40.
+    fn respond(
+        &mut self,
+        table: &Table,
+        tally: Tally,
+        card: &[u8],
+        slip: &[u8],
+        outputs: Outputs,
+    ) -> (Tally, Result<Answer, Refusal>);
+}
+
+/// The native engine, with what it keeps from one reading to the next.
+pub struct Native {
+    workspace: Box<Workspace>,
+    table: Box<Table>,
+}
+
+impl Native {
+    /// The native engine before any reading.
+    pub fn new() -> Native {
+        Native { workspace: Workspace::new(), table: Box::new(Table::EMPTY) }
+    }
+}
+
+impl Default for Native {
+    fn default() -> Native {
+        Native::new()
+    }
+}
+
+impl Engine for Native {
+    fn read(&mut self, text: &[u8]) -> Result<(), Refusal> {
+        read::read(text, &mut self.table, &mut self.workspace)
+    }
+
+    fn table(&self) -> &Table {
+        &self.table
+    }
+
+    fn respond(
+        &mut self,
+        table: &Table,
+        tally: Tally,
+        card: &[u8],
+        slip: &[u8],
+        outputs: Outputs,
+    ) -> (Tally, Result<Answer, Refusal>) {
+        response::respond(table, tally, card, slip, outputs)
+    }
+}

@@ -1,0 +1,140 @@
+//! Runs both engines on the same inputs, prints their times, draws them, and fails where their results differ.
+
+use native::draw::{svg, Line, Panel};
+use native::engine::{Engine, Native};
+use native::inputs::{inputs, Input};
+use native::measure::{reading_times, response_times, result};
+use native::proved::Proved;
+use native::table::Table;
+
+/// How often all inputs are measured, one after the other, so that a busy machine does not slow one of them only.
+const ROUNDS: usize = 8;
+
+/// What was measured on an input: its work, and the times of the proved library and of the native engine; a response only where the text is accepted.
+struct Row {
+    name: String,
+    grows: bool,
+    bytes: usize,
+    pairs: usize,
+    outcome: String,
+    reading: [f64; 2],
+    response: Option<[f64; 2]>,
+}
+
+/// How many triggers, literals and assignments a table's rules have.
+fn pairs(table: &Table) -> usize {
+    table.rules[..table.count].iter().map(|rule| 1 + rule.tested + rule.assigned).sum()
+}
+
+/// Measures an input; None where the results differ, which are then printed.
+fn row(proved: &mut dyn Engine, native: &mut dyn Engine, input: &Input) -> Option<Row> {
+    let (theirs, ours) = (result(proved, input), result(native, input));
+    if theirs != ours {
+        println!("DIFFERENT on {}", input.name);
+        println!("proved: {:?} {:?} {:?} {:?}", theirs.reading, theirs.tally, theirs.answer, theirs.outputs);
+        println!("native: {:?} {:?} {:?} {:?}", ours.reading, ours.tally, ours.answer, ours.outputs);
+        return None;
+    }
+    let outcome = match (ours.reading, ours.answer) {
+        (Err(why), _) => format!("refused {} {}", why.number, why.second),
+        (_, Err(why)) => format!("refused {} {}", why.number, why.second),
+        (_, Ok(answer)) => format!("{} fired", answer.fired),
+    };
+    Some(Row {
+        name: input.name.clone(),
+        grows: input.grows,
+        bytes: input.text.len(),
+        pairs: pairs(&ours.table),
+        outcome,
+        reading: reading_times([&mut *proved, &mut *native], input),
+        response: ours.reading.is_ok().then(|| response_times([proved, native], input, &ours.table)),
+    })
+}
+
+/// Two times and their ratio as columns of a table.
+fn times(pair: Option<[f64; 2]>) -> String {
+    match pair {
+        Some([proved, native]) => format!("{proved:>9.2} | {native:>9.2} | {:>5.1}", proved / native),
+        None => format!("{:>9} | {:>9} | {:>5}", "", "", ""),
+    }
+}
+
+/// Prints the times of all rows.
+fn print_times(rows: &[Row]) {
+    println!("Times in microseconds, the best of several repetitions; results are equal on every line.\n");
+    let engines = "reading, proved | reading, native | ratio | response, proved | response, native | ratio";
+    println!("| input | bytes | outcome | {engines} |");
+    println!("|---|---|---|---|---|---|---|---|---|");
+    for row in rows {
+        let (reading, response) = (times(Some(row.reading)), times(row.response));
+        println!("| {:<37} | {:>6} | {:<12} | {reading} | {response} |", row.name, row.bytes, row.outcome);
+    }
+}
+
+/// Prints how the times grow with the work: bytes of text for reading; triggers, literals and assignments for a response.
+fn print_growth(rows: &[Row]) {
+    println!(
+        "\nGrowth: nanoseconds for each byte of text; for each trigger, literal and assignment (pair) of the rules.\n"
+    );
+    println!("| bytes | reading, proved | reading, native | pairs | response, proved | response, native |");
+    println!("|---|---|---|---|---|---|");
+    for row in rows.iter().filter(|row| row.grows) {
+        let [a, b] = row.reading.map(|time| time * 1e3 / row.bytes as f64);
+        let [c, d] = row.response.unwrap_or_default().map(|time| time * 1e3 / row.pairs as f64);
+        println!("| {:>5} | {a:>8.2} | {b:>8.2} | {:>5} | {c:>8.2} | {d:>8.2} |", row.bytes, row.pairs);
+    }
+}
+
+/// A panel of the growing rows.
+fn panel(rows: &[Row], title: &'static str, work: &'static str, point: impl Fn(&Row, usize) -> (f64, f64)) -> Panel {
+    let line = |name, colour, engine| Line {
+        name,
+        colour,
+        points: rows.iter().filter(|row| row.grows).map(|row| point(row, engine)).collect(),
+    };
+    Panel { title, work, lines: vec![line("proved library", "#b03030", 0), line("native engine", "#3050b0", 1)] }
+}
+
+/// The drawing of the growing rows.
+fn drawing(rows: &[Row]) -> String {
+    let reading =
+        panel(rows, "Reading a rule text", "bytes of text", |row, engine| (row.bytes as f64, row.reading[engine]));
+    let response = panel(rows, "One response", "triggers, literals and assignments in the table", |row, engine| {
+        (row.pairs as f64, row.response.unwrap_or_default()[engine])
+    });
+    svg(&[reading, response])
+}
+
+/// Takes the smaller of each two times.
+fn lower(times: &mut [f64; 2], others: [f64; 2]) {
+    times.iter_mut().zip(others).for_each(|(time, other)| *time = time.min(other));
+}
+
+/// Measures an input again and keeps the best times.
+fn measure_again(proved: &mut dyn Engine, native: &mut dyn Engine, input: &Input, row: &mut Row) {
+    lower(&mut row.reading, reading_times([&mut *proved, &mut *native], input));
+    native.read(&input.text).ok();
+    let table = Box::new(*native.table());
+    if let Some(times) = &mut row.response {
+        lower(times, response_times([proved, native], input, &table));
+    }
+}
+
+fn main() {
+    let (mut proved, mut native) = (Proved::new(), Native::new());
+    let inputs = inputs();
+    let mut rows: Vec<Option<Row>> = inputs.iter().map(|input| row(&mut proved, &mut native, input)).collect();
+    for _ in 1..ROUNDS {
+        for (input, row) in inputs.iter().zip(&mut rows) {
+            row.iter_mut().for_each(|row| measure_again(&mut proved, &mut native, input, row));
+        }
+    }
+    let same = rows.iter().all(Option::is_some);
+    let rows: Vec<Row> = rows.into_iter().flatten().collect();
+    print_times(&rows);
+    print_growth(&rows);
+    if let Some(file) = std::env::args().nth(1) {
+        std::fs::write(&file, drawing(&rows)).expect("the drawing is written");
+    }
+    std::process::exit(if same { 0 } else { 1 });
+}

@@ -1,0 +1,98 @@
+//! Both engines on one input: their results compared, their times taken in turn.
+
+use std::hint::black_box;
+use std::time::{Duration, Instant};
+
+use crate::engine::Engine;
+use crate::inputs::Input;
+use crate::response::{Answer, Outputs, Tally, CHANGES};
+use crate::table::Table;
+use crate::Refusal;
+
+/// About the time of one repetition, and how many repetitions the best is taken of.
+const REPETITION: Duration = Duration::from_millis(1);
+const REPETITIONS: usize = 20;
+
+/// Room for every card and every fired record.
+const CARD: usize = 17;
+const FIRED: usize = 32;
+
+/// What an engine makes of an input.
+#[derive(PartialEq, Eq, Debug)]
+pub struct Result {
+    pub reading: std::result::Result<(), Refusal>,
+    pub table: Box<Table>,
+    pub tally: Tally,
+    pub answer: std::result::Result<Answer, Refusal>,
+    pub outputs: [Vec<u8>; 3],
+}
+
+/// The three outputs before a response.
+fn rooms() -> [Vec<u8>; 3] {
+    [CARD, CHANGES, FIRED].map(|length| vec![0xA5; length])
+}
+
+/// The response of an engine.
+fn respond(
+    engine: &mut dyn Engine,
+    table: &Table,
+    input: &Input,
+    rooms: &mut [Vec<u8>; 3],
+) -> (Tally, std::result::Result<Answer, Refusal>) {
+    let [card, changes, fired] = rooms;
+    engine.respond(table, Tally::default(), &input.card, &input.slip, Outputs { card, changes, fired })
+}
+
+/// The reading and the response of an engine.
+pub fn result(engine: &mut dyn Engine, input: &Input) -> Result {
+    let reading = engine.read(&input.text);
+    let table = Box::new(*engine.table());
+    let mut outputs = rooms();
+    let (tally, answer) = respond(engine, &table, input, &mut outputs);
+    Result { reading, table, tally, answer, outputs }
+}
+
+/// How many calls take about the time of a repetition.
+fn rounds(call: &mut dyn FnMut()) -> u32 {
+    let mut rounds = 1;
+    loop {
+        let start = Instant::now();
+        (0..rounds).for_each(|_| call());
+        if start.elapsed() >= REPETITION / 2 {
+            return rounds;
+        }
+        rounds *= 2;
+    }
+}
+
+/// The best times of calls, in microseconds, the calls taken in turn.
+fn best<const N: usize>(mut calls: [&mut dyn FnMut(); N]) -> [f64; N] {
+    let rounds = calls.each_mut().map(|call| rounds(*call));
+    let mut best = [f64::INFINITY; N];
+    for _ in 0..REPETITIONS {
+        for at in 0..N {
+            let start = Instant::now();
+            (0..rounds[at]).for_each(|_| calls[at]());
+            let time = start.elapsed().as_secs_f64() * 1e6 / f64::from(rounds[at]);
+            best[at] = best[at].min(time);
+        }
+    }
+    best
+}
+
+/// The best times of reading by two engines, in microseconds.
+pub fn reading_times(engines: [&mut dyn Engine; 2], input: &Input) -> [f64; 2] {
+    let [first, second] = engines;
+    let mut one = || _ = black_box(first.read(black_box(&input.text)));
+    let mut other = || _ = black_box(second.read(black_box(&input.text)));
+    best([&mut one, &mut other])
+}
+
+/// The best times of a response by two engines to the same table, in microseconds.
+pub fn response_times(engines: [&mut dyn Engine; 2], input: &Input, table: &Table) -> [f64; 2] {
+    let [first, second] = engines;
+    let (mut a, mut b) = (rooms(), rooms());
+    let mut one = || _ = black_box(respond(first, black_box(table), input, &mut a));
+    let mut other = || _ = black_box(respond(second, black_box(table), input, &mut b));
+    best([&mut one, &mut other])
+}

@@ -1,0 +1,92 @@
+//! The native engine held to the second engine on generated inputs, good and damaged.
+
+use native::engine::{Engine, Native};
+use native::response::{Outputs, Tally};
+use native::table::{Assignment, Literal, Name, Rule, Slot, Table};
+use native::Refusal;
+use second::engine::{Engine as _, Second};
+use second::gen::{any_file, card, rooms, slip, tally, Rng};
+use second::gen_tables::damaged;
+use second::gen_text::Sketch;
+use second::table::Table as SecondTable;
+
+/// The second engine's table in the native layout.
+fn converted(from: &SecondTable) -> Box<Table> {
+    let mut table = Box::new(Table::EMPTY);
+    let name = |name: &second::table::Name| Name { start: name.start, size: name.size };
+    for (to, from) in table.slots.iter_mut().zip(&from.slots) {
+        *to = Slot { name: name(&from.name), values: from.values.each_ref().map(name), count: from.count };
+    }
+    for (to, from) in table.rules.iter_mut().zip(&from.rules) {
+        let literal = |l: &second::table::LiteralPlace| Literal {
+            becomes: l.becomes,
+            negated: l.negated,
+            slot: l.slot,
+            value: l.value,
+        };
+        let assignment = |a: &second::table::AssignmentPlace| Assignment { slot: a.slot, value: a.value };
+        *to = Rule {
+            slot: from.slot,
+            value: from.value,
+            literals: from.literals.each_ref().map(literal),
+            tested: from.tested,
+            assignments: from.assignments.each_ref().map(assignment),
+            assigned: from.assigned,
+            stratum: from.stratum,
+        };
+    }
+    (table.width, table.count) = (from.width, from.count);
+    table
+}
+
+/// A refusal of the second engine.
+fn refused(why: second::Refusal) -> Refusal {
+    Refusal { number: why.number, second: why.second }
+}
+
+/// One response of both engines to a generated card, slip, tally and outputs; gives the number it came to.
+fn responses(rng: &mut Rng, table: &SecondTable, sketch: &Sketch, engine: &mut Native) -> u8 {
+    let (card, slip, tally) = (card(rng, sketch), slip(rng, sketch), tally(rng));
+    let needed = [(6 + 4 * table.width.min(40)).div_ceil(8), 37, table.count.min(300).div_ceil(8)];
+    let lengths = rooms(rng, needed);
+    let mut theirs = lengths.map(|length| vec![0xA5; length]);
+    let mut ours = theirs.clone();
+    let [a, b, c] = &mut theirs;
+    let outputs = second::response::Outputs { card: a, changes: b, fired: c };
+    let (their_tally, their_answer) = Second.respond(table, tally, &card, &slip, outputs);
+    let [a, b, c] = &mut ours;
+    let before = Tally { answered: tally.answered as u16, refused: tally.refused as u16 };
+    let outputs = Outputs { card: a, changes: b, fired: c };
+    let (our_tally, our_answer) = engine.respond(&converted(table), before, &card, &slip, outputs);
+    assert_eq!(theirs, ours);
+    assert_eq!((their_tally.answered, their_tally.refused), (our_tally.answered.into(), our_tally.refused.into()));
+    assert_eq!(their_answer.map_err(refused), our_answer.map(|answer| answer.length));
+    if let Ok(answer) = our_answer {
+        assert_eq!(answer.fired, Second.fired_count(&ours[2][..table.count.div_ceil(8)]));
+    }
+    our_answer.map_or_else(|why| why.number, |_| 0)
+}
+
+/// Readings and responses agree, and every number comes up.
+#[test]
+fn agrees_with_the_second_engine() {
+    let mut rng = Rng::new(20);
+    let mut engine = Native::new();
+    let mut seen = [0; 41];
+    for round in 0..20_000 {
+        let file = any_file(&mut rng);
+        let (why, theirs) = Second.read(&file.text);
+        let ours = engine.read(&file.text);
+        assert_eq!(why.map(refused), ours.err(), "{}", String::from_utf8_lossy(&file.text));
+        assert!(*converted(&theirs) == *engine.table(), "round {round}");
+        seen[why.map_or(0, |why| why.number) as usize] += 1;
+        let given = if round % 4 == 0 { damaged(&mut rng, &theirs, file.text.len()) } else { theirs };
+        for _ in 0..3 {
+            seen[responses(&mut rng, &given, &file.sketch, &mut engine) as usize] += 1;
+        }
+    }
+    println!("{seen:?}");
+    for number in (10..=18).chain(20..=28).chain(30..=32).chain([40]) {
+        assert!(seen[number] > 0, "{number} never came up");
+    }
+}
