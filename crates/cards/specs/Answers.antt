@@ -6,7 +6,7 @@ pub data Verdict : Type 0 where
   passed : Verdict
   fault : ℕ → ℕ → Verdict
 
--- What comes of bytes that are unpacked, or of a form that is packed.
+-- What is taken of bytes that are unpacked, or of a form that is packed; or a refusal with both its numbers.
 pub data Taking (A : Type 0) : Type 0 where
   taken : A → Taking A
   refused : ℕ → ℕ → Taking A

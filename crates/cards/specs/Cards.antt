@@ -90,7 +90,7 @@ packed-card t c room = if-sound t (write-card (value-counts t) (values-of c) roo
 unfoldable pub packed-slip : Table → Slip → ℕ → Taking (List ℕ)
 packed-slip t s room = if-sound t (write-slip (value-counts t) (changes-of s) room)
 
--- The answers of the code: an unpacked card or slip,
+-- What the code answers to bytes unpacked as a card, and as a slip.
 unfoldable pub card-read : Taking (List ℕ) → CardRead
 card-read (taken vs) = record { outcome = outcome.Accepted; card = card-of vs }
 card-read (refused k s) = record { outcome = outcome.Refused k s; card = no-card }
@@ -99,17 +99,17 @@ unfoldable pub slip-read : Taking (List Pair) → SlipRead
 slip-read (taken ps) = record { outcome = outcome.Accepted; slip = slip-of ps }
 slip-read (refused k s) = record { outcome = outcome.Refused k s; slip = no-slip }
 
--- what a test of a form says,
+-- What the code answers to a test of an unpacked form.
 unfoldable pub outcome-of : Verdict → Outcome
 outcome-of passed = outcome.Accepted
 outcome-of (fault k s) = outcome.Refused k s
 
--- how many bytes are packed,
+-- What the code answers to a form that is packed: how many bytes it takes.
 unfoldable pub packing-of : Taking (List ℕ) → Packing
 packing-of (taken ys) = packing.Packed (length ys)
 packing-of (refused k s) = packing.Refused k s
 
--- and the output after it: the packed bytes, then what was there; a refusal leaves all.
+-- The output after a packing: the packed bytes, then what was there; a refusal leaves all.
 unfoldable pub output-of : Taking (List ℕ) → List ℕ → List ℕ
 output-of (taken ys) out = ys ++ drop (length ys) out
 output-of (refused k s) out = out

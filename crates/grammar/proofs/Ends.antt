@@ -5,7 +5,8 @@ use native.Mathlib.Omega.{arith}
 use mathlib.Core.Path.{_≡_, refl, sym, ap, subst, _∙_}
 use mathlib.Core.List.{List, [], _∷_, _++_}
 use Rattle.text.specs.Tokens.{Token, word, name, SLOT, WHEN, IF, THEN, AND, NOT, OPEN, CLOSE, COMMA, SEMICOLON, tokens-from}
-use Rattle.text.proofs.Cut.{No-semi, Free, tokens-free, before-semi, past-semi, before-free, past-free}
+use Rattle.text.specs.Cut.{No-semi, Free, before-semi, past-semi}
+use Rattle.text.proofs.Cut.{tokens-free, before-free, past-free}
 use Rattle.grammar.specs.Grammar.{RuleTree, rule, trigger, ConditionTree, and-literal, one-literal, true-alone, LiteralTree, not-literal, becomes-value, has-value, AssignTree, one-alone, braces, AssignmentListTree, one-assignment, comma-assignment, AssignmentTree, gets-value, ValueListTree, one-value, comma-value, LineTree, line, spell-literal, spell-condition, spell-assignment, spell-assignments, spell-assign, spell-trigger, spell-rule, spell-values, spell-line}
 
 -- The tokens before the first `;`, followed by `;` and others.

@@ -8,7 +8,7 @@ use mathlib.Core.List.{List, [], _∷_, _++_, append-nil, append-eq-nil-iff}
 use mathlib.Core.Logic.{_⊎_, inl, inr, ⊎-elim}
 use lib.ListN.{length, length-append, drop}
 use Rattle.text.specs.Tokens.{Token, word, SLOT, WHEN}
-use Rattle.text.proofs.Cut.{is-semi, Free, past-semi}
+use Rattle.text.specs.Cut.{is-semi, Free, past-semi}
 use Rattle.model.specs.Rules.{Rule}
 use Rattle.grammar.specs.Limits.{max-rules}
 use Rattle.grammar.specs.Files.{Slot, File}

@@ -10,7 +10,8 @@ use lib.ListN.{length, length-append}
 use borrow.Author.Tests.{eqb-true}
 use Rattle.laws.specs.Rearranged.{Perm, p-nil, p-skip, p-swap, p-trans}
 use Rattle.text.specs.Tokens.{word, SEMICOLON, tokens-from}
-use Rattle.text.proofs.Cut.{No-semi, tokens-cut}
+use Rattle.text.specs.Cut.{No-semi}
+use Rattle.text.proofs.Cut.{tokens-cut}
 use Rattle.grammar.specs.Pieces.{lengthened, pieces, kept, tail-piece, joined}
 
 -- No piece has a `;` in it.

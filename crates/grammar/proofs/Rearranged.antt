@@ -10,7 +10,8 @@ use Rattle.laws.specs.Rearranged.{Perm, goes}
 use Rattle.laws.proofs.Rearranged.{p-length}
 use Rattle.laws.proofs.Alike.{alike, p-along}
 use Rattle.text.specs.Tokens.{Token, word, name, long, bad, WHEN, SEMICOLON, tokens-from, tokens}
-use Rattle.text.proofs.Cut.{moved, tokens-moved}
+use Rattle.text.specs.Cut.{moved}
+use Rattle.text.proofs.Cut.{tokens-moved}
 use Rattle.model.specs.Rules.{Rule}
 use Rattle.grammar.specs.Files.{Slot, File}
 use Rattle.grammar.specs.Reading.{accepted, begins-with, read}

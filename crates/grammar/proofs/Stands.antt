@@ -4,7 +4,8 @@ use Prim.Native.Nat.{ℕ}
 use mathlib.Core.Path.{_≡_, sym, subst}
 use mathlib.Core.List.{List, [], _∷_, _++_}
 use Rattle.text.specs.Tokens.{Name, Token, word, name, CLOSE, COMMA, SEMICOLON}
-use Rattle.text.proofs.Cut.{Stands, All-stand, names-stand}
+use Rattle.text.specs.Cut.{Stands, All-stand}
+use Rattle.text.proofs.Cut.{names-stand}
 use Rattle.grammar.specs.Files.{Slot, File}
 use Rattle.grammar.specs.Grammar.{ValueListTree, LineTree, spell-values, spell-lines, spell-rules}
 use Rattle.grammar.specs.Reading.{accepted, read}

@@ -11,7 +11,8 @@ use lib.ListN.{length, length-append}
 use borrow.Author.Tests.{leb-true, le-leb}
 use Rattle.laws.proofs.Lists.{map-append}
 use Rattle.text.specs.Tokens.{Token, word, SLOT, WHEN, SEMICOLON, tokens-from, tokens}
-use Rattle.text.proofs.Cut.{moved, tokens-moved, No-semi}
+use Rattle.text.specs.Cut.{moved, No-semi}
+use Rattle.text.proofs.Cut.{tokens-moved}
 use Rattle.model.specs.Rules.{Rule}
 use Rattle.grammar.specs.Limits.{max-text, max-slots, max-rules}
 use Rattle.grammar.specs.Files.{Slot, File}

@@ -5,7 +5,7 @@ use mathlib.Core.List.{List, [], _∷_, _++_}
 use mathlib.Core.Logic.{_⊎_}
 use lib.ListN.{length}
 use Rattle.text.specs.Tokens.{Name, Token, word, name, long, bad}
-use Rattle.text.proofs.Cut.{Free}
+use Rattle.text.specs.Cut.{Free}
 use Rattle.grammar.specs.Files.{File}
 use Rattle.grammar.specs.Grammar.{RuleTree, LineTree, FileTree, spell, spell-rules, spell-lines}
 use Rattle.grammar.specs.Reading.{accepted, refused, read-tokens}

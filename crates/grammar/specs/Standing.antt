@@ -2,7 +2,7 @@
 use Prim.Native.Nat.{ℕ}
 use mathlib.Core.List.{List, [], _∷_}
 use Rattle.text.specs.Tokens.{Name}
-use Rattle.text.proofs.Cut.{Stands}
+use Rattle.text.specs.Cut.{Stands}
 use Rattle.grammar.specs.Files.{Slot}
 
 -- Every name of a list lies inside the text and is the text at its place.

@@ -2,22 +2,19 @@
 -- Assumes nothing.
 use Prim.Native.Nat.{ℕ, _≤_}
 use native.Mathlib.Omega.{arith}
-use mathlib.Core.Path.{_≡_, refl, sym, ap, subst, _∙_}
+use mathlib.Core.Path.{_≡_, refl, ap}
 use mathlib.Core.List.{List}
-use lib.ListN.{length}
 use Rattle.model.specs.Orders.{changes}
 use Rattle.grammar.specs.Files.{File}
 use Rattle.grammar.specs.Meaning.{Is-file}
 use Rattle.rule_file.specs.Whole.{reading}
 use Rattle.rule_file.proofs.Answers.{reading-no-refusal}
 use Rattle.cards.specs.Answers.{Taking, taken, refused}
-use Rattle.firing.specs.Record.{ones-in}
 use Rattle.response.specs.declared.Tally.{Tally}
-use Rattle.response.specs.declared.Outcome.the-variants as response
 use Rattle.response.specs.Ending.{Answer}
-use Rattle.response.specs.Respond.{Outputs, outputs, rooms-of, written, refusal-number, second-number, outcome-of, respond-to, response-to, outputs-after}
+use Rattle.response.specs.Respond.{Outputs, rooms-of, refusal-number, second-number, outcome-of, respond-to, response-to, outputs-after}
 use Rattle.promises.specs.Agreement.{Agreed, LowestConflict, Demand3}
-use Rattle.promises.specs.Called.{IsAccepted, answered, left, CalledAnswer, Called}
+use Rattle.promises.specs.Called.{IsAccepted, CalledAnswer, Called}
 use Rattle.promises.proofs.Refusals.{Only, respond-numbered}
 use Rattle.promises.proofs.Demand3.{demand-3-accepted}
 

@@ -16,7 +16,8 @@ use Rattle.text.specs.declared.Token.the-variants as v
 use Rattle.text.proofs.Token as kinds
 use types.Run.{OneOf, miss}
 use denote.Enum.Declared.{tagOf}
-use Rattle.text.proofs.Cut.{moved, tokens-moved}
+use Rattle.text.specs.Cut.{moved}
+use Rattle.text.proofs.Cut.{tokens-moved}
 use Rattle.text.proofs.Position.{tokens-next, next-lies}
 use Rattle.grammar.specs.Reading.{Part, took, stop, expects, fork, a-name, begins-with, if-next}
 use Rattle.reader.specs.Places.{fault-of, tokens-past, shown-past, Choice, one, other, neither, which, Step-lies}

@@ -20,7 +20,7 @@ layered f =
     (record { outcome = Accepted; table = with-strata (table-for f) })
     (record { outcome = Refused 18 (circle-of strict (f .rules)); table = empty-table })
 
--- The answer to an answer of the grammar's reading, which has 10 to 17.
+-- The whole reading, from the grammar's: its refusals 10 to 17 stay; a file gets its strata, or 18.
 unfoldable pub answered-whole : Answer → FileRead
 answered-whole (accepted f) = layered f
 answered-whole (refused k n) = record { outcome = Refused k n; table = empty-table }

@@ -10,7 +10,8 @@ use borrow.Author.Tests.{ne-eqb}
 use lib.ListN.{length, length-drop, take, drop}
 use lib.Seq.{take-append-le, length-take-le}
 use Rattle.text.specs.Classes.{one-of, class-of}
-use Rattle.text.specs.Tokens.{Name, Token, word, name, long, bad, OPEN, CLOSE, COMMA, SEMICOLON, BECOMES, HAS, GETS, reserved, mark-of, same-letters, one-further, place, word-or-name, run-token, run, equals-first, token-here, more-bytes, unless-white, tokens-from, tokens}
+use Rattle.text.specs.Tokens.{Token, word, long, bad, OPEN, CLOSE, COMMA, SEMICOLON, BECOMES, HAS, GETS, reserved, mark-of, same-letters, one-further, place, word-or-name, run-token, run, equals-first, token-here, more-bytes, unless-white, tokens-from, tokens}
+use Rattle.text.specs.Cut.{moved, No-semi, is-semi, Free, before-semi, past-semi, Token-stands, All-stand}
 use Rattle.laws.proofs.Lists.{drop-next}
 
 run-cut : (xs b : List ℕ) → run (xs ++ 59 ∷ b) ≡ run xs
@@ -87,17 +88,6 @@ tokens-cut [] b (suc k) p q h e = absurd (omega arith)
 tokens-cut (x ∷ xs) b (suc k) p q h e = tokens-cut xs b k (suc p) q (omega arith) (omega arith)
 tokens-cut (x ∷ xs) b zero p q h e = cut-here p x xs b _ (tokens-cut xs b (more-bytes x xs) (suc p) q (bytes-le x xs) (omega arith))
 
--- The same name, its place taken elsewhere.
-abbrev pub moved-name : (ℕ → ℕ) → Name → Name
-moved-name f n = record { start = f (n .start); letters = n .letters }
-
--- The same token, its place taken elsewhere.
-abbrev pub moved : (ℕ → ℕ) → Token → Token
-moved f (word w) = word w
-moved f (name n) = name (moved-name f n)
-moved f long = long
-moved f bad = bad
-
 run-moved : (f : ℕ → ℕ) (p : ℕ) (l : List ℕ) → moved f (run-token p l) ≡ run-token (f p) l
 unfolding run-token
 run-moved f p l = go (ltb 24 (length l)) (place l reserved)
@@ -136,23 +126,6 @@ tokens-moved (x ∷ xs) zero p q f h =
     ∙ ap₂ (λ (t : Token) (ts : List Token). unless-white x t ts)
     (token-moved f p x xs ∙ ap (λ (y : ℕ). token-here y x xs) (ap f (omega arith) ∙ h 0 ∙ omega arith))
     (tokens-moved xs (more-bytes x xs) (suc p) (suc q) f (λ j. ap f (omega arith) ∙ h (suc j) ∙ omega arith))
-
--- No byte of a text is `;`.
-abbrev pub No-semi : List ℕ → Type 0
-No-semi [] = Unit
-No-semi (x ∷ xs) = (eqb x 59 ≡ false) × No-semi xs
-
--- A token is `;`.
-abbrev pub is-semi : Token → Bool
-is-semi (word w) = eqb w SEMICOLON
-is-semi (name n) = false
-is-semi long = false
-is-semi bad = false
-
--- None of the tokens is `;`.
-abbrev pub Free : List Token → Type 0
-Free [] = Unit
-Free (t ∷ ts) = (is-semi t ≡ false) × Free ts
 
 -- The place of a name among names is one of theirs.
 pub place-le : (n : List ℕ) (ms : List (List ℕ)) → place n ms ≤ length ms
@@ -210,16 +183,6 @@ tokens-free [] k p h = tt
 tokens-free (x ∷ xs) (suc k) p h = tokens-free xs k (suc p) (h .1)
 tokens-free (x ∷ xs) zero p h = unless-free x (token-here p x xs) _ (token-free p x xs (h .0)) (tokens-free xs (more-bytes x xs) (suc p) (h .1))
 
--- The tokens before the first `;`.
-abbrev pub before-semi : List Token → List Token
-before-semi [] = []
-before-semi (t ∷ ts) = cond (is-semi t) [] (t ∷ before-semi ts)
-
--- The tokens after the first `;`.
-abbrev pub past-semi : List Token → List Token
-past-semi [] = []
-past-semi (t ∷ ts) = cond (is-semi t) ts (past-semi ts)
-
 -- Tokens without `;` stand before the first one.
 pub before-free : (ts us : List Token) → Free ts → before-semi (ts ++ word SEMICOLON ∷ us) ≡ ts
 before-free [] us h = refl
@@ -239,23 +202,6 @@ tokens-semi a b = tokens-cut a b 0 0 (suc (length a)) (omega arith) (omega arith
 pub tokens-elsewhere : (b : List ℕ) (p : ℕ) → tokens-from b 0 p ≡ map (moved (λ i. i + p)) (tokens b)
 unfolding tokens
 tokens-elsewhere b p = sym (tokens-moved b 0 0 p (λ i. i + p) (λ j. omega arith))
-
--- A name lies inside the text and is the stretch of it at its place.
-pub record Stands (s : List ℕ) (n : Name) : Type 0 where
-  pub inside : n .start + length (n .letters) ≤ length s
-  pub there : take (length (n .letters)) (drop (n .start) s) ≡ n .letters
-
--- A token that is a name stands so in the text.
-abbrev pub Token-stands : List ℕ → Token → Type 0
-Token-stands s (word w) = Unit
-Token-stands s (name n) = Stands s n
-Token-stands s long = Unit
-Token-stands s bad = Unit
-
--- Every name among the tokens stands so in the text.
-abbrev pub All-stand : List ℕ → List Token → Type 0
-All-stand s [] = Unit
-All-stand s (t ∷ ts) = Token-stands s t × All-stand s ts
 
 run-stands : (s : List ℕ) (p : ℕ) (l : List ℕ) → p + length l ≤ length s → take (length l) (drop p s) ≡ l → Token-stands s (run-token p l)
 unfolding run-token

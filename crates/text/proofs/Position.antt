@@ -13,7 +13,8 @@ use Rattle.laws.proofs.Lists.{drop-next}
 use Rattle.text.specs.Classes.{class-of}
 use Rattle.text.specs.Tokens.{Token, word, name, long, bad, run, run-token, word-or-name, place, reserved, mark-of, equals-first, token-here, more-bytes, tokens-from}
 use Rattle.text.specs.Next.{white, coded, next-from, next-at, tokens-at, shown, Lies}
-use Rattle.text.proofs.Cut.{Token-stands, here-stands, run-le, equals-le, tokens-step}
+use Rattle.text.specs.Cut.{Token-stands}
+use Rattle.text.proofs.Cut.{here-stands, run-le, equals-le, tokens-step}
 
 -- The tokens after a token already taken.
 pub tokens-skip : (xs : List ℕ) (k p : ℕ) → tokens-from xs k p ≡ tokens-from (drop k xs) 0 (p + k)

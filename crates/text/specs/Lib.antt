@@ -2,3 +2,4 @@ pub mod Classes
 pub mod Tokens
 pub mod Next
 pub mod Covering
+pub mod Cut

@@ -2,7 +2,6 @@
 -- Assumes nothing.
 use Rattle.library.proofs.Places.{place-inside, place-outside}
 use native.Mathlib.Omega.{arith}
-use borrow.Author.Needs.{needs}
 use Rattle.library.proofs.place_of.Statement.{statement}
 use Rattle.library.proofs.place_of.Tie as tie
 

@@ -7,7 +7,6 @@ use Prim.Native.Nat.{ℕ, _<_}
 use native.Mathlib.Omega.{arith}
 use lib.Dec.{T, eqb, eqb→eq}
 use lib.ListN.{length, getD}
-use borrow.Author.Needs.{needs}
 use Rattle.laws.proofs.Tables.{every, at}
 use Rattle.text.specs.Classes.{class-of}
 use Rattle.text.proofs.classes.table.Statement.{statement}
