@@ -159,7 +159,7 @@ impl Broken {
         let mut answer = outcome(program, card, &firing)?;
         match self.fault {
             Fault::RecordPadding => {
-                let padded = program.rules.len().next_multiple_of(8);
+                let padded = (program.rules.len() + 7) / 8 * 8;
                 firing.fired.extend(program.rules.len()..padded);
                 answer.fired = record(padded, &firing.fired);
             }
@@ -208,7 +208,7 @@ impl Broken {
         }
         self.responses += 1;
         if self.fault == Fault::FirstOfDay && self.responses > 1 {
-            let fired = vec![0; program.rules.len().div_ceil(8)];
+            let fired = vec![0; (program.rules.len() + 7) / 8];
             return Ok(Answer { card: card.to_vec(), changes: slip.to_vec(), fired });
         }
         outcome

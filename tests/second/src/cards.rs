@@ -8,12 +8,12 @@ pub const CHANGES: usize = 32;
 
 /// The length of a card of n slots.
 pub fn card_length(n: usize) -> usize {
-    (6 + 4 * n).div_ceil(8)
+    (6 + 4 * n + 7) / 8
 }
 
 /// The length of a slip of m changes.
 pub fn slip_length(m: usize) -> usize {
-    (6 + 9 * m).div_ceil(8)
+    (6 + 9 * m + 7) / 8
 }
 
 /// The bits of bytes, the most significant first.
@@ -88,10 +88,13 @@ pub fn unpack_card(program: &Program, card: &[u8]) -> Result<Vec<u8>, Refusal> {
 
 /// The number 25, 26 or 27 of a faulty change, given the one before it.
 pub fn change_fault(program: &Program, before: Option<Pair>, change: Pair) -> Option<u8> {
-    let Some(last) = program.lasts.get(change.0 as usize) else {
-        return Some(25);
+    let last = match program.lasts.get(change.0 as usize) {
+        Some(last) => last,
+        _ => {
+            return Some(25);
+        }
     };
-    if before.is_some_and(|before| change.0 <= before.0) {
+    if before.map_or(false, |before| change.0 <= before.0) {
         return Some(26);
     }
     (!(1..=*last).contains(&change.1)).then_some(27)

@@ -44,11 +44,14 @@ type Left<T> = (T, Vec<Vec<u8>>);
 /// Lends outputs of the given lengths to a call.
 fn lend<T, const N: usize>(rooms: [usize; N], call: impl FnOnce([&mut [u8]; N]) -> T) -> Left<T> {
     let mut whole = rooms.map(filled);
-    let lent = whole.each_mut().map(|output| {
-        let end = output.len() - MARGIN;
-        &mut output[MARGIN..end]
-    });
-    let result = call(lent);
+    let lent: Vec<&mut [u8]> = whole
+        .iter_mut()
+        .map(|output| {
+            let end = output.len() - MARGIN;
+            &mut output[MARGIN..end]
+        })
+        .collect();
+    let result = call(lent.try_into().expect("as many outputs as rooms"));
     (result, whole.to_vec())
 }
 

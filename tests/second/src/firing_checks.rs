@@ -81,8 +81,11 @@ pub fn check_orders(
     counts: &mut Counts,
 ) -> Result<(), String> {
     let given = given(engine, table, card, slip);
-    let Some((complete, ends)) = complete(table, card, slip) else {
-        return Ok(());
+    let (complete, ends) = match complete(table, card, slip) {
+        Some((complete, ends)) => (complete, ends),
+        _ => {
+            return Ok(());
+        }
     };
     counts.answered += usize::from(given.refused.is_none());
     counts.conflicts += usize::from(given.refused.is_some());

@@ -231,8 +231,11 @@ pub fn double(rng: &mut Rng, sketch: &mut Sketch) {
         2 => sketch.names[slot].0 = long,
         3 => sketch.names[slot].1[rng.below(values)] = long,
         _ => {
-            let Some(at) = sketch.rules.len().checked_sub(1).map(|last| rng.below(last + 1)) else {
-                return;
+            let at = match sketch.rules.len().checked_sub(1).map(|last| rng.below(last + 1)) {
+                Some(at) => at,
+                _ => {
+                    return;
+                }
             };
             let assignments = &mut sketch.rules[at].assignments;
             assignments.insert(rng.below(assignments.len() + 1), assignments[rng.below(assignments.len())]);
@@ -336,8 +339,11 @@ pub fn damage_condition(rng: &mut Rng, tokens: &mut Vec<String>) {
 pub fn damage_near(rng: &mut Rng, tokens: &mut Vec<String>) {
     let text = tokens.join(" ").into_bytes();
     let walk = walk(&text, GRAMMAR);
-    let Some(first) = refusals(&text, &walk).into_iter().min() else {
-        return;
+    let first = match refusals(&text, &walk).into_iter().min() {
+        Some(first) => first,
+        _ => {
+            return;
+        }
     };
     let at = first.position + rng.below(3);
     if at < tokens.len() {
@@ -356,8 +362,8 @@ pub fn join(rng: &mut Rng, tokens: &[String]) -> Vec<u8> {
     let mut text: Vec<u8> = Vec::new();
     for token in tokens {
         let runs_on = |byte: &u8| byte.is_ascii_alphanumeric() || *byte == b'-';
-        let needed =
-            text.last().is_some_and(|byte| runs_on(byte)) && token.as_bytes().first().is_some_and(|byte| runs_on(byte));
+        let needed = text.last().map_or(false, |byte| runs_on(byte))
+            && token.as_bytes().first().map_or(false, |byte| runs_on(byte));
         let extra = if loose > 0 && rng.chance(loose, 6) { 1 + rng.below(2) } else { 0 };
         let white = usize::from(needed).max(extra);
         text.extend((0..white).map(|_| *rng.pick(b"    \n\t\r")));

@@ -19,7 +19,7 @@ struct Answered {
 fn answered(table: &Table, card: &[u8], slip: &[u8]) -> Result<Answered, Refusal> {
     let mut new = vec![0; card_length(table.width)];
     let mut changes = vec![0; slip_length(CHANGES)];
-    let mut fired = vec![0; RULES.div_ceil(8)];
+    let mut fired = vec![0; (RULES + 7) / 8];
     let outputs = Outputs { card: &mut new, changes: &mut changes, fired: &mut fired };
     let (tally, length) = respond(table, Tally::default(), card, slip, outputs);
     changes.truncate(length?);

@@ -55,7 +55,8 @@ fn lettered() -> Vec<Case> {
 
 /// The limits of a text, each kept and broken.
 fn limits() -> Vec<Case> {
-    let named = |size: usize| case(&format!("SLOT {} {{v}};", "n".repeat(size)), &card_bytes(&[0]), &slip_bytes(&[(0, 1)]));
+    let named =
+        |size: usize| case(&format!("SLOT {} {{v}};", "n".repeat(size)), &card_bytes(&[0]), &slip_bytes(&[(0, 1)]));
     let many = |count: usize| rules(&vec![A; count], &ZEROS, &X_TO_1);
     let tests = |count: usize| {
         let rule = format!("WHEN x *= 1 IF {} THEN z := 1;", vec!["y |= 0"; count].join(" AND "));

@@ -251,7 +251,7 @@ impl Engine for Proved {
         };
         let fits = response.number == 0 || (response.length, response.fired) == (0, 0);
         self.fired = response.fired;
-        self.record = if response.number == 0 { table.count.div_ceil(8) } else { 0 };
+        self.record = if response.number == 0 { (table.count + 7) / 8 } else { 0 };
         let after = Tally { answered: response.tally.answered.into(), refused: response.tally.refused.into() };
         (after, checked(fits, result(response.number, response.second, response.length)))
     }

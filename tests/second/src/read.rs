@@ -116,9 +116,12 @@ pub fn walk(text: &[u8], grammar: &[Production]) -> Walk {
     let (mut want, mut statement) = (Want::SlotLine, 0);
     for (position, token) in tokens.iter().enumerate() {
         let fits = |production: &&Production| production.0 == want && production.1 == token.kind;
-        let Some(production) = grammar.iter().find(fits) else {
-            out_of_place = Some(position);
-            break;
+        let production = match grammar.iter().find(fits) {
+            Some(production) => production,
+            _ => {
+                out_of_place = Some(position);
+                break;
+            }
         };
         placed.push(Placed { want, token: *token, position, statement });
         statement += usize::from(token.kind == Kind::Semicolon);
@@ -247,7 +250,7 @@ fn undeclared(text: &[u8], walk: &Walk) -> Vec<AtToken> {
             slot = slots.get(at.token.word(text));
             return slot.is_none();
         }
-        is_value_in_rule(at) && slot.is_some_and(|slot| !slot.values.contains_key(at.token.word(text)))
+        is_value_in_rule(at) && slot.map_or(false, |slot| !slot.values.contains_key(at.token.word(text)))
     })
 }
 

@@ -42,8 +42,11 @@ pub fn fire(program: &Program, slip: &[Pair], enabled: impl Fn(&Changes, &Rule) 
     let mut fired = Vec::new();
     loop {
         let open = |at: &usize| !fired.contains(at) && enabled(&changes, &program.rules[*at]);
-        let Some(next) = (0..program.rules.len()).filter(open).min_by_key(|at| program.strata[*at]) else {
-            return Firing { changes, fired };
+        let next = match (0..program.rules.len()).filter(open).min_by_key(|at| program.strata[*at]) {
+            Some(next) => next,
+            _ => {
+                return Firing { changes, fired };
+            }
         };
         changes.extend(&program.rules[next].assignments);
         fired.push(next);
@@ -92,7 +95,7 @@ pub struct Answer {
 
 /// The lengths that the three outputs need.
 pub fn needed(program: &Program) -> [usize; 3] {
-    [card_length(program.lasts.len()), slip_length(CHANGES), program.rules.len().div_ceil(8)]
+    [card_length(program.lasts.len()), slip_length(CHANGES), (program.rules.len() + 7) / 8]
 }
 
 /// The first output that is too short, from 1.

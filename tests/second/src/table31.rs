@@ -15,7 +15,7 @@ fn within_limits(table: &Table) -> bool {
 
 /// Whether a program has the slot and the value of a pair.
 pub fn has_pair(program: &Program, pair: Pair) -> bool {
-    program.lasts.get(pair.0 as usize).is_some_and(|last| (1..=*last).contains(&pair.1))
+    program.lasts.get(pair.0 as usize).map_or(false, |last| (1..=*last).contains(&pair.1))
 }
 
 /// All pairs that a program's rules name.

@@ -97,8 +97,11 @@ pub fn generated(seed: u64) -> Vec<u8> {
     let mut rng = Rng::new(seed);
     let (mut count, mut input) = (0, Vec::new());
     while count < 255 {
-        let Some(table) = generated_table(&mut rng) else {
-            continue;
+        let table = match generated_table(&mut rng) {
+            Some(table) => table,
+            _ => {
+                continue;
+            }
         };
         let bytes = table_bytes(&table, *rng.pick(&[0, 1, 255]));
         if 1 + input.len() + bytes.len() > INPUT {
@@ -112,8 +115,11 @@ pub fn generated(seed: u64) -> Vec<u8> {
 
 /// What the program should write of a table: whether it is well-formed, whether it passes 31, and its strata or the lowest rule on a circle.
 fn line(table: &Table) -> String {
-    let Ok(program) = unlayered(table) else {
-        return " form 0 sound 0\n".to_string();
+    let program = match unlayered(table) {
+        Ok(program) => program,
+        _ => {
+            return " form 0 sound 0\n".to_string();
+        }
     };
     let sound = u8::from(tested(table).is_ok());
     match strata(&program.rules) {

@@ -101,8 +101,11 @@ fn firing_orders_agree_with_the_response() {
         let mut rng = Rng::new(seed);
         let sketch = sketch(&mut rng, &Shape { ranked: true, ..SMALL });
         let file = plain_file(&mut rng, sketch);
-        let (None, table) = Second.read(&file.text) else {
-            continue;
+        let table = match Second.read(&file.text) {
+            (None, table) => table,
+            _ => {
+                continue;
+            }
         };
         let card = card_bytes(&card_values(&mut rng, &file.sketch));
         let slip = slip_bytes(&slip_changes(&mut rng, &file.sketch));
@@ -118,8 +121,11 @@ fn fails_demand_3(engine: &mut dyn Engine) -> bool {
         let mut rng = Rng::new(seed);
         let sketch = sketch(&mut rng, &Shape { ranked: true, ..SMALL });
         let file = plain_file(&mut rng, sketch);
-        let (None, table) = Second.read(&file.text) else {
-            return false;
+        let table = match Second.read(&file.text) {
+            (None, table) => table,
+            _ => {
+                return false;
+            }
         };
         let card = card_bytes(&card_values(&mut rng, &file.sketch));
         let slip = slip_bytes(&slip_changes(&mut rng, &file.sketch));

@@ -135,9 +135,12 @@ fn try_engines(asked: &Asked) -> bool {
     let mut all = true;
     for (name, mut engine) in engines() {
         let (failing, tried) = compare_seeds(engine.as_mut(), asked.seed, asked.rounds);
-        let Some(failing) = failing else {
-            println!("{name}: no difference in {tried} seeds");
-            continue;
+        let failing = match failing {
+            Some(failing) => failing,
+            _ => {
+                println!("{name}: no difference in {tried} seeds");
+                continue;
+            }
         };
         println!("{name}: DIFFERS at seed {}, {}", failing.seed, failing.difference.place);
         all = false;
