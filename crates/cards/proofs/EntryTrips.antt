@@ -16,7 +16,7 @@ use Rattle.table.specs.declared.Table.{Table}
 use Rattle.table.specs.Limits.{slot-limit}
 use Rattle.table.specs.Shape.{Shaped}
 use Rattle.table.specs.Link.{value-counts}
-use Rattle.strata.specs.Sound.{sound}
+use Rattle.soundness.specs.Sound.{sound}
 use Rattle.cards.specs.declared.Card.{Card}
 use Rattle.cards.specs.declared.Slip.{Slip}
 use Rattle.cards.specs.Answers.{Verdict, passed, fault, Taking, taken, refused, after}

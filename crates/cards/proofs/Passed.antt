@@ -17,8 +17,8 @@ use Rattle.table.specs.Shape.{Shaped}
 use Rattle.table.specs.Link.{value-counts}
 use Rattle.table.proofs.Link.{count-is}
 use Rattle.table.proofs.Link as link
-use Rattle.strata.specs.Sound.{sound}
-use Rattle.strata.proofs.Sound.{sound-width, sound-values}
+use Rattle.soundness.specs.Sound.{sound}
+use Rattle.soundness.proofs.Sound.{sound-width, sound-values}
 use Rattle.cards.specs.declared.Card.{Card}
 use Rattle.cards.specs.declared.Slip.{Slip}
 use Rattle.cards.specs.declared.Outcome.the-variants as outcome

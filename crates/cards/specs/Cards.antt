@@ -10,7 +10,7 @@ use Rattle.model.specs.Result.{pair}
 use Rattle.table.specs.declared.Table.{Table}
 use Rattle.table.specs.Limits.{slot-limit}
 use Rattle.table.specs.Link.{value-counts}
-use Rattle.strata.specs.Sound.{sound}
+use Rattle.soundness.specs.Sound.{sound}
 use Rattle.cards.specs.declared.Card.{Card}
 use Rattle.cards.specs.declared.Change.{Change}
 use Rattle.cards.specs.declared.Slip.{Slip}

@@ -87,7 +87,7 @@ pub fn counts_of(t: Table) -> [usize; SLOTS]
 pub fn unpack_card(t: Table, bytes: &[u8]) -> CardRead
     ensures { λ r. ⌜ r ≡ card-read (unpacked-card t (now (bytes .entry))) ⌝ }
 {
-    if !strata::is_sound(t) {
+    if !soundness::is_sound(t) {
         return unpack::refused_card(31, 0);
     }
     let width = t.width;
@@ -99,7 +99,7 @@ pub fn unpack_card(t: Table, bytes: &[u8]) -> CardRead
 pub fn unpack_slip(t: Table, bytes: &[u8]) -> SlipRead
     ensures { λ r. ⌜ r ≡ slip-read (unpacked-slip t (now (bytes .entry))) ⌝ }
 {
-    if !strata::is_sound(t) {
+    if !soundness::is_sound(t) {
         return unpack::refused_slip(31, 0);
     }
     let width = t.width;
@@ -111,7 +111,7 @@ pub fn unpack_slip(t: Table, bytes: &[u8]) -> SlipRead
 pub fn pack_card(t: Table, c: Card, out: &mut [u8]) -> Packing
     ensures { λ r. ⌜ (r ≡ packing-of (packed-card t c (length (now (out .entry))))) × (now (out .exit) ≡ output-of (packed-card t c (length (now (out .entry)))) (now (out .entry))) ⌝ }
 {
-    if !strata::is_sound(t) {
+    if !soundness::is_sound(t) {
         return Packing::Refused(31, 0);
     }
     let width = t.width;
@@ -130,7 +130,7 @@ pub fn pack_card(t: Table, c: Card, out: &mut [u8]) -> Packing
 pub fn pack_slip(t: Table, s: Slip, out: &mut [u8]) -> Packing
     ensures { λ r. ⌜ (r ≡ packing-of (packed-slip t s (length (now (out .entry))))) × (now (out .exit) ≡ output-of (packed-slip t s (length (now (out .entry)))) (now (out .entry))) ⌝ }
 {
-    if !strata::is_sound(t) {
+    if !soundness::is_sound(t) {
         return Packing::Refused(31, 0);
     }
     let m = s.count;

@@ -27,8 +27,8 @@ use Rattle.table.specs.Shape.{Shaped}
 use Rattle.table.specs.Link.{rules-of, stratum-at}
 use Rattle.table.specs.Flat.{Placed, flags-of, pairs-of, add-pairs}
 use Rattle.table.proofs.Flat.{set-none, added, added-length, pairs-of-set}
-use Rattle.strata.specs.Sound.{sound}
-use Rattle.strata.proofs.Sound.{sound-fits, sound-strata}
+use Rattle.soundness.specs.Sound.{sound}
+use Rattle.soundness.proofs.Sound.{sound-fits, sound-strata}
 use Rattle.firing.specs.Firing.{Fireable, fired-in, carried-firing, firing-of}
 use Rattle.firing.specs.Record.{flag-record, ones-in}
 use Rattle.firing.proofs.Bits.{record-ones}

@@ -2,7 +2,7 @@
 ghost use mathlib.Core.Path.{_≡_};
 ghost use lib.ListN.{length};
 ghost use Rattle.table.specs.Names.{show-slot, show-value};
-ghost use Rattle.strata.specs.Sound.{sound};
+ghost use Rattle.soundness.specs.Sound.{sound};
 ghost use Rattle.rule_file.specs.Whole.{reading};
 ghost use Rattle.cards.specs.Cards.{unpacked-card, unpacked-slip, packed-card, packed-slip, card-read, slip-read, packing-of, output-of};
 ghost use Rattle.response.specs.Respond.{rooms-of, outputs, outputs-after, respond-to, response-to};
@@ -97,7 +97,7 @@ pub extern "C" fn rl_read(text: &[u8]) -> RlRead
 pub extern "C" fn rl_is_sound(t: Table) -> bool
     ensures { λ b. ⌜ b ≡ sound t ⌝ }
 {
-    strata::is_sound(t)
+    soundness::is_sound(t)
 }
 
 // Where a name stands in a text of this length; 31 where it stands outside.

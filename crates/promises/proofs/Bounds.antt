@@ -22,7 +22,7 @@ use Rattle.model.proofs.Orders.{are-rules}
 use Rattle.model.proofs.Results.{value-in-right, slip-e, slip-rising, new-card-length, new-card-at}
 use Rattle.table.specs.Limits.{value-limit, row}
 use Rattle.table.proofs.Names.{slot-inside, value-inside}
-use Rattle.strata.specs.Sound.{has-pair}
+use Rattle.soundness.specs.Sound.{has-pair}
 use Rattle.grammar.specs.Files.{Slot, File, no-slot}
 use Rattle.rule_file.proofs.Declared.{has-some, Declared}
 use Rattle.cards.specs.Answers.{passed}

@@ -18,7 +18,7 @@ use Rattle.model.specs.Result.{conflict-slot}
 use Rattle.model.proofs.Results.{conflict-slot-top}
 use Rattle.table.specs.Limits.{row}
 use Rattle.table.specs.Link.{rules-of, value-counts}
-use Rattle.strata.specs.Sound.{sound}
+use Rattle.soundness.specs.Sound.{sound}
 use Rattle.grammar.specs.Files.{File}
 use Rattle.grammar.specs.Meaning.{Is-file}
 use Rattle.grammar.proofs.Accepts.{one-meaning}

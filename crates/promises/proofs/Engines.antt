@@ -13,7 +13,7 @@ use Rattle.model.specs.Orders.{firing-order, complete, consistent}
 use Rattle.model.specs.Result.{pair}
 use Rattle.table.specs.declared.Table.{Table}
 use Rattle.table.specs.Link.{rules-of, value-counts}
-use Rattle.strata.specs.Sound.{sound}
+use Rattle.soundness.specs.Sound.{sound}
 use Rattle.reader.specs.declared.Outcome.the-variants.{Accepted}
 use Rattle.rule_file.specs.Whole.{reading}
 use Rattle.rule_file.proofs.Answers.{reading-passes}

@@ -16,7 +16,7 @@ use Rattle.model.specs.Result.{conflict-slot}
 use Rattle.table.specs.declared.Table.{Table}
 use Rattle.table.specs.Limits.{row}
 use Rattle.table.specs.Link.{rules-of, value-counts}
-use Rattle.strata.specs.Sound.{sound}
+use Rattle.soundness.specs.Sound.{sound}
 use Rattle.cards.specs.Answers.{Verdict, passed, fault, Taking, taken, refused, after}
 use Rattle.cards.specs.Forms.{count-in, card-width, slip-width, padding, values-in, changes-in, values-test, card-test, change-fault, changes-test, slip-test, read-card, read-slip}
 use Rattle.response.specs.Ending.{answer-of, settled, ending}

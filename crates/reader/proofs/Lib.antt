@@ -1,11 +1,3 @@
-pub mod Places
-pub mod Spans
-pub mod Index
-pub mod LineLaws
-pub mod LiteralLaws
-pub mod ListLaws
-pub mod ConditionLaws
-pub mod AssignmentLaws
 pub mod RuleLaws
 pub mod StatementLaws
 pub mod TableLaws

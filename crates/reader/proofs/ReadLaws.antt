@@ -17,16 +17,16 @@ use Rattle.table.specs.Empty.{empty-table}
 use Rattle.table.specs.Link.{rule-of}
 use Rattle.table.specs.declared.Rule.{Rule}
 use Rattle.table.specs.declared.Table.{Table}
-use Rattle.reader.specs.Places.{tokens-past}
-use Rattle.reader.specs.Spans.{Span-lies}
-use Rattle.reader.specs.Index.{Indexed, span-slot, slot-by, slot-for}
-use Rattle.reader.specs.Lines.{Remainder, Values-lie}
+use Rattle.steps.specs.Places.{tokens-past}
+use Rattle.steps.specs.Spans.{Span-lies}
+use Rattle.lines.specs.Index.{Indexed, span-slot, slot-by, slot-for}
+use Rattle.lines.specs.Lines.{Remainder, Values-lie}
 use Rattle.reader.specs.Rules.{Plain-rule}
 use Rattle.reader.specs.Statements.{read-on}
 use Rattle.reader.specs.Tables.{rule-for, table-for, answered}
 use Rattle.reader.specs.declared.Outcome.the-variants as outcome
-use Rattle.reader.proofs.Index.{indexed-none, indexed-more, slot-placed}
-use Rattle.reader.proofs.LineLaws.{remainder-whole, remainder-next}
+use Rattle.lines.proofs.Index.{indexed-none, indexed-more, slot-placed}
+use Rattle.lines.proofs.LineLaws.{remainder-whole, remainder-next}
 use Rattle.reader.proofs.TableLaws.{rule-kept, table-empty, table-slot, table-rule}
 
 -- Slots and rules were read; the table and the spans hold them, and the remainder comes to what the whole text comes to.

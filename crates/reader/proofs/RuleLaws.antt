@@ -9,9 +9,9 @@ use Rattle.grammar.specs.Files.{Slot}
 use Rattle.grammar.specs.Reading.{Part, took, stop, _then_, expects, read-slot, read-value, read-condition, read-assign, read-rule}
 use Rattle.model.specs.Result.{pair}
 use Rattle.reader.specs.Rules.{trigger-pair, read-trigger, read-rest, rule-part, Plain-rule}
-use Rattle.reader.specs.Places.{step-part}
-use Rattle.reader.specs.declared.step.Step.{Step}
-use Rattle.reader.specs.declared.step.Step.the-variants as step
+use Rattle.steps.specs.Places.{step-part}
+use Rattle.steps.specs.declared.step.Step.{Step}
+use Rattle.steps.specs.declared.step.Step.the-variants as step
 use Rattle.laws.proofs.Filled.{filled-none}
 use Rattle.table.specs.Limits.{literal-limit, assignment-limit}
 use Rattle.table.specs.Shape.{no-literal, no-assignment}

@@ -16,10 +16,10 @@ use denote.Enum.Declared.{tagOf}
 use Rattle.text.specs.declared.Token as code
 use Rattle.text.specs.declared.Token.the-variants as v
 use Rattle.text.proofs.Token as kinds
-use Rattle.reader.specs.Places.{shown-past}
-use Rattle.reader.specs.Index.{Indexed}
-use Rattle.reader.specs.Literals.{Looked}
-use Rattle.reader.proofs.Index.{indexed-slots, indexed-values}
+use Rattle.steps.specs.Places.{shown-past}
+use Rattle.lines.specs.Index.{Indexed}
+use Rattle.clauses.specs.Literals.{Looked}
+use Rattle.lines.proofs.Index.{indexed-slots, indexed-values}
 use Rattle.reader.specs.Statements.{read-on, Rule-next}
 
 longer : {A : Type 0} (xs : List A) (x : A) → length (xs ++ x ∷ []) ≡ suc (length xs)

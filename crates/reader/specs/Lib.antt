@@ -1,10 +1,3 @@
-pub mod Places
-pub mod Spans
-pub mod Index
-pub mod Lines
-pub mod Literals
-pub mod Conditions
-pub mod Assignments
 pub mod Rules
 pub mod Statements
 pub mod Tables

@@ -12,11 +12,11 @@ use Rattle.table.specs.Limits.{literal-limit, assignment-limit}
 use Rattle.table.specs.Shape.{no-literal, no-assignment}
 use Rattle.table.specs.Link.{rule-of}
 use Rattle.table.specs.declared.Rule as ruled
-use Rattle.reader.specs.Places.{tokens-past}
-use Rattle.reader.specs.declared.conditions.Literals.{Literals}
-use Rattle.reader.specs.declared.assignments.Assignments.{Assignments}
-use Rattle.reader.specs.declared.step.Step.{Step}
-use Rattle.reader.specs.declared.step.Step.the-variants as step
+use Rattle.steps.specs.Places.{tokens-past}
+use Rattle.clauses.specs.declared.conditions.Literals.{Literals}
+use Rattle.clauses.specs.declared.assignments.Assignments.{Assignments}
+use Rattle.steps.specs.declared.step.Step.{Step}
+use Rattle.steps.specs.declared.step.Step.the-variants as step
 use Rattle.reader.specs.declared.rules.PairRead.{PairRead}
 use Rattle.reader.specs.declared.rules.PairRead.the-variants as read
 

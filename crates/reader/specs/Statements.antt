@@ -12,12 +12,12 @@ use Rattle.grammar.specs.Reading.{Answer, accepted, refused, begins-with, read-
 use Rattle.table.specs.Limits.{slot-limit, rule-limit}
 use Rattle.table.specs.Link.{rule-of}
 use Rattle.table.specs.declared.Rule as ruled
-use Rattle.reader.specs.Places.{tokens-past}
-use Rattle.reader.specs.Spans.{Span-lies}
-use Rattle.reader.specs.Index.{span-slot}
-use Rattle.reader.specs.Lines.{Values-lie}
+use Rattle.steps.specs.Places.{tokens-past}
+use Rattle.steps.specs.Spans.{Span-lies}
+use Rattle.lines.specs.Index.{span-slot}
+use Rattle.lines.specs.Lines.{Values-lie}
 use Rattle.reader.specs.Rules.{Plain-rule}
-use Rattle.reader.specs.declared.lines.Line.{Line}
+use Rattle.lines.specs.declared.Line.{Line}
 use Rattle.reader.specs.declared.statements.Kind.{Kind}
 use Rattle.reader.specs.declared.statements.Kind.the-variants as kind
 use Rattle.reader.specs.declared.statements.Statement.{Statement}

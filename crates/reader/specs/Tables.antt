@@ -12,8 +12,8 @@ use Rattle.table.specs.declared.Rule as ruled
 use Rattle.table.specs.declared.Table.{Table}
 use Rattle.grammar.specs.Files.{File}
 use Rattle.grammar.specs.Reading.{Answer, accepted, refused}
-use Rattle.reader.specs.Index.{slot-for}
-use Rattle.reader.specs.Assignments.{assignment-for}
+use Rattle.lines.specs.Index.{slot-for}
+use Rattle.clauses.specs.Assignments.{assignment-for}
 use Rattle.reader.specs.declared.Outcome.{Outcome}
 use Rattle.reader.specs.declared.Outcome.the-variants as outcome
 use Rattle.reader.specs.declared.FileRead.{FileRead}

@@ -6,20 +6,14 @@ ghost use Rattle.text.specs.Tokens.{tokens};
 ghost use Rattle.grammar.specs.Limits.{max-text};
 ghost use Rattle.grammar.specs.Reading.{read, read-tokens};
 ghost use Rattle.reader.specs.Tables.{answered};
-use crate::lines::enter;
-use crate::lines::slot_of;
+use lines::enter;
+use lines::slot_of;
 use crate::statements::Kind;
 use crate::statements::statement_next;
 use table::Table;
 
-pub mod assignments;
-pub mod conditions;
-pub mod lines;
-pub mod literals;
-pub mod names;
 pub mod rules;
 pub mod statements;
-pub mod step;
 
 // The most bytes that a text may have.
 pub const TEXT_LIMIT: usize = 65535;

@@ -14,8 +14,8 @@ use Rattle.table.specs.declared.Table.{Table}
 use Rattle.table.specs.Limits.{slot-limit}
 use Rattle.table.specs.Shape.{Shaped}
 use Rattle.table.specs.Link.{rules-of, value-counts}
-use Rattle.strata.specs.Sound.{sound}
-use Rattle.strata.proofs.Sound.{sound-width}
+use Rattle.soundness.specs.Sound.{sound}
+use Rattle.soundness.proofs.Sound.{sound-width}
 use Rattle.cards.specs.declared.Outcome.the-variants.{Accepted, Refused}
 use Rattle.cards.specs.declared.Card.{Card}
 use Rattle.cards.specs.declared.Slip.{Slip}

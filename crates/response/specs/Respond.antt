@@ -10,7 +10,7 @@ use Rattle.laws.specs.Packed.{byte-count}
 use Rattle.model.specs.Rules.{Rule}
 use Rattle.table.specs.declared.Table.{Table}
 use Rattle.table.specs.Link.{rules-of, value-counts}
-use Rattle.strata.specs.Sound.{sound}
+use Rattle.soundness.specs.Sound.{sound}
 use Rattle.cards.specs.Answers.{Taking, taken, refused}
 use Rattle.cards.specs.Forms.{card-width, read-card, read-slip}
 use Rattle.response.specs.declared.Tally.{Tally}

@@ -46,7 +46,7 @@ fn work(
     ensures { λ r. ⌜ Ends (worked t (now (card .entry)) (now (slip .entry)) (rooms-of (now (renewed .entry)) (now (changes .entry)) (now (fired .entry)))) r
         (outputs (now (renewed .entry)) (now (changes .entry)) (now (fired .entry))) (outputs (now (renewed .exit)) (now (changes .exit)) (now (fired .exit))) ⌝ }
 {
-    if !strata::is_sound(t) {
+    if !soundness::is_sound(t) {
         return Outcome::Refused(31, 0);
     }
     let width = t.width;

@@ -30,9 +30,10 @@ use Rattle.strata.specs.declared.Outcome as found
 use Rattle.strata.specs.declared.Outcome.the-variants.{Layered, Circle}
 use Rattle.strata.specs.declared.Layering.{Layering}
 use Rattle.strata.specs.Layered.{with-strata, layering}
-use Rattle.strata.specs.Sound.{sound}
-use Rattle.strata.proofs.WellFormed.{well-formed-fits}
-use Rattle.strata.proofs.Passes.{layer-passes, empty-passes, same-rules, same-counts, stratum-now}
+use Rattle.soundness.specs.Sound.{sound}
+use Rattle.soundness.proofs.WellFormed.{well-formed-fits}
+use Rattle.strata.proofs.Written.{same-rules, same-counts, stratum-now}
+use Rattle.soundness.proofs.Passes.{layer-passes, empty-passes}
 use Rattle.reader.specs.Tables.{table-for, answered, refusal-number}
 use Rattle.reader.specs.declared.Outcome.{Outcome}
 use Rattle.reader.specs.declared.Outcome.the-variants.{Accepted, Refused}

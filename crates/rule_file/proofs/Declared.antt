@@ -26,7 +26,7 @@ use Rattle.grammar.specs.Grammar.{RuleTree, ConditionTree, AssignTree, Assignme
 use Rattle.grammar.specs.Meaning.{Names, Means-condition, means-and, means-one, means-true, Means-assignment, means-assignment, Means-assignments, means-first, means-comma, Means-assign, means-alone, means-braces, Means-trigger, means-trigger, Means-rule, means-rule, Means-rules, no-rules, more-rules, Means-values, means-value, means-values, Means-line, means-line, Means-lines, no-lines, more-lines}
 use Rattle.table.specs.Limits.{slot-limit, value-limit, rule-limit, literal-limit, assignment-limit}
 use Rattle.table.specs.Names.{has-slot, has-value}
-use Rattle.strata.specs.Sound.{has-pair, assigns, each-once}
+use Rattle.soundness.specs.Sound.{has-pair, assigns, each-once}
 
 -- How many values each slot has.
 abbrev pub counts-of : List Slot → List ℕ

@@ -29,10 +29,10 @@ use Rattle.table.proofs.Link.{count-is}
 use lib.Seq.{getD-take}
 use Rattle.grammar.specs.Files as files
 use Rattle.grammar.specs.Files.{File}
-use Rattle.strata.specs.Sound.{has-pair, named, rule-right, well-formed}
-use Rattle.strata.proofs.WellFormed.{well-formed-i}
-use Rattle.reader.specs.Index.{slot-for, name-for}
-use Rattle.reader.specs.Assignments.{assignment-for}
+use Rattle.soundness.specs.Sound.{has-pair, named, rule-right, well-formed}
+use Rattle.soundness.proofs.WellFormed.{well-formed-i}
+use Rattle.lines.specs.Index.{slot-for, name-for}
+use Rattle.clauses.specs.Assignments.{assignment-for}
 use Rattle.reader.specs.Tables.{literal-for, rule-for, table-for}
 use Rattle.rule_file.proofs.Declared.{counts-of, has-some, tested-pairs, RuleDeclared, Declared}
 

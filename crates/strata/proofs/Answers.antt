@@ -22,7 +22,7 @@ use Rattle.table.specs.Fits.{TableFits}
 use Rattle.strata.specs.declared.Outcome.the-variants.{Layered, Circle}
 use Rattle.strata.specs.declared.Layering.{Layering}
 use Rattle.strata.specs.Layered.{with-strata, layering}
-use Rattle.strata.proofs.Passes.{same-rules, stratum-now}
+use Rattle.strata.proofs.Written.{same-rules, stratum-now}
 
 -- The two answers.
 abbrev answer : Table → Bool → Layering

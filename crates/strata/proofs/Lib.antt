@@ -1,14 +1,5 @@
-pub mod Leading
-pub mod Links
-pub mod Closure
-pub mod Circled
 pub mod Heights
 pub mod Rising
 pub mod Layered
-pub mod RuleTests
-pub mod WellFormed
-pub mod Equation
-pub mod Passes
-pub mod Sound
-pub mod Cases
+pub mod Written
 pub mod Answers

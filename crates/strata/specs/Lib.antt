@@ -1,4 +1,2 @@
 pub mod Layered
-pub mod Sound
 pub mod Heights
-pub mod Links

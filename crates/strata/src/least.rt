@@ -17,13 +17,6 @@ pub struct Found {
     pub numbers: [usize; RULES],
 }
 
-// Whether a literal binds strata: `*=` does, plain or under NOT; `|=` does not.
-pub fn binds(l: Literal) -> bool
-    ensures { λ b. ⌜ b ≡ l .becomes ⌝ }
-{
-    l.becomes
-}
-
 // The highest number at the pairs that a rule tests by `*=`.
 pub fn tested_high(r: Rule, high: &[usize; PAIRS]) -> usize
     requires { ⌜ RuleFits r ⌝ }
@@ -38,7 +31,7 @@ pub fn tested_high(r: Rule, high: &[usize; PAIRS]) -> usize
     'literals: while j < m {
         let l = r.literals[j];
         j += 1;
-        if !binds(l) {
+        if !circles::binds(l) {
             continue 'literals;
         }
         let s = l.slot;

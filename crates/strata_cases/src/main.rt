@@ -190,7 +190,7 @@ fn write_strata(t: Table) {
 
 // What `layer` says of a table, and whether the table that it hands out passes.
 fn write_layering(t: Table) {
-    let ok = strata::is_well_formed(t);
+    let ok = soundness::is_well_formed(t);
     if !ok {
         return;
     }
@@ -208,15 +208,15 @@ fn write_layering(t: Table) {
         }
     }
     io::write_all(STDOUT_FILENO, b" passes");
-    write_answer(strata::is_sound(u));
+    write_answer(soundness::is_sound(u));
 }
 
 // All that is said of a table.
 fn write_table(t: Table) {
     io::write_all(STDOUT_FILENO, b" form");
-    write_answer(strata::is_well_formed(t));
+    write_answer(soundness::is_well_formed(t));
     io::write_all(STDOUT_FILENO, b" sound");
-    write_answer(strata::is_sound(t));
+    write_answer(soundness::is_sound(t));
     write_layering(t);
     io::write_all(STDOUT_FILENO, b"\n");
 }
@@ -282,7 +282,7 @@ fn chain(n: usize, backward: bool) -> Table {
 
 // What `layer` says of a chain: the strata of its first and its last rule, and whether the table then passes.
 fn write_chain(t: Table) {
-    let ok = strata::is_well_formed(t);
+    let ok = soundness::is_well_formed(t);
     if !ok {
         return;
     }
@@ -297,7 +297,7 @@ fn write_chain(t: Table) {
             write_number(table::wide(last.stratum));
         }
     }
-    write_answer(strata::is_sound(u));
+    write_answer(soundness::is_sound(u));
     io::write_all(STDOUT_FILENO, b"\n");
 }
 

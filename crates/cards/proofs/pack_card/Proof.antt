@@ -10,8 +10,8 @@ use Rattle.laws.specs.Packed.{byte-count}
 use Rattle.table.specs.Shape.{Shaped}
 use Rattle.table.specs.Link.{value-counts}
 use Rattle.table.proofs.Shape.{shaped}
-use Rattle.strata.specs.Sound.{sound}
-use Rattle.strata.proofs.Sound.{sound-width}
+use Rattle.soundness.specs.Sound.{sound}
+use Rattle.soundness.proofs.Sound.{sound-width}
 use Rattle.cards.specs.Answers.{passed}
 use Rattle.cards.specs.Forms.{card-width, card-test, card-bytes}
 use Rattle.cards.specs.Cards.{counts-in, values-of, outcome-of}

@@ -7,8 +7,8 @@ use Prim.Native.Nat.{ℕ}
 use borrow.Author.Tests.{not-true, not-false}
 use Rattle.table.specs.Shape.{Shaped}
 use Rattle.table.proofs.Shape.{shaped}
-use Rattle.strata.specs.Sound.{sound}
-use Rattle.strata.proofs.Sound.{sound-width}
+use Rattle.soundness.specs.Sound.{sound}
+use Rattle.soundness.proofs.Sound.{sound-width}
 use Rattle.cards.specs.Forms.{read-card}
 use Rattle.cards.specs.Cards.{counts-in, card-read}
 use Rattle.cards.proofs.Passed.{counts-all}

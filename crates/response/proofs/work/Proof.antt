@@ -9,8 +9,8 @@ use borrow.Author.Tests.{not-true, not-false}
 use Rattle.table.specs.Link.{rules-of, value-counts}
 use Rattle.table.specs.Shape.{Shaped}
 use Rattle.table.proofs.Shape.{shaped}
-use Rattle.strata.specs.Sound.{sound}
-use Rattle.strata.proofs.Sound.{sound-width}
+use Rattle.soundness.specs.Sound.{sound}
+use Rattle.soundness.proofs.Sound.{sound-width}
 use Rattle.model.specs.Rules.{Pair}
 use Rattle.cards.specs.Answers.{taken}
 use Rattle.cards.specs.Forms.{read-card, read-slip}

@@ -4,7 +4,7 @@ use mathlib.Core.Path.{sym, _∙_}
 use borrow.Author.Tests.{not-false}
 use Rattle.laws.proofs.Equations.{from-true}
 use Rattle.table.proofs.Shape.{shaped}
-use Rattle.strata.proofs.WellFormed.{well-formed-fits}
+use Rattle.soundness.proofs.WellFormed.{well-formed-fits}
 use borrow.Author.Needs.{needs}
 use Rattle.strata_cases.proofs.write_layering.Statement.{statement}
 use Rattle.strata_cases.proofs.write_layering.Tie as tie

@@ -7,11 +7,11 @@ use mathlib.Core.List.{List}
 use lib.ListN.{length}
 use Rattle.grammar.specs.Files.{Slot}
 use Rattle.grammar.specs.Reading.{took, read-slot}
-use Rattle.reader.specs.Places.{tokens-past, step-part, Step-lies}
-use Rattle.reader.specs.Spans.{number-part, Slot-lies, Number-lies}
-use Rattle.reader.specs.Literals.{Looked}
-use Rattle.reader.specs.declared.names.Number.the-variants as number
-use Rattle.reader.proofs.LiteralLaws.{slot-inside}
+use Rattle.steps.specs.Places.{tokens-past, step-part, Step-lies}
+use Rattle.steps.specs.Spans.{number-part, Slot-lies, Number-lies}
+use Rattle.clauses.specs.Literals.{Looked}
+use Rattle.steps.specs.declared.names.Number.the-variants as number
+use Rattle.clauses.proofs.LiteralLaws.{slot-inside}
 use Rattle.reader.proofs.RuleLaws as rules
 use borrow.Author.Needs.{needs}
 use Rattle.reader.proofs.rules.pair_next.Statement.{statement}

@@ -3,10 +3,10 @@
 use Prim.Native.Nat.{_-_}
 use native.Mathlib.Omega.{arith}
 use mathlib.Core.Path.{refl, ap, subst, _∙_}
-use Rattle.reader.specs.Places.{Step-lies}
-use Rattle.reader.specs.Conditions.{condition-part}
-use Rattle.reader.specs.Assignments.{pairs-in, pairs-part}
-use Rattle.reader.proofs.Places as places
+use Rattle.steps.specs.Places.{Step-lies}
+use Rattle.clauses.specs.Conditions.{condition-part}
+use Rattle.clauses.specs.Assignments.{pairs-in, pairs-part}
+use Rattle.steps.proofs.Places as places
 use Rattle.reader.proofs.RuleLaws as rules
 use borrow.Author.Needs.{needs}
 use Rattle.reader.proofs.rules.rest_next.Statement.{statement}

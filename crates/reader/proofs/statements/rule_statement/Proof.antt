@@ -4,7 +4,7 @@ use Prim.Native.Nat.{_-_}
 use native.Mathlib.Omega.{arith}
 use mathlib.Core.Path.{ap, subst, _∙_}
 use Rattle.grammar.specs.Limits.{max-rules}
-use Rattle.reader.specs.Places.{step-part, Step-lies}
+use Rattle.steps.specs.Places.{step-part, Step-lies}
 use Rattle.reader.specs.Rules.{rule-part}
 use Rattle.reader.proofs.StatementLaws as statements
 use borrow.Author.Needs.{needs}

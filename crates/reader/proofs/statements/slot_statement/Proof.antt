@@ -4,10 +4,10 @@ use Prim.Native.Nat.{_-_}
 use native.Mathlib.Omega.{arith}
 use mathlib.Core.Path.{refl, ap, subst, _∙_}
 use Rattle.grammar.specs.Limits.{max-slots}
-use Rattle.reader.specs.Places.{Step-lies}
-use Rattle.reader.specs.Index.{span-slot}
-use Rattle.reader.specs.Lines.{outcome-part, Line-lies}
-use Rattle.reader.proofs.Index.{indexed-slots}
+use Rattle.steps.specs.Places.{Step-lies}
+use Rattle.lines.specs.Index.{span-slot}
+use Rattle.lines.specs.Lines.{outcome-part, Line-lies}
+use Rattle.lines.proofs.Index.{indexed-slots}
 use Rattle.reader.proofs.StatementLaws as statements
 use borrow.Author.Needs.{needs}
 use Rattle.reader.proofs.statements.slot_statement.Statement.{statement}

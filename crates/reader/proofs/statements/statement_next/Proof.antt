@@ -7,9 +7,9 @@ use mathlib.Core.Logic.{⊎-elim}
 use lib.ListN.{length}
 use Rattle.model.specs.Rules as model
 use Rattle.text.specs.Tokens.{SLOT}
-use Rattle.reader.specs.Places.{tokens-past, step-part}
+use Rattle.steps.specs.Places.{tokens-past, step-part}
 use Rattle.reader.specs.Statements.{read-on, statement-answer, Statement-lies}
-use Rattle.reader.proofs.Places as places
+use Rattle.steps.proofs.Places as places
 use Rattle.reader.proofs.StatementLaws as statements
 use borrow.Author.Needs.{needs}
 use Rattle.reader.proofs.statements.statement_next.Statement.{statement}

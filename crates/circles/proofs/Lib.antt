@@ -1,0 +1,4 @@
+pub mod Leading
+pub mod Links
+pub mod Closure
+pub mod Circled

@@ -1,0 +1,4 @@
+pub mod LiteralLaws
+pub mod ListLaws
+pub mod ConditionLaws
+pub mod AssignmentLaws

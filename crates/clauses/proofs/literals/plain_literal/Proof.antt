@@ -1,0 +1,105 @@
+-- `plain_literal` meets its contract.
+-- Assumes nothing.
+use Prim.Native.Nat.{ℕ, _-_}
+use native.Mathlib.Omega.{arith}
+use mathlib.Core.Path.{_≡_, ap, subst, _∙_}
+use mathlib.Core.List.{List}
+use lib.ListN.{length}
+use Rattle.grammar.specs.Files.{Slot}
+use Rattle.grammar.specs.Reading.{took, read-slot}
+use Rattle.steps.specs.Places.{tokens-past, choice, Fork-lies}
+use Rattle.steps.specs.Spans.{number-part, Slot-lies}
+use Rattle.clauses.specs.Literals.{Looked}
+use Rattle.steps.specs.declared.names.Number.the-variants as number
+use Rattle.clauses.proofs.LiteralLaws as literals
+use borrow.Author.Needs.{needs}
+use Rattle.clauses.proofs.literals.plain_literal.Statement.{statement}
+use Rattle.clauses.proofs.literals.plain_literal.Tie as tie
+
+-- The slot that was read, and where.
+slot-lies : (c : tie.After-found) → Slot-lies (length (c .before .before .before .before .before .before .args .rest .now)) (c .before .before .before .before .before .before .args .at) (number.Is (c .found .given .0 .0) (c .found .given .0 .1 .0))
+slot-lies c = subst (Slot-lies _ _) (c .found .given .1) (c .before .before .slot-next .ensures .1)
+
+slot-read : (c : tie.After-found) (base : ℕ) (slots : List Slot) → Looked (c .before .before .before .before .before .before .args .text .now) slots (c .before .before .before .before .before .before .args .heads .now) (c .before .before .before .before .before .before .args .bodies .now)
+    → read-slot slots (tokens-past (c .before .before .before .before .before .before .args .rest .now) base (c .before .before .before .before .before .before .args .at)) ≡ took (c .found .given .0 .0) (tokens-past (c .before .before .before .before .before .before .args .rest .now) base (c .found .given .0 .1 .0))
+slot-read c base slots L = c .before .before .slot-next .ensures .0 base slots (L .heads-listed) ∙ ap (number-part _ base) (c .found .given .1)
+
+slot-next-requires : tie.Need-slot-next-requires
+slot-next-requires c κs = search needs
+
+enum-known-found : tie.Need-enum-known-found
+enum-known-found c = search needs
+
+fork-next-requires : tie.Need-fork-next-requires
+fork-next-requires c κs = search needs
+
+enum-known-kind : tie.Need-enum-known-kind
+enum-known-kind c = search needs
+
+literal-value-requires : tie.Need-literal-value-requires
+literal-value-requires c κs = (slot-lies (c .before .before .before .before .before) .0, c .before .before .before .before .before .before .before .before .before .before .before .pre)
+
+enum-known-kind-2 : tie.Need-enum-known-kind-2
+enum-known-kind-2 c = search needs
+
+literal-value-requires-2 : tie.Need-literal-value-requires-2
+literal-value-requires-2 c κs = (slot-lies (c .before .before .before .before .before) .0, c .before .before .before .before .before .before .before .before .before .before .before .pre)
+
+enum-known-kind-3 : tie.Need-enum-known-kind-3
+enum-known-kind-3 c = search needs
+
+enum-known-found-2 : tie.Need-enum-known-found-2
+enum-known-found-2 c = search needs
+
+returns : tie.Need-returns
+returns c =
+    let k = c .before .before in
+    let f = k .before .before in
+    let a = f .before .before in
+    let l = slot-lies a in
+    let d = subst (Fork-lies _ _) (k .kind .given .1) (f .fork-next .ensures .1) in (
+      λ base slots L. literals.plain-becomes slots _ _ _ _ _ (slot-read a base slots L) (f .fork-next .ensures .0 base ∙ ap (choice _ base) (k .kind .given .1)) ∙ c .literal-value .ensures .0 base slots (L .bodies-listed _ (literals.slot-inside slots _ _ _ (slot-read a base slots L))),
+      literals.lies-earlier _ _ _ (c .literal-value .result) (omega (arith, l .1, d .0)) (c .literal-value .ensures .1),
+    )
+
+returns-2 : tie.Need-returns-2
+returns-2 c =
+    let k = c .before .before in
+    let f = k .before .before in
+    let a = f .before .before in
+    let l = slot-lies a in
+    let d = subst (Fork-lies _ _) (k .kind2 .given .1) (f .fork-next .ensures .1) in (
+      λ base slots L. literals.plain-has slots _ _ _ _ _ (slot-read a base slots L) (f .fork-next .ensures .0 base ∙ ap (choice _ base) (k .kind2 .given .1)) ∙ c .literal-value2 .ensures .0 base slots (L .bodies-listed _ (literals.slot-inside slots _ _ _ (slot-read a base slots L))),
+      literals.lies-earlier _ _ _ (c .literal-value2 .result) (omega (arith, l .1, d .0)) (c .literal-value2 .ensures .1),
+    )
+
+returns-3 : tie.Need-returns-3
+returns-3 c =
+    let k = c .before in
+    let f = k .before .before in
+    let a = f .before .before in
+    (λ base slots L. literals.plain-neither slots _ _ _ _ _ (slot-read a base slots L) (f .fork-next .ensures .0 base ∙ ap (choice _ base) (k .kind3 .given .1)), tt)
+
+returns-4 : tie.Need-returns-4
+returns-4 c =
+    let a = c .before in
+    let k = a .before .before in
+    (λ base slots L. literals.plain-stop slots _ _ _ (k .slot-next .ensures .0 base slots (L .heads-listed) ∙ ap (number-part _ base) (a .found2 .given .1)), tt)
+
+pub plain-literal-spec : {M : Type 1} → statement M
+plain-literal-spec =
+    tie.close
+    (tie.spec
+    slot-next-requires
+    enum-known-found
+    fork-next-requires
+    enum-known-kind
+    literal-value-requires
+    enum-known-kind-2
+    literal-value-requires-2
+    enum-known-kind-3
+    enum-known-found-2
+    returns
+    returns-2
+    returns-3
+    returns-4)

@@ -1,0 +1,160 @@
+// Conditions: TRUE, or literals with AND between, up to THEN.
+ghost use mathlib.Core.Path.{_≡_};
+ghost use mathlib.Core.List.{List, []};
+ghost use Prim.Native.Nat.{ℕ, _≤_, _<_};
+ghost use lib.ListN.{length, replicate};
+ghost use Rattle.laws.specs.Filled.{Filled};
+ghost use Rattle.model.specs.Rules as model;
+ghost use Rattle.table.specs.Shape.{no-literal};
+ghost use Rattle.grammar.specs.Files.{Slot};
+ghost use Rattle.grammar.specs.Limits.{max-literals};
+ghost use Rattle.grammar.specs.Reading as reading;
+ghost use Rattle.grammar.specs.Reading.{stop, read-literals, read-condition};
+ghost use Rattle.steps.specs.Places.{tokens-past, Step-lies};
+ghost use Rattle.clauses.specs.Literals.{Looked};
+ghost use Rattle.clauses.specs.Conditions.{condition-part};
+use crate::literals::LiteralRead;
+use crate::literals::literal_next;
+use steps::step::Fork;
+use steps::step::Step;
+use steps::step::fault_of;
+use steps::step::fork_next;
+use steps::step::word_next;
+use table::Literal;
+use text::Token;
+
+// The literal places of a rule and the number used.
+pub struct Literals {
+    pub places: [Literal; table::LITERALS],
+    pub count: usize,
+}
+
+// The position after a condition and its THEN, or a refusal; and the literals.
+pub struct Condition {
+    pub outcome: Step,
+    pub list: Literals,
+}
+
+// The refusal of what stands where no further literal may: 15 at a literal's first token.
+fn no_more(rest: &[u8], at: usize) -> u8
+    ensures { λ r. ⌜ ((base : ℕ) (sofar : List model.Literal) → reading.no-literal sofar (tokens-past (now (rest .entry)) base at) ≡ stop r) ⌝ }
+{
+    let next = text::token_at(rest, at);
+    let token = next.token;
+    match token {
+        Token::Word(w) => {
+            if w == text::NOT {
+                return 15;
+            }
+            12
+        }
+        Token::Name(_, _) => 15,
+        _ => fault_of(token, 13),
+    }
+}
+
+// No literals.
+fn no_literals() -> Literals
+    ensures { λ r. ⌜ r ≡ record { places = replicate 8 no-literal; count = 0 } ⌝ }
+{
+    let none = Literal {
+        becomes: false,
+        negated: false,
+        slot: 0,
+        value: 0,
+    };
+    Literals {
+        places: [none; table::LITERALS],
+        count: 0,
+    }
+}
+
+// Literals from a position on, with AND between and THEN at the end.
+fn literals_next(
+    text: &[u8],
+    rest: &[u8],
+    heads: &[usize; 32],
+    bodies: &[usize],
+    start: usize,
+) -> Condition
+    requires { ⌜ length (now bodies) ≡ 512 ⌝ }
+    ensures { λ r. ⌜ ((base : ℕ) (slots : List Slot) → Looked (now (text .entry)) slots (now (heads .entry)) (now (bodies .entry))
+        → read-literals slots max-literals [] (tokens-past (now (rest .entry)) base start) ≡ condition-part (now (rest .entry)) base (r .outcome) (r .list))
+        × Step-lies (length (now (rest .entry))) start (r .outcome) × Filled 8 no-literal (r .list .places) (r .list .count) ⌝ }
+{
+    let mut list = no_literals();
+    let mut at = start;
+    loop {
+        let n = list.count;
+        if table::LITERALS <= n {
+            return Condition {
+                outcome: Step::Fault(no_more(rest, at)),
+                list: list,
+            };
+        }
+        let read = literal_next(text, rest, heads, bodies, at);
+        match read {
+            LiteralRead::Took(literal, after) => {
+                list.places[n] = literal;
+                list.count = n + 1;
+                let way = fork_next(rest, after, text::AND, text::THEN);
+                match way {
+                    Fork::First(next) => {
+                        at = next;
+                    }
+                    Fork::Second(next) => {
+                        return Condition {
+                            outcome: Step::At(next),
+                            list: list,
+                        };
+                    }
+                    Fork::Fault(k) => {
+                        return Condition {
+                            outcome: Step::Fault(k),
+                            list: list,
+                        };
+                    }
+                }
+            }
+            LiteralRead::Fault(k) => {
+                return Condition {
+                    outcome: Step::Fault(k),
+                    list: list,
+                };
+            }
+        }
+    }
+}
+
+// A condition and its THEN: TRUE may open it.
+pub fn condition_next(
+    text: &[u8],
+    rest: &[u8],
+    heads: &[usize; 32],
+    bodies: &[usize],
+    at: usize,
+) -> Condition
+    requires { ⌜ length (now bodies) ≡ 512 ⌝ }
+    ensures { λ r. ⌜ ((base : ℕ) (slots : List Slot) → Looked (now (text .entry)) slots (now (heads .entry)) (now (bodies .entry))
+        → read-condition slots (tokens-past (now (rest .entry)) base at) ≡ condition-part (now (rest .entry)) base (r .outcome) (r .list))
+        × Step-lies (length (now (rest .entry))) at (r .outcome) × Filled 8 no-literal (r .list .places) (r .list .count) ⌝ }
+{
+    let opening = word_next(rest, at, text::TRUE);
+    match opening {
+        Step::At(after) => {
+            let way = fork_next(rest, after, text::AND, text::THEN);
+            match way {
+                Fork::First(next) => literals_next(text, rest, heads, bodies, next),
+                Fork::Second(next) => Condition {
+                    outcome: Step::At(next),
+                    list: no_literals(),
+                },
+                Fork::Fault(k) => Condition {
+                    outcome: Step::Fault(k),
+                    list: no_literals(),
+                },
+            }
+        }
+        Step::Fault(_) => literals_next(text, rest, heads, bodies, at),
+    }
+}

@@ -1,0 +1,60 @@
+-- The spans of the slots and values declared so far, and a slot as the table has it.
+use Prim.Native.Nat.{ℕ, _+_, _-_, _*_, _/_, _%_, _≤_, _<_}
+use mathlib.Core.Path.{_≡_}
+use mathlib.Core.List.{List, [], _∷_, map}
+use lib.ListN.{length, take, drop}
+use Rattle.laws.specs.Filled.{filled}
+use Rattle.text.specs.Tokens.{Name}
+use Rattle.grammar.specs.Files.{Slot, slot-names, values-of}
+use Rattle.table.specs.declared.Name as stretch
+use Rattle.table.specs.declared.Slot as tabled
+use Rattle.table.specs.Limits.{slot-limit, value-limit, row, pair-places}
+use Rattle.table.specs.Shape.{no-name}
+use Rattle.steps.specs.Spans.{span-letters, Span-lies}
+
+-- The name at a span of the text.
+abbrev pub span-name : List ℕ → ℕ → Name
+span-name text k = record { start = k / 32; letters = span-letters text k }
+
+-- The names at the first `count` spans.
+abbrev pub span-names : List ℕ → List ℕ → ℕ → List Name
+span-names text spans count = map (span-name text) (take count spans)
+
+-- The slot whose name is at a span and whose values are at the first `count` spans.
+abbrev pub span-slot : List ℕ → ℕ → List ℕ → ℕ → Slot
+span-slot text name spans count = record { name = span-name text name; values = span-names text spans count }
+
+-- The spans are those of these names, in their order, and then 0 to the end.
+abbrev pub Spanned : List ℕ → List ℕ → List Name → Type 0
+Spanned text [] [] = Unit
+Spanned text [] (n ∷ ns) = ⊥
+Spanned text (k ∷ ks) [] = (k ≡ 0) × Spanned text ks []
+Spanned text (k ∷ ks) (n ∷ ns) = (0 < k) × Span-lies text k × (span-name text k ≡ n) × Spanned text ks ns
+
+-- The spans of the values of slot `s`, among those of all slots.
+abbrev pub row-of : List ℕ → ℕ → List ℕ
+row-of bodies s = take value-limit (drop (s * row + 1) bodies)
+
+-- `heads` has the spans of the slots' names, and `bodies` those of the values of slot s from s * 16 + 1 on.
+pub record Indexed (text : List ℕ) (slots : List Slot) (heads bodies : List ℕ) : Type 0 where
+  pub head-places : length heads ≡ slot-limit
+  pub body-places : length bodies ≡ pair-places
+  pub few : length slots ≤ slot-limit
+  pub names : Spanned text heads (slot-names slots)
+  pub values : (s : ℕ) → s < slot-limit → Spanned text (row-of bodies s) (values-of slots s)
+
+-- Where a name stands, as the table has it.
+abbrev pub name-for : Name → stretch.Name
+name-for n = record { start = n .start; size = length (n .letters) }
+
+-- A slot as the table has it: places not used are zero.
+abbrev pub slot-for : Slot → tabled.Slot
+slot-for s = record { name = name-for (s .name); values = filled value-limit no-name (map name-for (s .values)); count = length (s .values) }
+
+-- Where the name of a span stands.
+abbrev pub place-of : ℕ → stretch.Name
+place-of k = record { start = k / 32; size = k % 32 }
+
+-- A slot of the table by its spans.
+abbrev pub slot-by : ℕ → List ℕ → ℕ → tabled.Slot
+slot-by name spans count = record { name = place-of name; values = map place-of spans; count = count }

@@ -1,0 +1,254 @@
+// Slot lines: each name declared as a span of the text, a place times 32 and a length.
+ghost use mathlib.Core.Path.{_≡_};
+ghost use mathlib.Core.List.{List, []};
+ghost use Prim.Native.Nat.{ℕ, _+_, _*_, _<_};
+ghost use lib.ListN.{length, set};
+ghost use lib.Seq.{sets};
+ghost use Rattle.text.specs.Tokens.{Name};
+ghost use Rattle.grammar.specs.Limits.{max-values};
+ghost use Rattle.grammar.specs.Files.{Slot, spellings, slot-names};
+ghost use Rattle.grammar.specs.Reading.{new-name, read-values, read-line};
+ghost use Rattle.table.specs.Limits.{slot-limit, row};
+ghost use Rattle.steps.specs.Places.{tokens-past, Step-lies};
+ghost use Rattle.steps.specs.Spans.{Listed};
+ghost use Rattle.lines.specs.Index.{span-names, span-slot, place-of, slot-by};
+ghost use Rattle.lines.specs.Lines.{Remainder, outcome-part, read-head, declared-part, Declared-lies, Values-lie, Line-lies};
+use steps::names::find;
+use steps::step::Fork;
+use steps::step::Named;
+use steps::step::Step;
+use steps::step::fork_next;
+use steps::step::name_next;
+use steps::step::word_next;
+use table::PAIRS;
+use table::ROW;
+use table::SLOTS;
+use table::VALUES;
+use text::CLOSE;
+use text::COMMA;
+use text::OPEN;
+use text::SEMICOLON;
+use text::SLOT;
+
+// The span of a name to be declared, and the position after it or after what stands behind it; or a refusal.
+pub enum Declared {
+    At(usize, usize),
+    Fault(u8),
+}
+
+// The names of values, as spans with the number used; the outcome has the position after the `}`.
+pub struct Values {
+    pub outcome: Step,
+    pub spans: [usize; VALUES],
+    pub count: usize,
+}
+
+// A slot line: the span of its slot's name and those of its values; the outcome has the position after the `;`.
+pub struct Line {
+    pub outcome: Step,
+    pub name: usize,
+    pub spans: [usize; VALUES],
+    pub count: usize,
+}
+
+// A name to be declared must stand at a position, none of those at the spans.
+pub fn new_next(text: &[u8], rest: &[u8], base: usize, spans: &[usize], at: usize) -> Declared
+    requires { ⌜ Remainder (now text) (now rest) base ⌝ }
+    ensures { λ r. ⌜ ((names : List Name) → Listed (now (text .entry)) (now (spans .entry)) (spellings names)
+        → new-name names (tokens-past (now (rest .entry)) base at) ≡ declared-part (now (text .entry)) (now (rest .entry)) base r) × Declared-lies (now (text .entry)) (length (now (rest .entry))) at r ⌝ }
+{
+    let named = name_next(rest, at);
+    match named {
+        Named::At(start, size, next) => {
+            let end = start + size;
+            let place = find(text, spans, &rest[start..end]);
+            if place == 0 {
+                return Declared::At((base + start) * 32 + size, next);
+            }
+            Declared::Fault(14)
+        }
+        Named::Fault(k) => Declared::Fault(k),
+    }
+}
+
+// The names of a slot's values, from after `{` to after `}`.
+pub fn values_next(text: &[u8], rest: &[u8], base: usize, start: usize) -> Values
+    requires { ⌜ Remainder (now text) (now rest) base ⌝ }
+    ensures { λ r. ⌜ (read-values max-values [] (tokens-past (now (rest .entry)) base start) ≡ outcome-part (now (rest .entry)) base (span-names (now (text .entry)) (r .spans) (r .count)) (r .outcome))
+        × Step-lies (length (now (rest .entry))) start (r .outcome) × Values-lie (now (text .entry)) (r .spans) (r .count) ⌝ }
+{
+    let mut spans: [usize; VALUES] = [0; VALUES];
+    let mut count: usize = 0;
+    let mut at = start;
+    loop {
+        let declared = new_next(text, rest, base, &spans, at);
+        match declared {
+            Declared::At(span, next) => {
+                if VALUES <= count {
+                    return Values {
+                        outcome: Step::Fault(15),
+                        spans: spans,
+                        count: count,
+                    };
+                }
+                spans[count] = span;
+                count += 1;
+                let fork = fork_next(rest, next, COMMA, CLOSE);
+                match fork {
+                    Fork::First(after) => {
+                        at = after;
+                    }
+                    Fork::Second(after) => {
+                        return Values {
+                            outcome: Step::At(after),
+                            spans: spans,
+                            count: count,
+                        };
+                    }
+                    Fork::Fault(k) => {
+                        return Values {
+                            outcome: Step::Fault(k),
+                            spans: spans,
+                            count: count,
+                        };
+                    }
+                }
+            }
+            Declared::Fault(k) => {
+                return Values {
+                    outcome: Step::Fault(k),
+                    spans: spans,
+                    count: count,
+                };
+            }
+        }
+    }
+}
+
+// A slot line from SLOT to after `{`.
+pub fn head_next(
+    text: &[u8],
+    rest: &[u8],
+    base: usize,
+    heads: &[usize; SLOTS],
+    start: usize,
+) -> Declared
+    requires { ⌜ Remainder (now text) (now rest) base ⌝ }
+    ensures { λ r. ⌜ ((slots : List Slot) → Listed (now (text .entry)) (now (heads .entry)) (spellings (slot-names slots))
+        → read-head slots (tokens-past (now (rest .entry)) base start) ≡ declared-part (now (text .entry)) (now (rest .entry)) base r) × Declared-lies (now (text .entry)) (length (now (rest .entry))) start r ⌝ }
+{
+    let word = word_next(rest, start, SLOT);
+    match word {
+        Step::At(begin) => {
+            let declared = new_next(text, rest, base, heads, begin);
+            match declared {
+                Declared::At(span, next) => {
+                    let brace = word_next(rest, next, OPEN);
+                    match brace {
+                        Step::At(after) => Declared::At(span, after),
+                        Step::Fault(k) => Declared::Fault(k),
+                    }
+                }
+                Declared::Fault(k) => Declared::Fault(k),
+            }
+        }
+        Step::Fault(k) => Declared::Fault(k),
+    }
+}
+
+// A slot line, from SLOT to after `;`.
+pub fn line_next(
+    text: &[u8],
+    rest: &[u8],
+    base: usize,
+    heads: &[usize; SLOTS],
+    start: usize,
+) -> Line
+    requires { ⌜ Remainder (now text) (now rest) base ⌝ }
+    ensures { λ r. ⌜ ((slots : List Slot) → Listed (now (text .entry)) (now (heads .entry)) (spellings (slot-names slots))
+        → read-line slots (tokens-past (now (rest .entry)) base start) ≡ outcome-part (now (rest .entry)) base (span-slot (now (text .entry)) (r .name) (r .spans) (r .count)) (r .outcome))
+        × Step-lies (length (now (rest .entry))) start (r .outcome) × Line-lies (now (text .entry)) (r .name) (r .spans) (r .count) (r .outcome) ⌝ }
+{
+    let head = head_next(text, rest, base, heads, start);
+    match head {
+        Declared::At(name, next) => {
+            let values = values_next(text, rest, base, next);
+            let spans = values.spans;
+            let count = values.count;
+            let outcome = values.outcome;
+            match outcome {
+                Step::At(after) => {
+                    let end = word_next(rest, after, SEMICOLON);
+                    Line {
+                        outcome: end,
+                        name: name,
+                        spans: spans,
+                        count: count,
+                    }
+                }
+                Step::Fault(k) => Line {
+                    outcome: Step::Fault(k),
+                    name: name,
+                    spans: spans,
+                    count: count,
+                },
+            }
+        }
+        Declared::Fault(k) => Line {
+            outcome: Step::Fault(k),
+            name: 0,
+            spans: [0; VALUES],
+            count: 0,
+        },
+    }
+}
+
+// The place and the length of a span.
+pub fn name_of(span: usize) -> table::Name
+    ensures { λ r. ⌜ r ≡ place-of span ⌝ }
+{
+    table::Name {
+        start: span / 32,
+        size: span % 32,
+    }
+}
+
+// A slot of the table by the spans of its name and its values.
+pub fn slot_of(span: usize, spans: [usize; VALUES], count: usize) -> table::Slot
+    ensures { λ r. ⌜ r ≡ slot-by span spans count ⌝ }
+{
+    let none = table::Name { start: 0, size: 0 };
+    let mut values = [none; VALUES];
+    let mut i: usize = 0;
+    while i < VALUES {
+        let name = name_of(spans[i]);
+        values[i] = name;
+        i += 1;
+    }
+    let name = name_of(span);
+    table::Slot {
+        name: name,
+        values: values,
+        count: count,
+    }
+}
+
+// A slot's spans entered among those of all slots.
+pub fn enter(
+    heads: &mut [usize; SLOTS],
+    bodies: &mut [usize; PAIRS],
+    number: usize,
+    span: usize,
+    spans: [usize; VALUES],
+)
+    requires { ⌜ number < slot-limit ⌝ }
+    ensures { λ r. ⌜ (now (heads .exit) ≡ set (now (heads .entry)) number span) × (now (bodies .exit) ≡ sets (now (bodies .entry)) (number * row + 1) spans) ⌝ }
+{
+    heads[number] = span;
+    let first = number * ROW + 1;
+    let mut i: usize = 0;
+    while i < VALUES {
+        bodies[first + i] = spans[i];
+        i += 1;
+    }
+}

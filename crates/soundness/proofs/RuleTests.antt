@@ -1,0 +1,98 @@
+-- The tests of a rule: one pair, one literal, one assignment after the other.
+-- Assumes nothing.
+use mathlib.Core.Path.{_≡_, refl}
+use mathlib.Core.Bool.{Bool, true, false}
+use mathlib.Core.List.{List, [], _∷_, map}
+use Prim.Native.Nat.{ℕ, _≤_, _<_}
+use lib.ListN.{getD}
+use borrow.Author.Tests.{eq-eqb, ne-eqb, le-leb, lt-leb}
+use Rattle.laws.specs.Truth.{_∧ᵇ_, _∨ᵇ_, notᵇ}
+use Rattle.laws.specs.Listed.{all-of}
+use Rattle.laws.proofs.Equations.{and-false}
+use Rattle.laws.proofs.Listed.{all-append}
+use Rattle.model.specs.Rules.{Pair}
+use Rattle.table.specs.declared.Rule.{Rule}
+use Rattle.table.specs.Limits.{literal-limit, assignment-limit}
+use Rattle.table.specs.Link.{rule-of, literals-of, assignments-of}
+use Rattle.table.specs.Names.{has-slot, has-value}
+use Rattle.soundness.specs.Sound.{has-pair, named, assigns, each-once, rule-right}
+
+pub pair-lacking : (width : ℕ) (counts : List ℕ) (p : Pair) → has-slot width (p .slot) ≡ false → has-pair width counts p ≡ false
+unfolding has-pair _∧ᵇ_
+pair-lacking width counts p e = rw e
+
+pub pair-there : (width : ℕ) (counts : List ℕ) (p : Pair) → has-slot width (p .slot) ≡ true → has-pair width counts p ≡ has-value (getD counts (p .slot) 0) (p .value)
+unfolding has-pair _∧ᵇ_
+pair-there width counts p e = rw e
+
+pub all-stop : {A : Type 0} (f : A → Bool) (x : A) (xs : List A) → f x ≡ false → all-of f (x ∷ xs) ≡ false
+unfolding all-of _∧ᵇ_
+all-stop f x xs e = rw e
+
+pub all-on : {A : Type 0} (f : A → Bool) (x : A) (xs : List A) → f x ≡ true → all-of f (x ∷ xs) ≡ all-of f xs
+unfolding all-of _∧ᵇ_
+all-on f x xs e = rw e
+
+pub all-none : {A : Type 0} (f : A → Bool) → all-of f [] ≡ true
+unfolding all-of
+all-none f = refl
+
+pub assigns-here : (p : Pair) (ps : List Pair) (s : ℕ) → p .slot ≡ s → assigns (p ∷ ps) s ≡ true
+unfolding assigns _∨ᵇ_
+assigns-here p ps s e = rw (eq-eqb (p .slot) s e)
+
+pub assigns-over : (p : Pair) (ps : List Pair) (s : ℕ) → (p .slot ≡ s → ⊥) → assigns (p ∷ ps) s ≡ assigns ps s
+unfolding assigns _∨ᵇ_
+assigns-over p ps s n = rw (ne-eqb (p .slot) s n)
+
+pub assigns-none : (s : ℕ) → assigns [] s ≡ false
+unfolding assigns
+assigns-none s = refl
+
+-- Both tests of some assignments.
+unfoldable pub both-right : (Pair → Bool) → List Pair → Bool
+both-right f ps = all-of f ps ∧ᵇ each-once ps
+
+pub both-lacking : (f : Pair → Bool) (p : Pair) (ps : List Pair) → f p ≡ false → both-right f (p ∷ ps) ≡ false
+unfolding both-right all-of _∧ᵇ_
+both-lacking f p ps e = rw e
+
+pub both-twice : (f : Pair → Bool) (p : Pair) (ps : List Pair) → f p ≡ true → assigns ps (p .slot) ≡ true → both-right f (p ∷ ps) ≡ false
+unfolding both-right all-of each-once notᵇ _∧ᵇ_
+both-twice f p ps e d = rw (e, d) (and-false (all-of f ps))
+
+pub both-on : (f : Pair → Bool) (p : Pair) (ps : List Pair) → f p ≡ true → assigns ps (p .slot) ≡ false → both-right f (p ∷ ps) ≡ both-right f ps
+unfolding both-right all-of each-once notᵇ _∧ᵇ_
+both-on f p ps e d = rw (e, d)
+
+pub both-none : (f : Pair → Bool) → both-right f [] ≡ true
+unfolding both-right all-of each-once _∧ᵇ_
+both-none f = refl
+
+-- The test of a rule, as far as it goes.
+module _ (width : ℕ) (counts : List ℕ) (r : Rule) where
+  pub right-literals-many : literal-limit < r .tested → rule-right width counts r ≡ false
+  unfolding rule-right _∧ᵇ_
+  right-literals-many h = rw (lt-leb (r .tested) literal-limit h)
+
+  pub right-assignments-many : r .tested ≤ literal-limit → assignment-limit < r .assigned → rule-right width counts r ≡ false
+  unfolding rule-right _∧ᵇ_
+  right-assignments-many h k = rw (le-leb (r .tested) literal-limit h, lt-leb (r .assigned) assignment-limit k)
+
+  named-all : all-of (has-pair width counts) (named r) ≡ (has-pair width counts (rule-of r .trigger) ∧ᵇ (all-of (has-pair width counts) (map (λ l. l .pair) (literals-of r)) ∧ᵇ all-of (has-pair width counts) (assignments-of r)))
+  unfolding named all-of
+  named-all = rw (all-append (has-pair width counts) (map (λ l. l .pair) (literals-of r)) (assignments-of r))
+
+  pub right-trigger : r .tested ≤ literal-limit → r .assigned ≤ assignment-limit → has-pair width counts (rule-of r .trigger) ≡ false → rule-right width counts r ≡ false
+  unfolding rule-right _∧ᵇ_
+  right-trigger h k e = rw (le-leb (r .tested) literal-limit h, le-leb (r .assigned) assignment-limit k, named-all, e)
+
+  pub right-literals : r .tested ≤ literal-limit → r .assigned ≤ assignment-limit → has-pair width counts (rule-of r .trigger) ≡ true
+      → all-of (has-pair width counts) (map (λ l. l .pair) (literals-of r)) ≡ false → rule-right width counts r ≡ false
+  unfolding rule-right _∧ᵇ_
+  right-literals h k e d = rw (le-leb (r .tested) literal-limit h, le-leb (r .assigned) assignment-limit k, named-all, e, d)
+
+  pub right-assignments : r .tested ≤ literal-limit → r .assigned ≤ assignment-limit → has-pair width counts (rule-of r .trigger) ≡ true
+      → all-of (has-pair width counts) (map (λ l. l .pair) (literals-of r)) ≡ true → rule-right width counts r ≡ both-right (has-pair width counts) (assignments-of r)
+  unfolding rule-right both-right _∧ᵇ_
+  right-assignments h k e d = rw (le-leb (r .tested) literal-limit h, le-leb (r .assigned) assignment-limit k, named-all, e, d)

@@ -1,0 +1,42 @@
+-- What a table that passes 31 tells those that take one.
+-- Assumes nothing.
+use mathlib.Core.Path.{_≡_}
+use mathlib.Core.Bool.{true}
+use Prim.Native.Nat.{ℕ, _≤_, _<_}
+use lib.Dec.{leb, leb→le}
+use lib.ListN.{getD}
+use Rattle.laws.proofs.Truth.{and-l}
+use Rattle.laws.proofs.Equations.{from-true}
+use Rattle.model.specs.Strata.{strict, Strata}
+use Rattle.model.specs.Circles.{circle-of}
+use Rattle.table.specs.declared.Table.{Table}
+use Rattle.table.specs.Limits.{slot-limit, value-limit}
+use Rattle.table.specs.Shape.{no-slot, Shaped}
+use Rattle.table.specs.Link.{rules-of, stratum-at}
+use Rattle.table.specs.Fits.{TableFits}
+use Rattle.soundness.specs.Sound.{within-limits, well-formed, sound}
+use Rattle.soundness.proofs.WellFormed.{well-formed-e, well-formed-fits, sound-parts}
+use Rattle.soundness.proofs.Equation.{carries-e, carries-strata}
+
+-- It has at most 32 slots.
+pub sound-width : (t : Table) → sound t ≡ true → t .width ≤ slot-limit
+unfolding well-formed within-limits
+sound-width t e =
+    leb→le (t .width) slot-limit (and-l (leb (t .width) slot-limit) _ (and-l _ _ (and-l _ _ (and-l _ _ (and-l _ _ (and-l _ _ (sound-parts t (from-true (sound t) e) .0)))))))
+
+-- Each slot has 1 to 15 values.
+pub sound-values : (t : Table) → Shaped t → sound t ≡ true → (i : ℕ) → i < t .width → (1 ≤ getD (t .slots) i no-slot .count) × (getD (t .slots) i no-slot .count ≤ value-limit)
+sound-values t sh e i h =
+    let w = well-formed-e t sh (sound-parts t (from-true (sound t) e) .0) in
+    (w .some-value i h, w .few-values i h)
+
+-- Every pair that its rules name has a place in an array indexed by pair.
+pub sound-fits : (t : Table) → Shaped t → sound t ≡ true → TableFits t
+sound-fits t sh e = well-formed-fits t sh (sound-parts t (from-true (sound t) e) .0)
+
+-- Its rules have strata, and it carries them.
+pub sound-strata : (t : Table) → sound t ≡ true → Strata strict (rules-of t) (stratum-at t)
+sound-strata t e = carries-strata t (sound-parts t (from-true (sound t) e) .1)
+
+pub sound-no-circle : (t : Table) → sound t ≡ true → circle-of strict (rules-of t) ≡ 0
+sound-no-circle t e = carries-e t (sound-parts t (from-true (sound t) e) .1) .0
