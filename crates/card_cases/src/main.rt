@@ -224,13 +224,13 @@ fn unpack_case(s: &[u8], t: Table, start: usize, slip: bool) -> usize {
     }
     let part = &s[at..end];
     if slip {
-        let got = cards::unpack_slip(t, part);
+        let got = unpacking::unpack_slip(t, part);
         let outcome = got.outcome;
         write_outcome(outcome);
         let form = got.slip;
         write_slip(form);
     } else {
-        let got = cards::unpack_card(t, part);
+        let got = unpacking::unpack_card(t, part);
         let outcome = got.outcome;
         write_outcome(outcome);
         let form = got.card;
@@ -242,17 +242,17 @@ fn unpack_case(s: &[u8], t: Table, start: usize, slip: bool) -> usize {
 // Packs a card into the first `room` bytes of an output.
 fn pack_card(t: Table, c: Card, out: &mut [u8], room: usize) -> Packing {
     if room <= out.len() {
-        return cards::pack_card(t, c, &mut out[..room]);
+        return packing::pack_card(t, c, &mut out[..room]);
     }
-    cards::pack_card(t, c, out)
+    packing::pack_card(t, c, out)
 }
 
 // The same of a slip.
 fn pack_slip(t: Table, s: Slip, out: &mut [u8], room: usize) -> Packing {
     if room <= out.len() {
-        return cards::pack_slip(t, s, &mut out[..room]);
+        return packing::pack_slip(t, s, &mut out[..room]);
     }
-    cards::pack_slip(t, s, out)
+    packing::pack_slip(t, s, out)
 }
 
 // Packs a card or a slip: the form, then the room. Gives the place after it.

@@ -1,26 +1,18 @@
-// Cards and slips, unpacked and packed: document 01, 'Cards and slips', refusals 20 to 28, 30 and 31.
+// Cards and slips, unpacked: document 01, 'Cards and slips'.
 ghost use mathlib.Core.Path.{_≡_};
 ghost use Prim.Native.Nat.{ℕ, _≤_};
-ghost use lib.ListN.{length};
 ghost use Rattle.laws.specs.Filled.{filled};
 ghost use Rattle.table.specs.Limits.{slot-limit};
 ghost use Rattle.table.specs.Link.{value-counts};
-ghost use Rattle.cards.specs.Cards.{unpacked-card, unpacked-slip, packed-card, packed-slip, card-read, slip-read, packing-of, output-of};
-use fields::bytes_for;
-use pack::check_card;
-use pack::check_slip;
-use pack::write_card;
-use pack::write_slip;
+ghost use Rattle.model.specs.Result.{pair};
+ghost use Rattle.cards.specs.Forms.{change-fault};
+ghost use Rattle.cards.specs.Cards.{counts-in};
 use table::Name;
 use table::SLOTS;
 use table::Slot;
 use table::Table;
-use unpack::read_card;
-use unpack::read_slip;
 
 pub mod fields;
-pub mod pack;
-pub mod unpack;
 
 // An unpacked card: a value for each slot, 0 for no value, and how many slots it counts.
 #[repr(C)]
@@ -83,68 +75,29 @@ pub fn counts_of(t: Table) -> [usize; SLOTS]
     counts
 }
 
-// Unpacks any bytes as a card: 31, then 20 to 23.
-pub fn unpack_card(t: Table, bytes: &[u8]) -> CardRead
-    ensures { λ r. ⌜ r ≡ card-read (unpacked-card t (now (bytes .entry))) ⌝ }
+// The fault of a change, or 0: 25, 26 where its slot is below `low`, 27.
+pub fn change_fault(
+    slot: usize,
+    value: usize,
+    low: usize,
+    width: usize,
+    counts: &[usize; SLOTS],
+) -> u8
+    requires { ⌜ width ≤ slot-limit ⌝ }
+    ensures { λ r. ⌜ r ≡ change-fault (counts-in width (now (counts .entry))) low (pair slot value) ⌝ }
 {
-    if !soundness::is_sound(t) {
-        return unpack::refused_card(31, 0);
+    if width <= slot {
+        return 25;
     }
-    let width = t.width;
-    let counts = counts_of(t);
-    read_card(bytes, width, &counts)
-}
-
-// Unpacks any bytes as a slip: 31, then 24 to 28.
-pub fn unpack_slip(t: Table, bytes: &[u8]) -> SlipRead
-    ensures { λ r. ⌜ r ≡ slip-read (unpacked-slip t (now (bytes .entry))) ⌝ }
-{
-    if !soundness::is_sound(t) {
-        return unpack::refused_slip(31, 0);
+    if slot < low {
+        return 26;
     }
-    let width = t.width;
-    let counts = counts_of(t);
-    read_slip(bytes, width, &counts)
-}
-
-// Packs any unpacked card: 31, then 21, 22 and 30 with 1. A refusal leaves all of the output.
-pub fn pack_card(t: Table, c: Card, out: &mut [u8]) -> Packing
-    ensures { λ r. ⌜ (r ≡ packing-of (packed-card t c (length (now (out .entry))))) × (now (out .exit) ≡ output-of (packed-card t c (length (now (out .entry)))) (now (out .entry))) ⌝ }
-{
-    if !soundness::is_sound(t) {
-        return Packing::Refused(31, 0);
+    if value == 0 {
+        return 27;
     }
-    let width = t.width;
-    let counts = counts_of(t);
-    let checked = check_card(c, width, &counts);
-    if let Outcome::Refused(number, second) = checked {
-        return Packing::Refused(number, second);
+    let last = counts[slot];
+    if last < value {
+        return 27;
     }
-    if out.len() < bytes_for(6 + 4 * width) {
-        return Packing::Refused(30, 1);
-    }
-    Packing::Packed(write_card(c, out))
-}
-
-// Packs any unpacked slip: 31, then 24 (over 32 changes), 25 to 27 and 30 with 2. A refusal leaves all of the output.
-pub fn pack_slip(t: Table, s: Slip, out: &mut [u8]) -> Packing
-    ensures { λ r. ⌜ (r ≡ packing-of (packed-slip t s (length (now (out .entry))))) × (now (out .exit) ≡ output-of (packed-slip t s (length (now (out .entry)))) (now (out .entry))) ⌝ }
-{
-    if !soundness::is_sound(t) {
-        return Packing::Refused(31, 0);
-    }
-    let m = s.count;
-    if SLOTS < m {
-        return Packing::Refused(24, 0);
-    }
-    let width = t.width;
-    let counts = counts_of(t);
-    let checked = check_slip(s, width, &counts);
-    if let Outcome::Refused(number, second) = checked {
-        return Packing::Refused(number, second);
-    }
-    if out.len() < bytes_for(6 + 9 * m) {
-        return Packing::Refused(30, 2);
-    }
-    Packing::Packed(write_slip(s, out))
+    0
 }

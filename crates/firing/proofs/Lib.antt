@@ -1,9 +1,6 @@
-pub mod Holding
 pub mod Sorting
 pub mod Placing
 pub mod Sorted
 pub mod Running
 pub mod Responses
-pub mod Values
-pub mod Bits
 pub mod Arrays

@@ -30,8 +30,8 @@ use Rattle.table.proofs.Flat.{set-none, added, added-length, pairs-of-set}
 use Rattle.soundness.specs.Sound.{sound}
 use Rattle.soundness.proofs.Sound.{sound-fits, sound-strata}
 use Rattle.firing.specs.Firing.{Fireable, fired-in, carried-firing, firing-of}
-use Rattle.firing.specs.Record.{flag-record, ones-in}
-use Rattle.firing.proofs.Bits.{record-ones}
+use Rattle.results.specs.Record.{flag-record, ones-in}
+use Rattle.results.proofs.Bits.{record-ones}
 
 -- A table that 31 lets pass can be fired.
 pub sound-fireable : (t : Table) → Shaped t → sound t ≡ true → Fireable t

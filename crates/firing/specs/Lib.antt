@@ -1,4 +1,2 @@
 pub mod Firing
 pub mod Sorting
-pub mod Record
-pub mod Ending

@@ -1,8 +1,5 @@
 // Firing the rules of a table, and what is worked out of the changes and of the rules fired.
-pub mod ending;
-pub mod literals;
 pub mod order;
-pub mod records;
 
 ghost use mathlib.Core.Path.{_≡_};
 ghost use Rattle.firing.specs.Firing.{Fireable, firing-of};

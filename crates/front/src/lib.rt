@@ -3,8 +3,8 @@ ghost use Prim.Native.Nat.{_≤_};
 use cards::Change;
 use cards::Slip;
 use libc::STDOUT_FILENO;
-use response::Tally;
 use table::Table;
+use tally::Tally;
 
 // Room for every new card, and for every fired record: 32 slots, 255 rules.
 const CARD: usize = 17;
@@ -130,7 +130,7 @@ fn write_answer(
     tally: Tally,
 ) {
     write_rules(t, record);
-    let unpacked = cards::unpack_slip(t, changes);
+    let unpacked = unpacking::unpack_slip(t, changes);
     let slip = unpacked.slip;
     write_changes(text, t, slip);
     io::write_all(STDOUT_FILENO, b"card ");

@@ -6,7 +6,7 @@ use Rattle.cards.specs.declared.CardRead.{CardRead}
 use Rattle.cards.specs.declared.SlipRead.{SlipRead}
 use Rattle.cards.specs.declared.Packing.{Packing}
 use Rattle.cards.specs.Cards.{refusal-number, second-number, packing-refusal, packing-second, packing-length}
-use Rattle.response.specs.declared.Tally.{Tally}
+use Rattle.tally.specs.declared.Tally.{Tally}
 use Rattle.response.specs.declared.Outcome.{Outcome}
 use Rattle.response.specs.declared.Outcome.the-variants.{Answered, Refused}
 use Rattle.response.specs.declared.Response.{Response}

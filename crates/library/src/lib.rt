@@ -12,9 +12,9 @@ use cards::Card;
 use cards::Packing;
 use cards::Slip;
 use response::Outcome;
-use response::Tally;
 use table::Name;
 use table::Table;
+use tally::Tally;
 
 // A reading: the number of its refusal, 0 where the text is accepted, its second number, and the table, without slots or rules after a refusal.
 #[repr(C)]
@@ -172,7 +172,7 @@ pub extern "C" fn rl_value_name(text: &[u8], t: Table, slot: usize, value: usize
 pub extern "C" fn rl_unpack_card(t: Table, bytes: &[u8]) -> RlCard
     ensures { λ r. ⌜ r ≡ card-result (card-read (unpacked-card t (now (bytes .entry)))) ⌝ }
 {
-    let read = cards::unpack_card(t, bytes);
+    let read = unpacking::unpack_card(t, bytes);
     let outcome = read.outcome;
     let card = read.card;
     match outcome {
@@ -198,7 +198,7 @@ pub extern "C" fn rl_unpack_card(t: Table, bytes: &[u8]) -> RlCard
 pub extern "C" fn rl_unpack_slip(t: Table, bytes: &[u8]) -> RlSlip
     ensures { λ r. ⌜ r ≡ slip-result (slip-read (unpacked-slip t (now (bytes .entry)))) ⌝ }
 {
-    let read = cards::unpack_slip(t, bytes);
+    let read = unpacking::unpack_slip(t, bytes);
     let outcome = read.outcome;
     let slip = read.slip;
     match outcome {
@@ -247,8 +247,8 @@ pub extern "C" fn rl_pack_card(t: Table, card: Card, out: &mut [u8]) -> RlPacked
     ensures { λ r. ⌜ (r ≡ packing-result (packing-of (packed-card t card (length (now (out .entry))))))
         × (now (out .exit) ≡ output-of (packed-card t card (length (now (out .entry)))) (now (out .entry))) ⌝ }
 {
-    let packing = cards::pack_card(t, card, out);
-    packed(packing)
+    let result = packing::pack_card(t, card, out);
+    packed(result)
 }
 
 // Packs a slip into the output: 31, 24 to 27, and 30 with 2.
@@ -257,8 +257,8 @@ pub extern "C" fn rl_pack_slip(t: Table, slip: Slip, out: &mut [u8]) -> RlPacked
     ensures { λ r. ⌜ (r ≡ packing-result (packing-of (packed-slip t slip (length (now (out .entry))))))
         × (now (out .exit) ≡ output-of (packed-slip t slip (length (now (out .entry)))) (now (out .entry))) ⌝ }
 {
-    let packing = cards::pack_slip(t, slip, out);
-    packed(packing)
+    let result = packing::pack_slip(t, slip, out);
+    packed(result)
 }
 
 // A response by numbers.

@@ -10,7 +10,7 @@ use Rattle.grammar.specs.Meaning.{Is-file}
 use Rattle.rule_file.specs.Whole.{reading}
 use Rattle.rule_file.proofs.Answers.{reading-no-refusal}
 use Rattle.cards.specs.Answers.{Taking, taken, refused}
-use Rattle.response.specs.declared.Tally.{Tally}
+use Rattle.tally.specs.declared.Tally.{Tally}
 use Rattle.response.specs.Ending.{Answer}
 use Rattle.response.specs.Respond.{Outputs, rooms-of, refusal-number, second-number, outcome-of, respond-to, response-to, outputs-after}
 use Rattle.promises.specs.Agreement.{Agreed, LowestConflict, Demand3}

@@ -17,9 +17,10 @@ use Rattle.rule_file.specs.Whole.{reading}
 use Rattle.rule_file.proofs.Cases.{runs, case-text}
 use Rattle.cards.specs.Answers.{taken, refused, after}
 use Rattle.cards.specs.Forms.{card-fields, change-fields, slip-fields, card-bytes, slip-bytes, values-in, changes-in, values-test, card-test, change-fault, changes-test, read-card, read-slip}
-use Rattle.firing.specs.Record.{ones-in}
+use Rattle.results.specs.Record.{ones-in}
 use Rattle.response.specs.Ending.{fired-record, answer-of, settled, ending}
-use Rattle.response.specs.Respond.{_then_, if-room, responded, worked, is-full, respond-to, counted, tally-after}
+use Rattle.response.specs.Respond.{_then_, if-room, responded, worked, respond-to, counted, tally-after}
+use Rattle.tally.specs.Counting.{is-full}
 use Rattle.promises.specs.Agreement.{bit-of}
 use Rattle.promises.specs.Day.{fresh}
 use Rattle.promises.specs.Listing.{RuleLine, ChangeLine, Listing, listed, refusal, program-rooms, list-response, list-reading, listing}

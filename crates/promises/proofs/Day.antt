@@ -12,9 +12,10 @@ use borrow.Author.Tests.{ne-eqb, lt-leb}
 use Rattle.laws.specs.Truth.{_∨ᵇ_}
 use Rattle.laws.proofs.Truth.{le-or-lt, or-l, or-r}
 use Rattle.cards.specs.Answers.{Taking, taken, refused}
-use Rattle.response.specs.declared.Tally.{Tally}
+use Rattle.tally.specs.declared.Tally.{Tally}
 use Rattle.response.specs.Ending.{Answer}
-use Rattle.response.specs.Respond.{worked, is-full, respond-to, counted, tally-after, response-to}
+use Rattle.response.specs.Respond.{worked, respond-to, counted, tally-after, response-to}
+use Rattle.tally.specs.Counting.{is-full}
 use Rattle.promises.specs.Day.{Call, fresh, answer-at, next-tally, tally-over, answers-over, answered-in, refused-in, answer-after}
 use Rattle.promises.proofs.Refusals.{Only, Other, worked-other}
 

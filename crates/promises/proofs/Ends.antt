@@ -27,9 +27,10 @@ use Rattle.rule_file.specs.Whole.{reading}
 use Rattle.rule_file.proofs.Answers.{reading-carries, reading-passes}
 use Rattle.cards.specs.Answers.{Taking, taken, refused}
 use Rattle.cards.specs.Forms.{card-width, read-card, read-slip}
-use Rattle.response.specs.declared.Tally.{Tally}
+use Rattle.tally.specs.declared.Tally.{Tally}
 use Rattle.response.specs.Ending.{Answer, answer-of, settled, ending}
-use Rattle.response.specs.Respond.{_then_, Rooms, changes-room, if-room, responded, worked, is-full, respond-to}
+use Rattle.response.specs.Respond.{_then_, Rooms, changes-room, if-room, responded, worked, respond-to}
+use Rattle.tally.specs.Counting.{is-full}
 use Rattle.promises.specs.Agreement.{counts-of, responds}
 use Rattle.promises.proofs.Refusals.{Only, Early, Other, only-more, card-early, slip-early}
 

@@ -19,9 +19,10 @@ use Rattle.rule_file.specs.Whole.{reading}
 use Rattle.rule_file.proofs.Answers.{reading-passes}
 use Rattle.cards.specs.Answers.{Taking, taken, refused}
 use Rattle.cards.specs.Forms.{read-card, read-slip}
-use Rattle.response.specs.declared.Tally.{Tally}
+use Rattle.tally.specs.declared.Tally.{Tally}
 use Rattle.response.specs.Ending.{Answer}
-use Rattle.response.specs.Respond.{Rooms, responded, worked, is-full, respond-to, response-to}
+use Rattle.response.specs.Respond.{Rooms, responded, worked, respond-to, response-to}
+use Rattle.tally.specs.Counting.{is-full}
 use Rattle.promises.specs.Day.{Call, fresh, tally-over, answers-over, answer-after}
 use Rattle.promises.specs.Listing.{program-rooms}
 use Rattle.promises.proofs.Cases.{lists, text-C, all-0, x-to-1, case-C-bytes}

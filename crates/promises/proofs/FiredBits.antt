@@ -16,9 +16,9 @@ use Rattle.laws.proofs.Numbers.{is-false}
 use Rattle.laws.proofs.Tabulated.{tabulate-length, tabulate-at, is-tabulate}
 use Rattle.laws.proofs.Packed.{pack-bit}
 use Rattle.model.specs.Orders.{names}
-use Rattle.firing.specs.Record.{fired-bits, ones-in}
-use Rattle.firing.specs.Record as firing
-use Rattle.firing.proofs.Bits as bits
+use Rattle.results.specs.Record.{fired-bits, ones-in}
+use Rattle.results.specs.Record as firing
+use Rattle.results.proofs.Bits as bits
 use Rattle.response.specs.Ending.{fired-record}
 use Rattle.promises.specs.Agreement.{bit-of}
 

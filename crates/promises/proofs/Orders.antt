@@ -28,7 +28,7 @@ use Rattle.cards.specs.Forms.{card-test, slip-test, read-card, read-slip}
 use Rattle.cards.proofs.Passed.{card-pass}
 use Rattle.cards.proofs.Having.{Has}
 use Rattle.cards.proofs.RoundTrip.{card-reads-back, slip-reads-back}
-use Rattle.firing.specs.Record.{ones-in}
+use Rattle.results.specs.Record.{ones-in}
 use Rattle.response.specs.Ending.{fired-record, answer-of}
 use Rattle.promises.specs.Agreement.{counts-of, InConflict, LowestConflict, Shows, Agreed}
 use Rattle.promises.proofs.FiredBits.{record-bit, record-ones}

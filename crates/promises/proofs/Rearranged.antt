@@ -35,12 +35,13 @@ use Rattle.rule_file.specs.Whole.{reading}
 use Rattle.rule_file.proofs.Answers.{reading-accepted-iff}
 use Rattle.cards.specs.Answers.{Taking, taken, refused}
 use Rattle.cards.specs.Forms.{card-width, read-card, read-slip}
-use Rattle.response.specs.declared.Tally.{Tally}
+use Rattle.tally.specs.declared.Tally.{Tally}
 use Rattle.response.specs.declared.Outcome.{Outcome}
 use Rattle.response.specs.declared.Outcome.the-variants.{Answered}
-use Rattle.firing.specs.Record.{ones-in}
+use Rattle.results.specs.Record.{ones-in}
 use Rattle.response.specs.Ending.{Answer, fired-record, answer-of, settled, ending}
-use Rattle.response.specs.Respond.{_then_, Rooms, changes-room, if-room, responded, is-full, outcome-of, counted, tally-after, response-to}
+use Rattle.response.specs.Respond.{_then_, Rooms, changes-room, if-room, responded, outcome-of, counted, tally-after, response-to}
+use Rattle.tally.specs.Counting.{is-full}
 use Rattle.promises.specs.Agreement.{counts-of, bit-of, responds, SameResponse, same-refusal, same-answer, Unmoved}
 use Rattle.promises.proofs.FiredBits.{record-bit, record-ones}
 use Rattle.promises.proofs.Ends.{file-response, file-no-circle}

@@ -20,8 +20,9 @@ use Rattle.soundness.specs.Sound.{sound}
 use Rattle.cards.specs.Answers.{Verdict, passed, fault, Taking, taken, refused, after}
 use Rattle.cards.specs.Forms.{count-in, card-width, slip-width, padding, values-in, changes-in, values-test, card-test, change-fault, changes-test, slip-test, read-card, read-slip}
 use Rattle.response.specs.Ending.{answer-of, settled, ending}
-use Rattle.response.specs.declared.Tally.{Tally}
-use Rattle.response.specs.Respond.{_then_, Rooms, changes-room, if-room, responded, worked, is-full, respond-to}
+use Rattle.tally.specs.declared.Tally.{Tally}
+use Rattle.response.specs.Respond.{_then_, Rooms, changes-room, if-room, responded, worked, respond-to}
+use Rattle.tally.specs.Counting.{is-full}
 
 -- A refusal, where it is one, has a number that P holds of.
 abbrev pub Only : {A : Type 0} → (ℕ → Type 0) → Taking A → Type 0

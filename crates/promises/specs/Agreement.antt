@@ -21,8 +21,8 @@ use Rattle.reader.specs.declared.Outcome.the-variants.{Accepted}
 use Rattle.rule_file.specs.Whole.{reading}
 use Rattle.cards.specs.Answers.{Taking, taken, refused}
 use Rattle.cards.specs.Forms.{read-card, read-slip}
-use Rattle.response.specs.declared.Tally.{Tally}
-use Rattle.firing.specs.Record.{ones-in}
+use Rattle.tally.specs.declared.Tally.{Tally}
+use Rattle.results.specs.Record.{ones-in}
 use Rattle.response.specs.Ending.{Answer}
 use Rattle.response.specs.Respond.{Rooms, respond-to, response-to}
 

@@ -7,8 +7,8 @@ use Rattle.model.specs.Orders.{changes}
 use Rattle.grammar.specs.Files.{File}
 use Rattle.reader.specs.Tables as reader
 use Rattle.rule_file.specs.Whole.{reading}
-use Rattle.firing.specs.Record.{ones-in}
-use Rattle.response.specs.declared.Tally.{Tally}
+use Rattle.results.specs.Record.{ones-in}
+use Rattle.tally.specs.declared.Tally.{Tally}
 use Rattle.response.specs.declared.Response.{Response}
 use Rattle.response.specs.declared.Outcome.the-variants.{Answered}
 use Rattle.response.specs.Ending.{Answer}

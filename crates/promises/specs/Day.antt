@@ -5,7 +5,7 @@ use mathlib.Core.List.{List, [], _∷_}
 use lib.Dec.{eqb}
 use Rattle.table.specs.declared.Table.{Table}
 use Rattle.cards.specs.Answers.{Taking, taken, refused}
-use Rattle.response.specs.declared.Tally.{Tally}
+use Rattle.tally.specs.declared.Tally.{Tally}
 use Rattle.response.specs.Ending.{Answer}
 use Rattle.response.specs.Respond.{Rooms, respond-to, response-to}
 

@@ -12,7 +12,7 @@ use Rattle.reader.specs.declared.Outcome.the-variants.{Accepted, Refused}
 use Rattle.rule_file.specs.Whole.{reading}
 use Rattle.cards.specs.Answers.{Taking, taken, refused}
 use Rattle.cards.specs.Forms.{changes-in}
-use Rattle.response.specs.declared.Tally.{Tally}
+use Rattle.tally.specs.declared.Tally.{Tally}
 use Rattle.response.specs.Ending.{Answer}
 use Rattle.response.specs.Respond.{Rooms, respond-to, tally-after}
 use Rattle.promises.specs.Agreement.{bit-of}

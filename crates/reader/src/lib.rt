@@ -6,10 +6,10 @@ ghost use Rattle.text.specs.Tokens.{tokens};
 ghost use Rattle.grammar.specs.Limits.{max-text};
 ghost use Rattle.grammar.specs.Reading.{read, read-tokens};
 ghost use Rattle.reader.specs.Tables.{answered};
-use lines::enter;
-use lines::slot_of;
 use crate::statements::Kind;
 use crate::statements::statement_next;
+use lines::enter;
+use lines::slot_of;
 use table::Table;
 
 pub mod rules;

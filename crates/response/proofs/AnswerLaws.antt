@@ -43,9 +43,9 @@ use Rattle.cards.proofs.EntryTrips.{card-of-values, slip-of-changes}
 use Rattle.cards.proofs.Written.{card-bytes-length, slip-bytes-length}
 use Rattle.firing.specs.declared.Firing.{Firing}
 use Rattle.firing.specs.Firing.{firing-of}
-use Rattle.firing.specs.Record.{fired-bits, ones-in}
-use Rattle.firing.specs.Record as firing
-use Rattle.firing.specs.Ending.{new-places}
+use Rattle.results.specs.Record.{fired-bits, ones-in}
+use Rattle.results.specs.Record as firing
+use Rattle.results.specs.Ending.{new-places}
 use Rattle.response.specs.Ending.{fired-record, answer-of, settled, ending}
 use Rattle.response.specs.declared.Outcome.the-variants.{Answered, Refused}
 use Rattle.response.specs.Respond.{Outputs, outputs, written, outcome-of, outputs-after, Ends}

@@ -1,4 +1,3 @@
-pub mod TallyLaws
 pub mod SlipLaws
 pub mod Fired
 pub mod AnswerLaws

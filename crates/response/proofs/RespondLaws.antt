@@ -28,11 +28,12 @@ use Rattle.cards.proofs.Passed.{slots-length, sound-slots, card-pass, card-fits
 use Rattle.cards.proofs.EntryTrips.{card-of-values, slip-of-changes}
 use Rattle.cards.proofs.Having.{tested-few, card-tested, slip-tested}
 use Rattle.firing.proofs.Responses.{sound-fireable}
-use Rattle.response.specs.declared.Tally.{Tally}
+use Rattle.tally.specs.declared.Tally.{Tally}
 use Rattle.response.specs.declared.Outcome.{Outcome}
 use Rattle.response.specs.declared.Outcome.the-variants as response
 use Rattle.response.specs.Ending.{Answer, ending}
-use Rattle.response.specs.Respond.{Rooms, Outputs, changes-room, _then_, if-room, responded, worked, is-full, one-answered, one-refused, counted, tally-after, outcome-of, outputs-after, respond-to, response-to, Ends}
+use Rattle.response.specs.Respond.{Rooms, Outputs, changes-room, _then_, if-room, responded, worked, counted, tally-after, outcome-of, outputs-after, respond-to, response-to, Ends}
+use Rattle.tally.specs.Counting.{is-full, one-answered, one-refused}
 use Rattle.response.specs.InOrder.{InOrder}
 
 -- What the code says of a card is what was taken or refused.

@@ -15,7 +15,7 @@ use Rattle.laws.proofs.Lists.{map-append}
 use Rattle.model.specs.Rules.{Pair, Pairs}
 use Rattle.model.specs.Result.{pair, value-in, changes-slip}
 use Rattle.table.specs.Limits.{slot-limit, row}
-use Rattle.firing.proofs.Values.{slip-changed, slip-kept}
+use Rattle.results.proofs.Values.{slip-changed, slip-kept}
 use Rattle.cards.specs.declared.Change.{Change}
 use Rattle.cards.specs.declared.Slip.{Slip}
 use Rattle.cards.specs.Cards.{no-change, pair-of, change-of, changes-of, slip-of}

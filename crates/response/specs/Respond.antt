@@ -13,11 +13,12 @@ use Rattle.table.specs.Link.{rules-of, value-counts}
 use Rattle.soundness.specs.Sound.{sound}
 use Rattle.cards.specs.Answers.{Taking, taken, refused}
 use Rattle.cards.specs.Forms.{card-width, read-card, read-slip}
-use Rattle.response.specs.declared.Tally.{Tally}
+use Rattle.tally.specs.declared.Tally.{Tally}
+use Rattle.tally.specs.Counting.{is-full, one-answered, one-refused}
 use Rattle.response.specs.declared.Outcome.{Outcome}
 use Rattle.response.specs.declared.Outcome.the-variants.{Answered, Refused}
 use Rattle.response.specs.declared.Response.{Response}
-use Rattle.firing.specs.Record.{ones-in}
+use Rattle.results.specs.Record.{ones-in}
 use Rattle.response.specs.Ending.{Answer, ending}
 
 -- First one thing is taken, then another by it; a refusal stays.
@@ -53,10 +54,6 @@ responded counts rs card slip rooms =
 unfoldable pub worked : Table → List ℕ → List ℕ → Rooms → Taking Answer
 worked t card slip rooms = cond (sound t) (responded (value-counts t) (rules-of t) card slip rooms) (refused 31 0)
 
--- 32: either tally at 9,999 or above.
-unfoldable pub is-full : Tally → Bool
-is-full y = leb 9999 (y .answered) ∨ᵇ leb 9999 (y .refused)
-
 -- 32 before all.
 unfoldable pub respond-to : Table → Tally → List ℕ → List ℕ → Rooms → Taking Answer
 respond-to t y card slip rooms = cond (is-full y) (refused 32 0) (worked t card slip rooms)
@@ -66,13 +63,7 @@ unfoldable pub outcome-of : Taking Answer → Outcome
 outcome-of (taken a) = Answered (length (a .changes)) (ones-in (a .fired))
 outcome-of (refused k s) = Refused k s
 
--- One slip more answered, or one more refused.
-abbrev pub one-answered : Tally → Tally
-one-answered y = record { answered = y .answered + 1; refused = y .refused }
-
-abbrev pub one-refused : Tally → Tally
-one-refused y = record { answered = y .answered; refused = y .refused + 1 }
-
+-- A response that is counted.
 unfoldable pub counted : Tally → Taking Answer → Tally
 counted y (taken a) = one-answered y
 counted y (refused k s) = one-refused y

@@ -11,13 +11,13 @@ use crate::slips::slip_of;
 use cards::Card;
 use cards::Slip;
 use cards::fields::bytes_for;
-use cards::pack::write_card;
-use cards::pack::write_slip;
 use firing::Firing;
-use firing::ending::conflict_slot;
-use firing::ending::new_values;
-use firing::records::count_fired;
-use firing::records::record_of;
+use packing::pack::write_card;
+use packing::pack::write_slip;
+use results::ending::conflict_slot;
+use results::ending::new_values;
+use results::records::count_fired;
+use results::records::record_of;
 use table::Table;
 
 // Fires the rules and writes the answer; a conflict writes nothing.

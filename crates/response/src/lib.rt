@@ -1,6 +1,5 @@
 // The response to a slip: document 01, 'Preconditions and response', its order of refusals, and the tally.
 pub mod answering;
-pub mod counting;
 pub mod slips;
 
 ghost use mathlib.Core.Path.{_≡_};
@@ -8,19 +7,13 @@ ghost use Rattle.response.specs.Respond.{rooms-of, outputs, outputs-afte
 use answering::finish;
 use cards::CardRead;
 use cards::SlipRead;
-use cards::unpack::read_card;
-use cards::unpack::read_slip;
-use counting::is_full;
-use counting::one_answered;
-use counting::one_refused;
 use table::Table;
-
-// Slips answered and slips refused.
-#[repr(C)]
-pub struct Tally {
-    pub answered: u16,
-    pub refused: u16,
-}
+use tally::Tally;
+use tally::is_full;
+use tally::one_answered;
+use tally::one_refused;
+use unpacking::unpack::read_card;
+use unpacking::unpack::read_slip;
 
 // What a response comes to: the length of the changes and how many rules fired, or a refusal with its number and its second number.
 pub enum Outcome {

@@ -42,7 +42,7 @@ pub fn slip_of(changes: &[bool; PAIRS], width: usize) -> Slip
     let mut count: usize = 0;
     let mut s: usize = 0;
     'slots: while s < width {
-        let v = firing::ending::changed_value(changes, s);
+        let v = results::ending::changed_value(changes, s);
         let slot = s;
         s += 1;
         if ROW <= v {

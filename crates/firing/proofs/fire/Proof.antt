@@ -16,7 +16,7 @@ use Rattle.table.specs.Flat.{set-of}
 use Rattle.table.specs.Fits.{RuleFits}
 use Rattle.table.proofs.Shape.{shaped}
 use Rattle.table.proofs.Walks.{literals-from}
-use Rattle.firing.proofs.Holding.{enabled-off, enabled-on, literal-false, literal-true, literals-held}
+use Rattle.literals.proofs.Holding.{enabled-off, enabled-on, literal-false, literal-true, literals-held}
 use Rattle.firing.proofs.Sorted.{Sorts, strata-numbers, sorts-rules}
 use Rattle.firing.proofs.Running.{Kept, kept-fire, passes-left, pass-moved, pass-last, Running, run-start, run-again, run-pass, run-over, run-higher, run-fire, run-end}
 use Rattle.firing.proofs.Responses.{carried-response}

@@ -2,7 +2,7 @@
 -- Assumes nothing.
 use mathlib.Core.Path.{_≡_, sym, _∙_}
 use mathlib.Core.Bool.{false}
-use Rattle.response.specs.Respond.{is-full}
+use Rattle.tally.specs.Counting.{is-full}
 use Rattle.response.proofs.RespondLaws.{full-response, counted-answer, counted-refusal}
 use borrow.Author.Needs.{needs}
 use Rattle.response.proofs.respond.Statement.{statement}

@@ -13,7 +13,7 @@ use Rattle.table.specs.Flat.{set-of, add-pairs}
 use Rattle.table.proofs.Shape.{shaped}
 use Rattle.cards.specs.Forms.{card-width, card-bytes}
 use Rattle.cards.specs.Cards.{values-of, changes-of}
-use Rattle.firing.specs.Record.{ones-in}
+use Rattle.results.specs.Record.{ones-in}
 use Rattle.firing.specs.Firing.{firing-of}
 use Rattle.response.proofs.AnswerLaws.{conflict-ends, next-in-order, listed-fits, listed-room, record-there, answer-ends}
 use native.Mathlib.Omega.{arith}

@@ -1,0 +1,60 @@
+// Any card or slip packed: refusals 31, 21 and 22 or 24 to 27, then 30.
+pub mod pack;
+
+ghost use mathlib.Core.Path.{_≡_};
+ghost use lib.ListN.{length};
+ghost use Rattle.cards.specs.Cards.{packed-card, packed-slip, packing-of, output-of};
+use cards::Card;
+use cards::Outcome;
+use cards::Packing;
+use cards::Slip;
+use cards::counts_of;
+use cards::fields::bytes_for;
+use pack::check_card;
+use pack::check_slip;
+use pack::write_card;
+use pack::write_slip;
+use table::SLOTS;
+use table::Table;
+
+// Packs any unpacked card: 31, then 21, 22 and 30 with 1. A refusal leaves all of the output.
+pub fn pack_card(t: Table, c: Card, out: &mut [u8]) -> Packing
+    ensures { λ r. ⌜ (r ≡ packing-of (packed-card t c (length (now (out .entry))))) × (now (out .exit) ≡ output-of (packed-card t c (length (now (out .entry)))) (now (out .entry))) ⌝ }
+{
+    if !soundness::is_sound(t) {
+        return Packing::Refused(31, 0);
+    }
+    let width = t.width;
+    let counts = counts_of(t);
+    let checked = check_card(c, width, &counts);
+    if let Outcome::Refused(number, second) = checked {
+        return Packing::Refused(number, second);
+    }
+    if out.len() < bytes_for(6 + 4 * width) {
+        return Packing::Refused(30, 1);
+    }
+    Packing::Packed(write_card(c, out))
+}
+
+// Packs any unpacked slip: 31, then 24 (over 32 changes), 25 to 27 and 30 with 2. A refusal leaves all of the output.
+pub fn pack_slip(t: Table, s: Slip, out: &mut [u8]) -> Packing
+    ensures { λ r. ⌜ (r ≡ packing-of (packed-slip t s (length (now (out .entry))))) × (now (out .exit) ≡ output-of (packed-slip t s (length (now (out .entry)))) (now (out .entry))) ⌝ }
+{
+    if !soundness::is_sound(t) {
+        return Packing::Refused(31, 0);
+    }
+    let m = s.count;
+    if SLOTS < m {
+        return Packing::Refused(24, 0);
+    }
+    let width = t.width;
+    let counts = counts_of(t);
+    let checked = check_slip(s, width, &counts);
+    if let Outcome::Refused(number, second) = checked {
+        return Packing::Refused(number, second);
+    }
+    if out.len() < bytes_for(6 + 9 * m) {
+        return Packing::Refused(30, 2);
+    }
+    Packing::Packed(write_slip(s, out))
+}

@@ -1,0 +1,17 @@
+-- The tally of a day: slips answered and slips refused, 0 to 9,999 each.
+use Prim.Native.Nat.{_+_}
+use mathlib.Core.Bool.{Bool}
+use lib.Dec.{leb}
+use Rattle.laws.specs.Truth.{_∨ᵇ_}
+use Rattle.tally.specs.declared.Tally.{Tally}
+
+-- 32: either tally at 9,999 or above.
+unfoldable pub is-full : Tally → Bool
+is-full y = leb 9999 (y .answered) ∨ᵇ leb 9999 (y .refused)
+
+-- One slip more answered, or one more refused.
+abbrev pub one-answered : Tally → Tally
+one-answered y = record { answered = y .answered + 1; refused = y .refused }
+
+abbrev pub one-refused : Tally → Tally
+one-refused y = record { answered = y .answered; refused = y .refused + 1 }

@@ -1,0 +1,35 @@
+// Any bytes unpacked as a card or as a slip: refusals 31, 20 to 28.
+pub mod unpack;
+
+ghost use mathlib.Core.Path.{_≡_};
+ghost use Rattle.cards.specs.Cards.{unpacked-card, unpacked-slip, card-read, slip-read};
+use cards::CardRead;
+use cards::SlipRead;
+use cards::counts_of;
+use table::Table;
+use unpack::read_card;
+use unpack::read_slip;
+
+// Unpacks any bytes as a card: 31, then 20 to 23.
+pub fn unpack_card(t: Table, bytes: &[u8]) -> CardRead
+    ensures { λ r. ⌜ r ≡ card-read (unpacked-card t (now (bytes .entry))) ⌝ }
+{
+    if !soundness::is_sound(t) {
+        return unpack::refused_card(31, 0);
+    }
+    let width = t.width;
+    let counts = counts_of(t);
+    read_card(bytes, width, &counts)
+}
+
+// Unpacks any bytes as a slip: 31, then 24 to 28.
+pub fn unpack_slip(t: Table, bytes: &[u8]) -> SlipRead
+    ensures { λ r. ⌜ r ≡ slip-read (unpacked-slip t (now (bytes .entry))) ⌝ }
+{
+    if !soundness::is_sound(t) {
+        return unpack::refused_slip(31, 0);
+    }
+    let width = t.width;
+    let counts = counts_of(t);
+    read_slip(bytes, width, &counts)
+}
