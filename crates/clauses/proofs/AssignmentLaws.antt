@@ -50,23 +50,6 @@ pub pairs-add : (list : Assignments) (a : Assignment) → Unused-zero list → l
     → map assignment-of (take (list .count + 1) (set (list .places) (list .count) a)) ≡ pairs-in list ++ assignment-of a ∷ []
 pairs-add list a F h = ap (map assignment-of) (filled-used assignment-limit no-assignment (list .places) (list .count) a F h) ∙ map-append assignment-of (take (list .count) (list .places)) (a ∷ [])
 
--- The pairs in the used places tell the whole list.
-for-of : (xs : List Assignment) → map assignment-for (map assignment-of xs) ≡ xs
-for-of [] = refl
-for-of (a ∷ xs) = ap (λ (z : List Assignment). a ∷ z) (for-of xs)
-
-pub pairs-count : (list : Assignments) → Unused-zero list → length (pairs-in list) ≡ list .count
-pairs-count list F = let u = F .used in let l = F .size in rw length-map (length-take-le (list .count) (list .places) (omega arith))
-
-abbrev list-with : List Assignment → ℕ → Assignments
-list-with places count = record { places = places; count = count }
-
-pub list-is : (list : Assignments) → Unused-zero list → list ≡ assignment-list (pairs-in list)
-list-is list F =
-    ap₂ list-with
-    (filled-is assignment-limit no-assignment (list .places) (list .count) F ∙ ap (filled assignment-limit no-assignment) (sym (for-of (take (list .count) (list .places)))))
-    (sym (pairs-count list F))
-
 -- A slot is assigned by the first pair, or by one of the others.
 pub assigns-here : (p : Pair) (ps : List Pair) (s : ℕ) → p .slot ≡ s → assigns (p ∷ ps) s ≡ true
 unfolding assigns

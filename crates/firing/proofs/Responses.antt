@@ -52,13 +52,6 @@ module _ (t : Table) (f : Fireable t) (S : List ℕ) (slip : List Bool) where
   pub fires-outcome : T (outcome (rules-of t) S (pairs-of slip) (response strict (rules-of t) S (pairs-of slip)))
   fires-outcome = response-is-outcome strict (rules-of t) S (pairs-of slip) no-circles
 
-  -- Every such order ends with its changes and names the rules that it flags.
-  pub outcome-fired : (ns : List ℕ) → T (outcome (rules-of t) S (pairs-of slip) ns) → fired-in t slip ns ≡ firing-of t S slip
-  unfolding firing-of fired-in
-  outcome-fired ns o =
-      let u = demand-3 strict (rules-of t) S (pairs-of slip) no-circles .1 ns o in
-      λ j. record { changes = flags-of (u .1 j); fired = tabulate (λ i. (u .0 j) (suc i)) rule-limit }
-
   -- The one bits of its record are as many as the rules fired.
   pub fired-count : t .count ≤ rule-limit → ones-in (flag-record (firing-of t S slip .fired) (t .count)) ≡ tally (names (response strict (rules-of t) S (pairs-of slip))) (t .count)
   unfolding firing-of fired-in

@@ -86,10 +86,6 @@ unfolding field-bits bits-in
 fields-length [] = refl
 fields-length (f ∷ fs) = length-append (bits (f .width) (f .number)) (field-bits fs) ∙ rw (bits-length (f .width) (f .number), fields-length fs)
 
-pub packed-length : (fs : List Field) → length (pack-fields fs) ≡ byte-count (bits-in (map (λ f. f .width) fs))
-unfolding pack-fields
-packed-length fs = pack-length (field-bits fs) ∙ rw (fields-length fs)
-
 pub field-bits-append : (fs gs : List Field) → field-bits (fs ++ gs) ≡ field-bits fs ++ field-bits gs
 unfolding field-bits
 field-bits-append [] gs = refl

@@ -147,10 +147,6 @@ byte-at-bits bs k =
     let l = tabulate-length (λ j. getD bs (8 * k + j) false) 8 in
     ap (λ (n : ℕ). bits n (byte-at bs k)) (sym l) ∙ bits-number (tabulate (λ j. getD bs (8 * k + j) false) 8)
 
-pub byte-at-lt : (bs : List Bool) (k : ℕ) → byte-at bs k < 256
-unfolding byte-at
-byte-at-lt bs k = rw (tabulate-length (λ j. getD bs (8 * k + j) false) 8) at (number-lt (tabulate (λ j. getD bs (8 * k + j) false) 8))
-
 -- A byte looks at its eight places alone.
 pub byte-at-same : (cs bs : List Bool) (k m : ℕ) → ((j : ℕ) → j < 8 → getD cs (8 * k + j) false ≡ getD bs (8 * m + j) false) → byte-at cs k ≡ byte-at bs m
 unfolding byte-at

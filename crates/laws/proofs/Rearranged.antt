@@ -75,9 +75,3 @@ module _ {A : Type 0} where
   p-length (p-skip p) = ap suc (p-length p)
   p-length p-swap = refl
   p-length (p-trans p q) = p-length p ∙ p-length q
-
-pub p-map : {A B : Type 0} (f : A → B) {l m : List A} → Perm l m → Perm (map f l) (map f m)
-p-map f p-nil = p-nil
-p-map f (p-skip p) = p-skip (p-map f p)
-p-map f p-swap = p-swap
-p-map f (p-trans p q) = p-trans (p-map f p) (p-map f q)

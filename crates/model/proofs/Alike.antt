@@ -22,11 +22,6 @@ SameCard S S′ = (s : ℕ) → getD S s 0 ≡ getD S′ s 0
 unfoldable pub SamePairs : List Pair → List Pair → Type 0
 SamePairs I I′ = (p : Pair) → among p I ≡ among p I′
 
--- A card in an array with no value beyond its slots is the same.
-pub filled-card : (n : ℕ) (S : List ℕ) → SameCard (filled n 0 S) S
-unfolding SameCard
-filled-card n S s = filled-at n 0 S s
-
 module _ (S S′ : List ℕ) (alike : SameCard S S′) where
   was-same : (p : Pair) → was S p ≡ was S′ p
   unfolding was SameCard
@@ -68,26 +63,6 @@ module _ (rs : List Rule) (S S′ : List ℕ) (I I′ : List Pair) (card : SameC
   pub ready-alike : (done : List ℕ) (n : ℕ) → ready rs S I done n ≡ ready rs S′ I′ done n
   unfolding ready
   ready-alike done n = rw (enabled-alike done n)
-
-  can-fire-alike : (done ns : List ℕ) → can-fire rs S I done ns ≡ can-fire rs S′ I′ done ns
-  unfolding can-fire
-  can-fire-alike done [] = refl
-  can-fire-alike done (n ∷ ns) = rw (ready-alike done n, can-fire-alike (n ∷ done) ns)
-
-  some-alike : (done : List ℕ) (k : ℕ) → some-of (ready rs S I done) k ≡ some-of (ready rs S′ I′ done) k
-  unfolding some-of
-  some-alike done zero = refl
-  some-alike done (suc k) = rw (ready-alike done (suc k), some-alike done k)
-
-  each-alike : (done ns : List ℕ) → each (λ n. enabled S (changes rs I done) (rule-at rs n)) ns ≡ each (λ n. enabled S′ (changes rs I′ done) (rule-at rs n)) ns
-  unfolding each
-  each-alike done [] = refl
-  each-alike done (n ∷ ns) = rw (enabled-alike done n, each-alike done ns)
-
-  -- The same lists are complete and consistent firing orders.
-  pub outcome-alike : (ns : List ℕ) → outcome rs S I ns ≡ outcome rs S′ I′ ns
-  unfolding outcome firing-order complete consistent
-  outcome-alike ns = rw (can-fire-alike [] ns, some-alike ns (length rs), each-alike ns ns)
 
   module _ (t : ℕ → ℕ) where
     next-alike : (done : List ℕ) (k : ℕ) → next-of rs S I t done k ≡ next-of rs S′ I′ t done k

@@ -60,20 +60,6 @@ module _ (G : Grading) (rs : List Rule) where
         to-x = reach-trans (length rs) (step G rs) n m (b .x) j (b .x-rule) (reach-step (length rs) (step G rs) n n m i j (reach-refl (length rs) (step G rs) n) t) (b .to-x);
       })
 
-  -- Behind n lies what a rule behind n depends on.
-  pub behind-on : (n m q : ℕ) → Numbered (length rs) m → Numbered (length rs) q → T (behind G rs n m) → T (step G rs m q) → T (behind G rs n q)
-  behind-on n m q i j h t =
-      let b = behind-e n m h in
-      behind-i n q (record {
-        x = b .x;
-        y = b .y;
-        x-rule = b .x-rule;
-        y-rule = b .y-rule;
-        to-x = b .to-x;
-        falls = b .falls;
-        from-y = reach-step (length rs) (step G rs) (b .y) m q i j (b .from-y) t;
-      })
-
   -- X holds n and is closed under steps; Y holds what rules of X must stand above and is closed under steps. Then Y holds all that lies behind n.
   pub all-behind : (n : ℕ) (X Y : ℕ → Bool) → T (X n)
       → ((m q : ℕ) → Numbered (length rs) m → Numbered (length rs) q → T (X m) → T (step G rs m q) → T (X q))

@@ -23,13 +23,6 @@ pub depends-e : (rs : List Rule) (n m : ℕ) → T (depends rs n m) → (p : Pai
 unfolding depends
 depends-e rs n m t = meet-e _ _ t
 
--- A dependence is plain or under NOT.
-pub depends-cases : (rs : List Rule) (n m : ℕ) → T (depends rs n m) → T (depends-plainly rs n m) ⊎ T (depends-under-not rs n m)
-unfolding depends depends-plainly depends-under-not
-depends-cases rs n m t =
-    let w = meet-e _ _ t in
-    ⊎-elim (λ a. inl (meet-i (w .0) _ _ a (w .2))) (λ a. inr (meet-i (w .0) _ _ a (w .2))) (tested-e (rule-at rs n) (w .0) (w .1))
-
 -- A plain dependence is one.
 pub plainly-depends : (rs : List Rule) (n m : ℕ) → T (depends-plainly rs n m) → T (depends rs n m)
 unfolding depends depends-plainly

@@ -158,8 +158,3 @@ module _ (rs : List Rule) (S : List ℕ) (I : List Pair) where
   pub rules-of : (ns : List ℕ) → Outcome ns → (n : ℕ) → T (names ns n) → Numbered (length rs) n
   unfolding firing-order
   rules-of ns o n t = are-rules [] ns (o .order) n t
-
-  -- The rules that have fired are exactly those that are enabled at the end (the RL paper, section 3: the maximal set enabled there).
-  pub fired-enabled : (ns : List ℕ) → Outcome ns → (n : ℕ) → Numbered (length rs) n → names ns n ≡ enabled S (changes rs I ns) (rule-at rs n)
-  unfolding Consistent
-  fired-enabled ns o n i = bool-ext (names ns n) _ (o .stays-consistent n) (all-fired ns (o .completes) n i)

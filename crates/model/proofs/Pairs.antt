@@ -89,15 +89,6 @@ where-cases f g h c p (l ∷ ls) t =
     (λ s. ⊎-elim (λ a. inl (where-later g l ls p a)) (λ a. inr (where-later h l ls p a)) (where-cases f g h c p ls s))
     (where-e f l ls p t)
 
-plain-or-not : (l : Literal) → T (is-becomes l) → T (is-plain l) ⊎ T (is-under-not l)
-unfolding is-becomes is-plain is-under-not _∧ᵇ_ notᵇ
-plain-or-not l t = go (l .becomes) (l .negated) t
-  where
-    go : (b n : Bool) → T b → T (b ∧ᵇ notᵇ n) ⊎ T (b ∧ᵇ n)
-    go true true t = inr tt
-    go true false t = inl tt
-    go false n t = absurd t
-
 plain-becomes : (l : Literal) → T (is-plain l) → T (is-becomes l) ⊎ T (is-becomes l)
 unfolding is-becomes is-plain
 plain-becomes l t = inl (and-l _ _ t)
@@ -105,13 +96,6 @@ plain-becomes l t = inl (and-l _ _ t)
 not-becomes : (l : Literal) → T (is-under-not l) → T (is-becomes l) ⊎ T (is-becomes l)
 unfolding is-becomes is-under-not
 not-becomes l t = inl (and-l _ _ t)
-
--- A rule needs or bars what it tests.
-pub tested-e : (r : Rule) (p : Pair) → T (among p (tested r)) → T (among p (needed r)) ⊎ T (among p (barred r))
-unfolding tested needed barred among
-tested-e r p t =
-    ⊎-elim (λ a. inl (or-l _ _ a))
-    (λ a. ⊎-elim (λ b. inl (or-r _ _ b)) (λ b. inr b) (where-cases is-becomes is-plain is-under-not plain-or-not p (r .literals) a)) (or-e _ _ t)
 
 -- A rule tests what it needs.
 pub needed-tested : (r : Rule) (p : Pair) → T (among p (needed r)) → T (among p (tested r))

@@ -42,14 +42,6 @@ pub rearranged-results : (slots values : ℕ) (G : Grading) (rs rs′ : List Rul
     → SameResults slots values S (changes rs I (response G rs S I)) (changes rs′ I (response G rs′ S I))
 rearranged-results slots values G rs rs′ p e S I = same-results slots values S _ _ ((rearranged-response G rs rs′ p e S I) .1)
 
--- C of the response stays within the bounds of the slip and of the rules.
-pub response-bounded : (slots values : ℕ) (G : Grading) (rs : List Rule) (S : List ℕ) (I : List Pair) → circle-of G rs ≡ 0
-    → ((p : Pair) → T (among p I) → (p .slot < slots) × (p .value < values))
-    → ((n : ℕ) (p : Pair) → Numbered (length rs) n → T (among p (rule-at rs n .assignments)) → (p .slot < slots) × (p .value < values))
-    → Bounded slots values (changes rs I (response G rs S I))
-response-bounded slots values G rs S I e slip rule =
-    changes-bounded slots values rs S I (response G rs S I) ((outcome-e rs S I (response G rs S I) (response-is-outcome G rs S I e)) .order) slip rule
-
 -- Where the response answers, the pairs of its changes are exactly the C of every complete and consistent firing order.
 pub outcome-changes : (slots values : ℕ) (G : Grading) (rs : List Rule) (S : List ℕ) (I : List Pair) → circle-of G rs ≡ 0
     → Bounded slots values (changes rs I (response G rs S I)) → conflict-slot slots values (changes rs I (response G rs S I)) ≡ slots

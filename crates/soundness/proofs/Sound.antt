@@ -37,6 +37,3 @@ sound-fits t sh e = well-formed-fits t sh (sound-parts t (from-true (sound t) e)
 -- Its rules have strata, and it carries them.
 pub sound-strata : (t : Table) → sound t ≡ true → Strata strict (rules-of t) (stratum-at t)
 sound-strata t e = carries-strata t (sound-parts t (from-true (sound t) e) .1)
-
-pub sound-no-circle : (t : Table) → sound t ≡ true → circle-of strict (rules-of t) ≡ 0
-sound-no-circle t e = carries-e t (sound-parts t (from-true (sound t) e) .1) .0

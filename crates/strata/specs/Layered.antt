@@ -41,13 +41,3 @@ layering t =
     cond (eqb (circle-of strict (rules-of t)) 0)
     (record { outcome = Layered; table = with-strata t })
     (record { outcome = Circle (circle-of strict (rules-of t)); table = empty-table })
-
--- The refusal that an outcome is: 0 for none, or 18.
-abbrev pub refusal-of : Outcome → ℕ
-refusal-of Layered = 0
-refusal-of (Circle k) = 18
-
--- Its second number: the lowest rule on a circle.
-abbrev pub second-of : Outcome → ℕ
-second-of Layered = 0
-second-of (Circle k) = k
