@@ -10,7 +10,7 @@ use lib.ListN.{length, replicate, length-map, List·getD-append, List·getD-map}
 use lib.Seq.{ext-getD}
 use borrow.Author.Tests.{ltb-false, eqb-true}
 use Rattle.laws.specs.Filled.{filled}
-use Rattle.laws.specs.Packed.{byte-count}
+use Rattle.laws.specs.Packed.{byte-count, Bytes}
 use Rattle.model.specs.Rules.{Pair}
 use Rattle.table.specs.declared.Table.{Table}
 use Rattle.table.specs.Limits.{slot-limit}
@@ -27,7 +27,7 @@ use Rattle.cards.proofs.Tested.{no-pair, change-right}
 use Rattle.cards.proofs.Passed.{sound-slots}
 use Rattle.cards.proofs.Written.{card-bytes-length, slip-bytes-length}
 use Rattle.cards.proofs.Answered.{card-with-room, slip-with-room, sound-card-read, sound-slip-read}
-use Rattle.cards.proofs.RoundTrip.{Bytes, card-accepted, slip-accepted, card-packs-back, slip-packs-back, card-reads-back, slip-reads-back}
+use Rattle.cards.proofs.RoundTrip.{card-accepted, slip-accepted, card-packs-back, slip-packs-back, card-reads-back, slip-reads-back}
 
 -- The form that the code hands out for some values has just those values, and so with changes.
 pub card-of-values : (vs : List ℕ) → values-of (card-of vs) ≡ vs

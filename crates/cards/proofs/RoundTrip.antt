@@ -8,7 +8,7 @@ use native.Mathlib.Omega.{arith}
 use lib.Dec.{eqb}
 use lib.ListN.{length, getD}
 use borrow.Author.Tests.{eqb-true}
-use Rattle.laws.specs.Packed.{Field, field, byte-count, pack-fields, field-bits, field-at, fields-at}
+use Rattle.laws.specs.Packed.{Field, field, byte-count, pack-fields, field-bits, field-at, fields-at, Bytes}
 use Rattle.laws.proofs.Fields.{packs-back, reads-packed, padding-packed, fields-length}
 use Rattle.model.specs.Rules.{Pair}
 use Rattle.table.specs.Limits.{slot-limit}
@@ -18,10 +18,6 @@ use Rattle.cards.proofs.Taken.{values-length, value-at, card-taken, sli
 use Rattle.cards.proofs.Written.{card-bytes-length, slip-bytes-length}
 use Rattle.cards.proofs.Passed.{Slots, card-pass, values-pass, changes-pass}
 use Rattle.cards.proofs.FieldForms.{card-widths, slip-widths, card-in-bits, slip-in-bits, card-field-widths, slip-field-widths, card-read-fields, slip-read-fields, card-by-fields, slip-by-fields, card-fields-fit, slip-fields-fit}
-
--- Every byte is below 256, as the code's are.
-abbrev pub Bytes : List ℕ → Type 0
-Bytes ys = (k : ℕ) → k < length ys → getD ys k 0 < 256
 
 -- What bytes that are taken passed.
 pub record Accepted {A : Type 0} (long : Bool) (test : Verdict) (pad : ℕ) (form given : A) : Type 0 where

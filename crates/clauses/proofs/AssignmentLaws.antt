@@ -3,28 +3,28 @@
 use Prim.Native.Nat.{ℕ, suc, _+_, _-_, _≤_, _<_, min}
 use native.Mathlib.Omega.{arith}
 use native.Mathlib.Numerals.{add-one}
-use mathlib.Core.Path.{_≡_, refl, sym, ap, ap₂, _∙_}
+use mathlib.Core.Path.{_≡_, refl, ap, _∙_}
 use mathlib.Core.Bool.{Bool, true, false}
 use mathlib.Core.List.{List, [], _∷_, _++_, map}
 use lib.ListN.{length, take, drop, getD, set, length-map, length-take, List·getD-map, drop-of-length-le}
-use lib.Seq.{drop-cons, getD-take, length-take-le}
-use borrow.Author.Tests.{eq-eqb, ne-eqb}
+use lib.Seq.{drop-cons, getD-take}
 use Rattle.laws.specs.Filled.{filled}
-use Rattle.laws.proofs.Filled.{filled-none, filled-used, filled-is}
+use Rattle.laws.proofs.Filled.{filled-none, filled-used}
 use Rattle.laws.proofs.Lists.{map-append}
 use Rattle.text.specs.Tokens.{Name, Token, GETS, OPEN, CLOSE, COMMA}
-use Rattle.model.specs.Rules.{Pair}
+use Rattle.model.proofs.Pairs.{assigns-none}
+use Rattle.model.specs.Rules.{Pair, assigns}
 use Rattle.table.specs.Limits.{assignment-limit}
 use Rattle.table.specs.Shape.{no-assignment}
 use Rattle.table.specs.Link.{assignment-of}
 use Rattle.table.specs.declared.Assignment.{Assignment}
 use Rattle.grammar.specs.Limits.{max-assignments}
-use Rattle.grammar.specs.Files.{Slot, assigns}
+use Rattle.grammar.specs.Files.{Slot}
 use Rattle.grammar.specs.Reading as reading
 use Rattle.grammar.specs.Reading.{Part, took, stop, _then_, expects, a-name, unassigned, read-slot, read-value, read-target, read-assignment, read-assignments, read-assign}
 use Rattle.model.specs.Result.{pair}
 use Rattle.steps.specs.Places.{which, one, other, neither}
-use Rattle.clauses.specs.Assignments.{assignment-for, assignment-list, Unused-zero, pairs-in, value-assignment, single-assignment, Assignment-lies}
+use Rattle.clauses.specs.Assignments.{assignment-list, Unused-zero, pairs-in, value-assignment, single-assignment, Assignment-lies}
 use Rattle.clauses.specs.declared.assignments.Assignments.{Assignments}
 use Rattle.clauses.specs.declared.assignments.AssignmentRead.{AssignmentRead}
 use Rattle.clauses.specs.declared.assignments.AssignmentRead.the-variants as read
@@ -50,18 +50,9 @@ pub pairs-add : (list : Assignments) (a : Assignment) → Unused-zero list → l
     → map assignment-of (take (list .count + 1) (set (list .places) (list .count) a)) ≡ pairs-in list ++ assignment-of a ∷ []
 pairs-add list a F h = ap (map assignment-of) (filled-used assignment-limit no-assignment (list .places) (list .count) a F h) ∙ map-append assignment-of (take (list .count) (list .places)) (a ∷ [])
 
--- A slot is assigned by the first pair, or by one of the others.
-pub assigns-here : (p : Pair) (ps : List Pair) (s : ℕ) → p .slot ≡ s → assigns (p ∷ ps) s ≡ true
-unfolding assigns
-assigns-here p ps s e = rw (eq-eqb (p .slot) s e)
-
-pub assigns-other : (p : Pair) (ps : List Pair) (s : ℕ) → (p .slot ≡ s → ⊥) → assigns (p ∷ ps) s ≡ assigns ps s
-unfolding assigns
-assigns-other p ps s e = rw (ne-eqb (p .slot) s e)
-
+-- No slot is assigned after the last pair.
 pub assigns-end : (ps : List Pair) (i s : ℕ) → length ps ≤ i → assigns (drop i ps) s ≡ false
-unfolding assigns
-assigns-end ps i s h = rw (drop-of-length-le ps h)
+assigns-end ps i s h = rw (drop-of-length-le ps h) (assigns-none s)
 
 -- The pair in a used place, and those after it.
 pub pairs-length : (list : Assignments) → length (pairs-in list) ≡ min (list .count) (length (list .places))

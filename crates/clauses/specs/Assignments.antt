@@ -12,8 +12,7 @@ use Rattle.table.specs.declared.Assignment.{Assignment}
 use Rattle.grammar.specs.Files.{Slot}
 use Rattle.grammar.specs.Reading.{Part, took, stop, _then_, expects, read-value, read-assignment}
 use Rattle.model.specs.Result.{pair}
-use Rattle.steps.specs.Places.{tokens-past, Step-lies}
-use Rattle.steps.specs.declared.step.Step.{Step}
+use Rattle.steps.specs.Places.{tokens-past, Step-lies, outcome-part}
 use Rattle.steps.specs.declared.step.Step.the-variants as step
 use Rattle.clauses.specs.declared.assignments.Assignments.{Assignments}
 use Rattle.clauses.specs.declared.assignments.AssignmentRead.{AssignmentRead}
@@ -57,14 +56,9 @@ abbrev pub Assignment-lies : ℕ → ℕ → AssignmentRead → Type 0
 Assignment-lies size from (read.Took a next) = (from < next) × (next ≤ size)
 Assignment-lies size from (read.Fault k) = Unit
 
--- Pairs read, or a refusal.
-abbrev pub pairs-part : List ℕ → ℕ → List Pair → Step → Part (List Pair)
-pairs-part rest base ps (step.At next) = took ps (tokens-past rest base next)
-pairs-part rest base ps (step.Fault k) = stop k
-
 -- Assignments read: the pairs in the used places.
 abbrev pub assignments-part : List ℕ → ℕ → AssignmentsRead → Part (List Pair)
-assignments-part rest base r = pairs-part rest base (pairs-in (r .list)) (r .outcome)
+assignments-part rest base r = outcome-part rest base (pairs-in (r .list)) (r .outcome)
 
 -- The position after them moves on and stays in the remainder, and the places that are not used are zero.
 abbrev pub Assignments-lies : ℕ → ℕ → AssignmentsRead → Type 0

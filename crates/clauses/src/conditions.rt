@@ -10,9 +10,9 @@ ghost use Rattle.grammar.specs.Files.{Slot};
 ghost use Rattle.grammar.specs.Limits.{max-literals};
 ghost use Rattle.grammar.specs.Reading as reading;
 ghost use Rattle.grammar.specs.Reading.{stop, read-literals, read-condition};
-ghost use Rattle.steps.specs.Places.{tokens-past, Step-lies};
+ghost use Rattle.steps.specs.Places.{tokens-past, Step-lies, outcome-part};
 ghost use Rattle.clauses.specs.Literals.{Looked};
-ghost use Rattle.clauses.specs.Conditions.{condition-part};
+ghost use Rattle.clauses.specs.Conditions.{literals-in};
 use crate::literals::LiteralRead;
 use crate::literals::literal_next;
 use steps::step::Fork;
@@ -79,7 +79,7 @@ fn literals_next(
 ) -> Condition
     requires { ⌜ length (now bodies) ≡ 512 ⌝ }
     ensures { λ r. ⌜ ((base : ℕ) (slots : List Slot) → Looked (now (text .entry)) slots (now (heads .entry)) (now (bodies .entry))
-        → read-literals slots max-literals [] (tokens-past (now (rest .entry)) base start) ≡ condition-part (now (rest .entry)) base (r .outcome) (r .list))
+        → read-literals slots max-literals [] (tokens-past (now (rest .entry)) base start) ≡ outcome-part (now (rest .entry)) base (literals-in (r .list)) (r .outcome))
         × Step-lies (length (now (rest .entry))) start (r .outcome) × Filled 8 no-literal (r .list .places) (r .list .count) ⌝ }
 {
     let mut list = no_literals();
@@ -136,7 +136,7 @@ pub fn condition_next(
 ) -> Condition
     requires { ⌜ length (now bodies) ≡ 512 ⌝ }
     ensures { λ r. ⌜ ((base : ℕ) (slots : List Slot) → Looked (now (text .entry)) slots (now (heads .entry)) (now (bodies .entry))
-        → read-condition slots (tokens-past (now (rest .entry)) base at) ≡ condition-part (now (rest .entry)) base (r .outcome) (r .list))
+        → read-condition slots (tokens-past (now (rest .entry)) base at) ≡ outcome-part (now (rest .entry)) base (literals-in (r .list)) (r .outcome))
         × Step-lies (length (now (rest .entry))) at (r .outcome) × Filled 8 no-literal (r .list .places) (r .list .count) ⌝ }
 {
     let opening = word_next(rest, at, text::TRUE);

@@ -8,9 +8,9 @@ use mathlib.Core.List.{List, [], _∷_, _++_, append-assoc, append-nil}
 use borrow.Author.Tests.{le-leb, eq-eqb}
 use lib.ListN.{length, length-append}
 use Rattle.text.specs.Tokens.{Name, Token, word, name, SLOT, WHEN, IF, THEN, AND, TRUE, OPEN, CLOSE, COMMA, SEMICOLON, BECOMES, GETS}
-use Rattle.model.specs.Rules.{Pair, Literal, Rule}
+use Rattle.model.specs.Rules.{Pair, Literal, Rule, assigns}
 use Rattle.grammar.specs.Limits.{max-text, max-slots, max-values, max-rules, max-literals, max-assignments}
-use Rattle.grammar.specs.Files.{Slot, File, place-in, slot-names, assigns}
+use Rattle.grammar.specs.Files.{Slot, File, place-in, slot-names}
 use Rattle.grammar.specs.Grammar.{RuleTree, rule, trigger, ConditionTree, LiteralTree, not-literal, becomes-value, has-value, AssignTree, AssignmentListTree, AssignmentTree, gets-value, ValueListTree, LineTree, line, spell-literal, spell-condition, spell-assignment, spell-assignments, spell-assign, spell-rule, spell-rules, spell-values, spell-line, spell-lines}
 use Rattle.grammar.specs.Reading.{Part, took, stop, accepted, _then_, expects, fork, a-name, begins-with, if-next, new, new-name, known-slot, known-value, unassigned, read-slot, read-value, read-target, read-list, plain-literal, read-literal, no-literal, read-literals, read-condition, read-assignment, no-assignment, read-assignments, read-assign, read-rule, no-value, read-values, read-line, go-on, read-rules, read-lines, read-tokens, read}
 use Rattle.grammar.specs.Meaning.{Names, turned, nots, tests-change, slot-in, value-in, Means-literal, Means-condition, means-and, means-one, means-true, Means-assignment, means-assignment, Means-assignments, means-first, means-comma, Means-assign, means-alone, means-braces, means-trigger, Means-rule, means-rule, Means-rules, no-rules, more-rules, Means-values, means-value, means-values, Means-line, means-line, Means-lines, no-lines, more-lines, Is-file}

@@ -9,8 +9,8 @@ use mathlib.Core.Logic.{_⊎_, inl, inr}
 use lib.Dec.{eqb}
 use borrow.Author.Tests.{eqb-true}
 use Rattle.text.specs.Tokens.{Name, Token, word, name, long, bad, THEN, AND, NOT, BECOMES, HAS}
-use Rattle.model.specs.Rules.{Pair, Literal}
-use Rattle.grammar.specs.Files.{Slot, place-in, slot-names, values-of, assigns}
+use Rattle.model.specs.Rules.{Pair, Literal, assigns}
+use Rattle.grammar.specs.Files.{Slot, place-in, slot-names, values-of}
 use Rattle.grammar.specs.Grammar.{LiteralTree, not-literal, becomes-value, has-value, spell-literal}
 use Rattle.grammar.specs.Reading.{Part, took, stop, _then_, a-name, begins-with, new, new-name, known-slot, known-value, unassigned, read-slot, read-value, read-target, plain-literal, read-literal, no-literal, read-literals, no-assignment, no-value}
 use Rattle.model.specs.Result.{pair}

@@ -10,8 +10,8 @@ use lib.Dec.{eqb}
 use borrow.Author.Tests.{eqb-true}
 use lib.ListN.{length, length-append}
 use Rattle.text.specs.Tokens.{Name, Token, word, name, long, bad}
-use Rattle.model.specs.Rules.{Pair}
-use Rattle.grammar.specs.Files.{Slot, place-in, slot-names, values-of, assigns}
+use Rattle.model.specs.Rules.{Pair, assigns}
+use Rattle.grammar.specs.Files.{Slot, place-in, slot-names, values-of}
 use Rattle.grammar.specs.Reading.{Part, took, stop, _then_, expects, fork, a-name, begins-with, if-next, new, new-name, known-slot, known-value, unassigned, read-slot, read-value, read-target, read-list}
 use Rattle.grammar.proofs.Forward.{after-part}
 

@@ -1,11 +1,9 @@
 -- What a rule file declares and says: slots with their names, and rules over slot and value numbers (document 01, 'Rule text').
 use Prim.Native.Nat.{ℕ}
-use mathlib.Core.Bool.{Bool, true, false, cond}
-use mathlib.Core.List.{List, [], _∷_, map}
-use lib.Dec.{eqb}
+use mathlib.Core.List.{List, [], map}
 use lib.ListN.{getD}
 use Rattle.text.specs.Tokens.{Name, place}
-use Rattle.model.specs.Rules.{Pair, Rule}
+use Rattle.model.specs.Rules.{Rule}
 
 -- A slot as declared: its name, and the names of its values, numbered from 1 in declared order.
 pub record Slot : Type 0 where
@@ -37,7 +35,6 @@ no-slot = record { name = record { start = 0; letters = [] }; values = [] }
 abbrev pub values-of : List Slot → ℕ → List Name
 values-of slots s = getD slots s no-slot .values
 
--- Slot `s` gets a value by one of the assignments.
-unfoldable pub assigns : List Pair → ℕ → Bool
-assigns [] s = false
-assigns (p ∷ ps) s = cond (eqb (p .slot) s) true (assigns ps s)
+-- How many values each slot has.
+abbrev pub slot-counts : List Slot → List ℕ
+slot-counts slots = map (λ (s : Slot). length (s .values)) slots

@@ -5,9 +5,9 @@ use mathlib.Core.Bool.{Bool, true, false, not}
 use mathlib.Core.List.{List, [], _∷_, _++_}
 use lib.ListN.{length}
 use Rattle.text.specs.Tokens.{Name, tokens}
-use Rattle.model.specs.Rules.{Pair, Literal, Rule}
+use Rattle.model.specs.Rules.{Pair, Literal, Rule, assigns}
 use Rattle.grammar.specs.Limits.{max-text, max-slots, max-values, max-rules, max-literals, max-assignments}
-use Rattle.grammar.specs.Files.{Slot, File, place-in, slot-names, values-of, assigns}
+use Rattle.grammar.specs.Files.{Slot, File, place-in, slot-names, values-of}
 use Rattle.grammar.specs.Grammar.{RuleTree, rule, TriggerTree, trigger, ConditionTree, and-literal, one-literal, true-alone, LiteralTree, not-literal, becomes-value, has-value, AssignTree, one-alone, braces, AssignmentListTree, one-assignment, comma-assignment, AssignmentTree, gets-value, ValueListTree, one-value, comma-value, LineTree, line, FileTree, spell}
 
 -- A slot's name and a value's name mean a pair: the slot is declared, and the value is declared in it.

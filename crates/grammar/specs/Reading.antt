@@ -5,10 +5,10 @@ use mathlib.Core.List.{List, [], _∷_, _++_}
 use lib.Dec.{eqb, leb}
 use lib.ListN.{length, drop}
 use Rattle.text.specs.Tokens.{Name, Token, word, name, long, bad, SLOT, WHEN, IF, THEN, AND, NOT, TRUE, OPEN, CLOSE, COMMA, SEMICOLON, BECOMES, HAS, GETS, tokens}
-use Rattle.model.specs.Rules.{Pair, Literal, Rule}
+use Rattle.model.specs.Rules.{Pair, Literal, Rule, assigns}
 use Rattle.model.specs.Result.{pair}
 use Rattle.grammar.specs.Limits.{max-text, max-slots, max-values, max-rules, max-literals, max-assignments}
-use Rattle.grammar.specs.Files.{Slot, File, place-in, slot-names, values-of, assigns}
+use Rattle.grammar.specs.Files.{Slot, File, place-in, slot-names, values-of}
 
 -- What reading a part gives: what it read and the tokens left, or the number of a refusal.
 pub data Part (A : Type 0) : Type 0 where

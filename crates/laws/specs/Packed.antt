@@ -1,11 +1,15 @@
 -- Packed fields, for every format: document 01, 'Cards and slips'. Fields are packed most significant bit first; zero bits fill the last byte.
-use Prim.Native.Nat.{ℕ, zero, suc, _+_, _*_, _^_, _/_, _%_}
+use Prim.Native.Nat.{ℕ, zero, suc, _+_, _*_, _^_, _/_, _%_, _<_}
 use mathlib.Core.Bool.{Bool, false, cond}
 use mathlib.Core.List.{List, [], _∷_, _++_}
 use lib.Dec.{ltb}
 use lib.ListN.{length, getD, take, drop}
 use Rattle.laws.specs.Words.{bit}
 use Rattle.laws.specs.Tabulated.{tabulate}
+
+-- Every byte is below 256, as the code's are.
+abbrev pub Bytes : List ℕ → Type 0
+Bytes ys = (k : ℕ) → k < length ys → getD ys k 0 < 256
 
 -- A field: so many bits, and the number that they hold.
 pub record Field : Type 0 where

@@ -24,11 +24,6 @@ pub record Remainder (text rest : List ℕ) (base : ℕ) : Type 0 where
   pub begins : rest ≡ drop base text
   pub short : length text ≤ span-limit
 
--- What was read, with the tokens left after it, where this is the outcome; or a refusal.
-abbrev pub outcome-part : {A : Type 0} → List ℕ → ℕ → A → Step → Part A
-outcome-part rest base a (step.At next) = took a (tokens-past rest base next)
-outcome-part rest base a (step.Fault k) = stop k
-
 -- A name to be declared, by its span.
 abbrev pub declared-part : List ℕ → List ℕ → ℕ → Declared → Part Name
 declared-part text rest base (declared.At name next) = took (span-name text name) (tokens-past rest base next)

@@ -1,4 +1,4 @@
--- Laws of pairs and lists of pairs: equality, the pairs that a rule tests, lists that meet.
+-- Laws of pairs and lists of pairs: equality, the pairs that a rule tests, lists that meet, slots assigned.
 -- Assumes nothing.
 use Prim.Native.Nat.{ℕ, zero, suc, _<_}
 use native.Mathlib.Omega.{arith}
@@ -8,9 +8,10 @@ use mathlib.Core.List.{List, [], _∷_, _++_}
 use mathlib.Core.Logic.{_⊎_, inl, inr, ⊎-elim}
 use lib.Dec.{T, eqb, eqb→eq, eqb-refl}
 use lib.ListN.{length, getD}
-use Rattle.laws.specs.Truth.{_∧ᵇ_, notᵇ}
+use borrow.Author.Tests.{eq-eqb, ne-eqb}
+use Rattle.laws.specs.Truth.{_∨ᵇ_}
 use Rattle.laws.proofs.Truth.{and-l, and-r, and-i, or-l, or-r, or-e}
-use Rattle.model.specs.Rules.{Pair, Literal, Rule, same, among}
+use Rattle.model.specs.Rules.{Pair, Literal, Rule, same, among, assigns}
 use Rattle.model.specs.Strata.{pairs-where, is-becomes, is-plain, is-under-not, tested, needed, barred, meet}
 
 -- A pair is the same as itself.
@@ -121,3 +122,17 @@ unfolding meet among
 meet-e [] qs t = absurd t
 meet-e (p ∷ ps) qs t =
     ⊎-elim (λ a. (p, or-l _ _ (same-refl p), a)) (λ a. let w = meet-e ps qs a in (w .0, or-r _ _ (w .1), w .2)) (or-e _ _ t)
+
+-- A slot is assigned by the first of some assignments, or by one of the others.
+pub assigns-here : (p : Pair) (ps : List Pair) (s : ℕ) → p .slot ≡ s → assigns (p ∷ ps) s ≡ true
+unfolding assigns _∨ᵇ_
+assigns-here p ps s e = rw (eq-eqb (p .slot) s e)
+
+pub assigns-later : (p : Pair) (ps : List Pair) (s : ℕ) → (p .slot ≡ s → ⊥) → assigns (p ∷ ps) s ≡ assigns ps s
+unfolding assigns _∨ᵇ_
+assigns-later p ps s n = rw (ne-eqb (p .slot) s n)
+
+-- No slot is assigned by none.
+pub assigns-none : (s : ℕ) → assigns [] s ≡ false
+unfolding assigns
+assigns-none s = refl

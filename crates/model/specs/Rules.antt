@@ -32,6 +32,16 @@ unfoldable pub among : Pair → List Pair → Bool
 among p [] = false
 among p (q ∷ qs) = same p q ∨ᵇ among p qs
 
+-- One of some assignments is to a slot.
+unfoldable pub assigns : List Pair → ℕ → Bool
+assigns [] s = false
+assigns (p ∷ ps) s = eqb (p .slot) s ∨ᵇ assigns ps s
+
+-- No two of some assignments are to one slot.
+unfoldable pub each-once : List Pair → Bool
+each-once [] = true
+each-once (p ∷ ps) = notᵇ (assigns ps (p .slot)) ∧ᵇ each-once ps
+
 -- A set of pairs, as the changes C are.
 abbrev pub Pairs : Type 0
 Pairs = Pair → Bool

@@ -23,14 +23,13 @@ use Rattle.model.proofs.Results.{value-in-right, slip-e, slip-rising, new-card-
 use Rattle.table.specs.Limits.{value-limit, row}
 use Rattle.table.proofs.Names.{slot-inside, value-inside}
 use Rattle.soundness.specs.Sound.{has-pair}
-use Rattle.grammar.specs.Files.{Slot, File, no-slot}
+use Rattle.grammar.specs.Files.{Slot, File, no-slot, slot-counts}
 use Rattle.rule_file.proofs.Declared.{has-some, Declared}
 use Rattle.cards.specs.Answers.{passed}
 use Rattle.cards.specs.Forms.{card-test, slip-test}
 use Rattle.cards.proofs.Tested.{same-count, no-pair}
 use Rattle.cards.proofs.Passed.{Slots, values-pass, card-pass}
 use Rattle.cards.proofs.Having.{Has, tested-has, rising-passes, within-passes}
-use Rattle.promises.specs.Agreement.{counts-of}
 
 -- What all of some pairs pass, each does.
 each-passes : (f : Pair → Bool) (ps : List Pair) → T (all-of f ps) → (p : Pair) → T (among p ps) → T (f p)
@@ -40,39 +39,39 @@ each-passes f (q ∷ qs) h p t = ⊎-elim (λ s. rw (same-eq p q s) (and-l (f q)
 
 module _ (f : File) (declared : Declared f) where
   -- No slot has more than 15 values.
-  pub few-values : (s : ℕ) → getD (counts-of f) s 0 ≤ 15
+  pub few-values : (s : ℕ) → getD (slot-counts (f .slots)) s 0 ≤ 15
   few-values s = ⊎-elim beyond inside (le-or-lt (length (f .slots)) s)
     where
-      beyond : length (f .slots) ≤ s → getD (counts-of f) s 0 ≤ 15
-      beyond l = rw (List·getD-eq-default (counts-of f) 0 {n = s} (rw length-map l)) (omega arith)
+      beyond : length (f .slots) ≤ s → getD (slot-counts (f .slots)) s 0 ≤ 15
+      beyond l = rw (List·getD-eq-default (slot-counts (f .slots)) 0 {n = s} (rw length-map l)) (omega arith)
 
-      inside : s < length (f .slots) → getD (counts-of f) s 0 ≤ 15
+      inside : s < length (f .slots) → getD (slot-counts (f .slots)) s 0 ≤ 15
       inside l =
           rw (List·getD-map (λ (z : Slot). length (z .values)) (f .slots) s no-slot)
           (leb→le (length (getD (f .slots) s no-slot .values)) value-limit (and-r _ _ (all-e has-some (f .slots) no-slot (declared .slots-some) s l)))
 
   -- They are slots of the limits.
-  pub file-slots : Slots (counts-of f)
+  pub file-slots : Slots (slot-counts (f .slots))
   file-slots = record { few = rw length-map (declared .few-slots); small = λ i h. few-values i }
 
   -- What the rules assign, the slots have.
-  assigned-has : (n : ℕ) (p : Pair) → Numbered (length (f .rules)) n → T (among p (rule-at (f .rules) n .assignments)) → Has (counts-of f) p
+  assigned-has : (n : ℕ) (p : Pair) → Numbered (length (f .rules)) n → T (among p (rule-at (f .rules) n .assignments)) → Has (slot-counts (f .slots)) p
   unfolding rule-at has-pair
   assigned-has zero p i t = absurd (omega (arith, i .first))
   assigned-has (suc k) p i t =
-      let h = each-passes (has-pair (length (f .slots)) (counts-of f)) (getD (f .rules) k no-rule .assignments) (declared .each-rule k (omega (arith, i .last)) .assignments-there) p t in
+      let h = each-passes (has-pair (length (f .slots)) (slot-counts (f .slots))) (getD (f .rules) k no-rule .assignments) (declared .each-rule k (omega (arith, i .last)) .assignments-there) p t in
       let a = slot-inside (length (f .slots)) (p .slot) (is-true _ (and-l _ _ h)) in
-      let b = value-inside (getD (counts-of f) (p .slot) 0) (p .value) (is-true _ (and-r _ _ h)) in
+      let b = value-inside (getD (slot-counts (f .slots)) (p .slot) 0) (p .value) (is-true _ (and-r _ _ h)) in
       record { below = omega (arith, a .1, length-map (f .slots) (λ (z : Slot). length (z .values))); first = b .0; last = b .1 .1 }
 
-  module _ (S : List ℕ) (I : List Pair) (slip : slip-test (counts-of f) I ≡ passed) (ns : List ℕ) (order : T (firing-order (f .rules) S I ns)) where
+  module _ (S : List ℕ) (I : List Pair) (slip : slip-test (slot-counts (f .slots)) I ≡ passed) (ns : List ℕ) (order : T (firing-order (f .rules) S I ns)) where
     -- So does C, at the end of a firing order from a slip that passes its tests.
-    pub changes-has : (p : Pair) → T (changes (f .rules) I ns p) → Has (counts-of f) p
+    pub changes-has : (p : Pair) → T (changes (f .rules) I ns p) → Has (slot-counts (f .slots)) p
     unfolding firing-order
     changes-has p t =
-        ⊎-elim (tested-has (counts-of f) 0 0 I slip p) (λ c. assigned-has (c .0) p (are-rules (f .rules) S I [] ns order (c .0) (c .1)) (c .2)) (cause (f .rules) I ns p t)
+        ⊎-elim (tested-has (slot-counts (f .slots)) 0 0 I slip p) (λ c. assigned-has (c .0) p (are-rules (f .rules) S I [] ns order (c .0) (c .1)) (c .2)) (cause (f .rules) I ns p t)
 
-    pub changes-bounded : Bounded (length (counts-of f)) row (changes (f .rules) I ns)
+    pub changes-bounded : Bounded (length (slot-counts (f .slots))) row (changes (f .rules) I ns)
     changes-bounded = record {
       slot-below = λ p t. changes-has p t .below;
       value-below = λ p t. omega (arith, changes-has p t .last, few-values (p .slot));

@@ -7,7 +7,7 @@ use lib.ListN.{length}
 use Rattle.model.specs.Orders.{changes}
 use Rattle.model.specs.Strata.{strict}
 use Rattle.model.specs.Response.{response}
-use Rattle.grammar.specs.Files.{File}
+use Rattle.grammar.specs.Files.{File, slot-counts}
 use Rattle.grammar.specs.Meaning.{Is-file}
 use Rattle.grammar.proofs.Accepts.{accepts-iff}
 use Rattle.reader.specs.declared.Outcome.the-variants.{Accepted}
@@ -17,7 +17,7 @@ use Rattle.rule_file.proofs.Answers.{reading-accepted-iff}
 use Rattle.cards.specs.Answers.{taken, refused}
 use Rattle.cards.proofs.Having.{card-tested, slip-tested}
 use Rattle.response.specs.Ending.{Answer, ending}
-use Rattle.promises.specs.Agreement.{counts-of, Shows, LowestConflict, Agreed, Demand3}
+use Rattle.promises.specs.Agreement.{Shows, LowestConflict, Agreed, Demand3}
 use Rattle.promises.proofs.Ends.{Ended, response-ends, file-no-circle, settled-taken, settled-40}
 use Rattle.promises.proofs.Orders.{agreed, shows-order, lowest-conflict}
 use Rattle.promises.proofs.Rearranged.{unmoved}
@@ -36,21 +36,21 @@ demand-3 text f h o = record {
 
     answered : (card slip : List ℕ) (a : Answer) → Ended f card slip (taken a) → Agreed f card slip (λ S I ns. Shows f S I a ns)
     answered card slip a e =
-        let c = card-tested (counts-of f) card (e .S) (e .card-is) in
-        let i = slip-tested (counts-of f) slip (e .I) (e .slip-is) in
+        let c = card-tested (slot-counts (f .slots)) card (e .S) (e .card-is) in
+        let i = slip-tested (slot-counts (f .slots)) slip (e .I) (e .slip-is) in
         let z = file-no-circle text f h o in
         let ns = response strict (f .rules) (e .S) (e .I) in
-        let w = settled-taken (length (counts-of f)) (length (f .rules)) (e .S) (changes (f .rules) (e .I) ns) ns a (e .ends) in
+        let w = settled-taken (length (slot-counts (f .slots))) (length (f .rules)) (e .S) (changes (f .rules) (e .I) ns) ns a (e .ends) in
         agreed f declared z (e .S) (e .I) c i card slip (e .card-is) (e .slip-is) (λ S I ns. Shows f S I a ns)
         (λ ns A. subst (λ (x : Answer). Shows f (e .S) (e .I) x ns) (w .1) (shows-order f declared z (e .S) (e .I) c i (w .0) ns A))
 
     conflicting : (card slip : List ℕ) (s : ℕ) → Ended f card slip (refused 40 s) → Agreed f card slip (λ S I ns. LowestConflict (changes (f .rules) I ns) s)
     conflicting card slip s e =
-        let c = card-tested (counts-of f) card (e .S) (e .card-is) in
-        let i = slip-tested (counts-of f) slip (e .I) (e .slip-is) in
+        let c = card-tested (slot-counts (f .slots)) card (e .S) (e .card-is) in
+        let i = slip-tested (slot-counts (f .slots)) slip (e .I) (e .slip-is) in
         let z = file-no-circle text f h o in
         let ns = response strict (f .rules) (e .S) (e .I) in
-        let w = settled-40 (length (counts-of f)) (length (f .rules)) (e .S) (changes (f .rules) (e .I) ns) ns s (e .ends) in
+        let w = settled-40 (length (slot-counts (f .slots))) (length (f .rules)) (e .S) (changes (f .rules) (e .I) ns) ns s (e .ends) in
         agreed f declared z (e .S) (e .I) c i card slip (e .card-is) (e .slip-is) (λ S I ns. LowestConflict (changes (f .rules) I ns) s)
         (λ ns A. subst (λ (r : ℕ). LowestConflict (changes (f .rules) (e .I) ns) r) (w .1) (lowest-conflict f declared z (e .S) (e .I) c i (w .0) ns A))
 

@@ -19,7 +19,7 @@ use Rattle.model.proofs.Results.{conflict-slot-top}
 use Rattle.table.specs.Limits.{row}
 use Rattle.table.specs.Link.{rules-of, value-counts}
 use Rattle.soundness.specs.Sound.{sound}
-use Rattle.grammar.specs.Files.{File}
+use Rattle.grammar.specs.Files.{File, slot-counts}
 use Rattle.grammar.specs.Meaning.{Is-file}
 use Rattle.grammar.proofs.Accepts.{one-meaning}
 use Rattle.reader.specs.declared.Outcome.the-variants.{Accepted}
@@ -31,18 +31,18 @@ use Rattle.tally.specs.declared.Tally.{Tally}
 use Rattle.response.specs.Ending.{Answer, answer-of, settled, ending}
 use Rattle.response.specs.Respond.{_then_, Rooms, changes-room, if-room, responded, worked, respond-to}
 use Rattle.tally.specs.Counting.{is-full}
-use Rattle.promises.specs.Agreement.{counts-of, responds}
+use Rattle.promises.specs.Agreement.{responds}
 use Rattle.promises.proofs.Refusals.{Only, Early, Other, only-more, card-early, slip-early}
 
 -- An accepted text responds by its file's slots and rules.
 pub file-response : (text : List ℕ) (f : File) → Is-file text f → reading text .outcome ≡ Accepted → (y : Tally) (card slip : List ℕ) (rooms : Rooms)
-    → responds text y card slip rooms ≡ cond (is-full y) (refused 32 0) (responded (counts-of f) (f .rules) card slip rooms)
+    → responds text y card slip rooms ≡ cond (is-full y) (refused 32 0) (responded (slot-counts (f .slots)) (f .rules) card slip rooms)
 unfolding respond-to worked
 file-response text f h o y card slip rooms =
     let c = reading-carries text o in
     let e : c .file ≡ f = one-meaning text (c .file) f (c .is-file) h in
     let rs : rules-of (reading text .table) ≡ f .rules = c .rules-are ∙ ap (λ (g : File). g .rules) e in
-    let ns : value-counts (reading text .table) ≡ counts-of f = c .counts-are ∙ ap (λ (g : File). counts-of g) e in
+    let ns : value-counts (reading text .table) ≡ slot-counts (f .slots) = c .counts-are ∙ ap (λ (g : File). slot-counts (g .slots)) e in
     rw (is-true (sound (reading text .table)) (reading-passes text), rs, ns)
 
 -- Its rules have strata.
@@ -76,9 +76,9 @@ room-back width count rooms u w l e =
 pub record Ended (f : File) (card slip : List ℕ) (w : Taking Answer) : Type 0 where
   pub S : List ℕ
   pub I : List Pair
-  pub card-is : read-card (counts-of f) card ≡ taken S
-  pub slip-is : read-slip (counts-of f) slip ≡ taken I
-  pub ends : ending (f .rules) (length (counts-of f)) S I ≡ w
+  pub card-is : read-card (slot-counts (f .slots)) card ≡ taken S
+  pub slip-is : read-slip (slot-counts (f .slots)) slip ≡ taken I
+  pub ends : ending (f .rules) (length (slot-counts (f .slots))) S I ≡ w
 
 not-40 : (k : ℕ) → Early k → Other 40 k
 not-40 k l e = omega arith
@@ -87,15 +87,15 @@ pub response-ends : (text : List ℕ) (f : File) → Is-file text f → reading 
     → Final w → responds text y card slip rooms ≡ w → Ended f card slip w
 unfolding responded
 response-ends text f h o y card slip rooms w l e =
-    let u = cond-back (is-full y) 32 0 (responded (counts-of f) (f .rules) card slip rooms) w l (λ q. omega arith) (sym (file-response text f h o y card slip rooms) ∙ e) in
-    let a = then-back (read-card (counts-of f) card) _ w l (only-more Early (Other 40) not-40 (read-card (counts-of f) card) (card-early (counts-of f) card)) u in
-    let b = then-back (read-slip (counts-of f) slip) _ w l (only-more Early (Other 40) not-40 (read-slip (counts-of f) slip) (slip-early (counts-of f) slip)) (a .2) in
+    let u = cond-back (is-full y) 32 0 (responded (slot-counts (f .slots)) (f .rules) card slip rooms) w l (λ q. omega arith) (sym (file-response text f h o y card slip rooms) ∙ e) in
+    let a = then-back (read-card (slot-counts (f .slots)) card) _ w l (only-more Early (Other 40) not-40 (read-card (slot-counts (f .slots)) card) (card-early (slot-counts (f .slots)) card)) u in
+    let b = then-back (read-slip (slot-counts (f .slots)) slip) _ w l (only-more Early (Other 40) not-40 (read-slip (slot-counts (f .slots)) slip) (slip-early (slot-counts (f .slots)) slip)) (a .2) in
     record {
       S = a .0;
       I = b .0;
       card-is = a .1;
       slip-is = b .1;
-      ends = room-back (length (counts-of f)) (length (f .rules)) rooms _ w l (b .2);
+      ends = room-back (length (slot-counts (f .slots))) (length (f .rules)) rooms _ w l (b .2);
     }
 
 -- An answer: no slot is in conflict, and these are its bytes.

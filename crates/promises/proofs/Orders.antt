@@ -21,7 +21,7 @@ use Rattle.model.proofs.Lengths.{order-length}
 use Rattle.model.proofs.Demand3.{response-is-outcome, demand-3}
 use Rattle.model.proofs.Results.{conflict-e, conflict-i, conflict-slot-right, conflict-slot-lowest, slip-length, no-conflict-e, slip-exact, new-card-length, new-card-at, new-value-kept, new-value-is}
 use Rattle.table.specs.Limits.{row}
-use Rattle.grammar.specs.Files.{File}
+use Rattle.grammar.specs.Files.{File, slot-counts}
 use Rattle.rule_file.proofs.Declared.{Declared}
 use Rattle.cards.specs.Answers.{passed, taken}
 use Rattle.cards.specs.Forms.{card-test, slip-test, read-card, read-slip}
@@ -30,12 +30,12 @@ use Rattle.cards.proofs.Having.{Has}
 use Rattle.cards.proofs.RoundTrip.{card-reads-back, slip-reads-back}
 use Rattle.results.specs.Record.{ones-in}
 use Rattle.response.specs.Ending.{fired-record, answer-of}
-use Rattle.promises.specs.Agreement.{counts-of, InConflict, LowestConflict, Shows, Agreed}
+use Rattle.promises.specs.Agreement.{InConflict, LowestConflict, Shows, Agreed}
 use Rattle.promises.proofs.FiredBits.{record-bit, record-ones}
 use Rattle.promises.proofs.Bounds.{file-slots, changes-has, changes-bounded, changes-pass, new-card-passes}
 
 module _ (f : File) (declared : Declared f) (no-circle : circle-of strict (f .rules) ≡ 0) (S : List ℕ) (I : List Pair)
-    (card : card-test (counts-of f) S ≡ passed) (slip : slip-test (counts-of f) I ≡ passed) where
+    (card : card-test (slot-counts (f .slots)) S ≡ passed) (slip : slip-test (slot-counts (f .slots)) I ≡ passed) where
   -- The rules that the response fires, in the order fired, and the C that they end with.
   abbrev ours : List ℕ
   ours = response strict (f .rules) S I
@@ -44,12 +44,12 @@ module _ (f : File) (declared : Declared f) (no-circle : circle-of strict (f .ru
   C = changes (f .rules) I ours
 
   abbrev width : ℕ
-  width = length (counts-of f)
+  width = length (slot-counts (f .slots))
 
   order : T (firing-order (f .rules) S I ours)
   order = outcome-e (f .rules) S I ours (response-is-outcome strict (f .rules) S I no-circle) .order
 
-  has : (p : Pair) → T (C p) → Has (counts-of f) p
+  has : (p : Pair) → T (C p) → Has (slot-counts (f .slots)) p
   has = changes-has f declared S I slip ours order
 
   bounded : Bounded width row C
@@ -62,7 +62,7 @@ module _ (f : File) (declared : Declared f) (no-circle : circle-of strict (f .ru
   same-names ns A = demand-3 strict (f .rules) S I no-circle .1 ns A .0
 
   -- All complete and consistent firing orders agree; where each is as `Shown` says, this is agreed of the card and the slip.
-  pub agreed : (card-bytes slip-bytes : List ℕ) → read-card (counts-of f) card-bytes ≡ taken S → read-slip (counts-of f) slip-bytes ≡ taken I
+  pub agreed : (card-bytes slip-bytes : List ℕ) → read-card (slot-counts (f .slots)) card-bytes ≡ taken S → read-slip (slot-counts (f .slots)) slip-bytes ≡ taken I
       → (Shown : List ℕ → List Pair → List ℕ → Type 0) → ((ns : List ℕ) → T (outcome (f .rules) S I ns) → Shown S I ns) → Agreed f card-bytes slip-bytes Shown
   agreed card-bytes slip-bytes c i Shown each = record {
     S = S;
@@ -76,14 +76,14 @@ module _ (f : File) (declared : Declared f) (no-circle : circle-of strict (f .ru
   }
 
   -- The changes and the new card unpack.
-  slip-unpacks : read-slip (counts-of f) (answer-of width (length (f .rules)) S C ours .changes) ≡ taken (changes-slip width row C)
+  slip-unpacks : read-slip (slot-counts (f .slots)) (answer-of width (length (f .rules)) S C ours .changes) ≡ taken (changes-slip width row C)
   unfolding answer-of
   slip-unpacks =
-      slip-reads-back (counts-of f) (changes-slip width row C) (file-slots f declared) (omega (arith, slip-length row C width, file-slots f declared .few)) (changes-pass (counts-of f) C has)
+      slip-reads-back (slot-counts (f .slots)) (changes-slip width row C) (file-slots f declared) (omega (arith, slip-length row C width, file-slots f declared .few)) (changes-pass (slot-counts (f .slots)) C has)
 
-  card-unpacks : read-card (counts-of f) (answer-of width (length (f .rules)) S C ours .new-card) ≡ taken (new-card width row C S)
+  card-unpacks : read-card (slot-counts (f .slots)) (answer-of width (length (f .rules)) S C ours .new-card) ≡ taken (new-card width row C S)
   unfolding answer-of
-  card-unpacks = card-reads-back (counts-of f) (new-card width row C S) (file-slots f declared) (new-card-passes (counts-of f) C S has card)
+  card-unpacks = card-reads-back (slot-counts (f .slots)) (new-card width row C S) (file-slots f declared) (new-card-passes (slot-counts (f .slots)) C S has card)
 
   module _ (none : conflict-slot width row C ≡ width) where
     card-new : (s v : ℕ) → T (C (pair s v)) → getD (new-card width row C S) s 0 ≡ v
@@ -94,7 +94,7 @@ module _ (f : File) (declared : Declared f) (no-circle : circle-of strict (f .ru
     card-old : (s : ℕ) → ((v : ℕ) → ¬ T (C (pair s v))) → getD (new-card width row C S) s 0 ≡ getD S s 0
     card-old s lacks =
         ⊎-elim
-        (λ (l : width ≤ s). List·getD-eq-default (new-card width row C S) 0 {n = s} (rw (new-card-length row C width S) l) ∙ sym (List·getD-eq-default S 0 {n = s} (rw (card-pass (counts-of f) S card .0) l)))
+        (λ (l : width ≤ s). List·getD-eq-default (new-card width row C S) 0 {n = s} (rw (new-card-length row C width S) l) ∙ sym (List·getD-eq-default S 0 {n = s} (rw (card-pass (slot-counts (f .slots)) S card .0) l)))
         (λ (l : s < width). new-card-at row C width s S l ∙ new-value-kept row C S s (λ v h. lacks v)) (le-or-lt width s)
 
     -- Where no slot is in conflict the answer shows every such order.

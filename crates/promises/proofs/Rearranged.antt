@@ -24,7 +24,7 @@ use Rattle.model.proofs.Demand3.{response-is-outcome, demand-3}
 use Rattle.model.proofs.Renaming.{renaming}
 use Rattle.model.proofs.Rearranged.{accepted-too, outcome-too, rearranged-response}
 use Rattle.table.specs.Limits.{row}
-use Rattle.grammar.specs.Files.{File}
+use Rattle.grammar.specs.Files.{File, slot-counts}
 use Rattle.grammar.specs.Meaning.{Is-file}
 use Rattle.grammar.specs.Reading.{accepted, read}
 use Rattle.grammar.specs.Pieces.{Rearranges}
@@ -42,7 +42,7 @@ use Rattle.results.specs.Record.{ones-in}
 use Rattle.response.specs.Ending.{Answer, fired-record, answer-of, settled, ending}
 use Rattle.response.specs.Respond.{_then_, Rooms, changes-room, if-room, responded, outcome-of, counted, tally-after, response-to}
 use Rattle.tally.specs.Counting.{is-full}
-use Rattle.promises.specs.Agreement.{counts-of, bit-of, responds, SameResponse, same-refusal, same-answer, Unmoved}
+use Rattle.promises.specs.Agreement.{bit-of, responds, SameResponse, same-refusal, same-answer, Unmoved}
 use Rattle.promises.proofs.FiredBits.{record-bit, record-ones}
 use Rattle.promises.proofs.Ends.{file-response, file-no-circle}
 
@@ -151,4 +151,4 @@ unmoved text f h o text′ R = record {
     same : (y : Tally) (card slip : List ℕ) (rooms : Rooms) → SameResponse place (responds text y card slip rooms) (responds text′ y card slip rooms)
     same y card slip rooms =
         rw (file-response text f h o y card slip rooms, file-response text′ f′ h′ o′ y card slip rooms)
-        (same-cond place (is-full y) 32 0 _ _ (same-responded place (counts-of f) (f .rules) (moved .0) (moved .2) (λ n. ap (λ (h : ℕ → ℕ). under h n) (fun-ext (moved .3))) z card slip rooms))
+        (same-cond place (is-full y) 32 0 _ _ (same-responded place (slot-counts (f .slots)) (f .rules) (moved .0) (moved .2) (λ n. ap (λ (h : ℕ → ℕ). under h n) (fun-ext (moved .3))) z card slip rooms))

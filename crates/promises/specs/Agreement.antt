@@ -3,7 +3,7 @@
 use Prim.Native.Nat.{ℕ, _<_}
 use mathlib.Core.Path.{_≡_}
 use mathlib.Core.Bool.{Bool, false}
-use mathlib.Core.List.{List, _∷_, map}
+use mathlib.Core.List.{List, _∷_}
 use lib.Dec.{T}
 use lib.ListN.{length, getD}
 use Rattle.laws.specs.Numbers.{tally}
@@ -14,7 +14,7 @@ use Rattle.model.specs.Orders.{rule-at, names, changes, outcome}
 use Rattle.model.specs.Result.{pair}
 use Rattle.model.specs.Strata.{strict}
 use Rattle.model.specs.Response.{response}
-use Rattle.grammar.specs.Files.{Slot, File}
+use Rattle.grammar.specs.Files.{File, slot-counts}
 use Rattle.grammar.specs.Meaning.{Is-file}
 use Rattle.grammar.specs.Pieces.{Rearranges}
 use Rattle.reader.specs.declared.Outcome.the-variants.{Accepted}
@@ -25,10 +25,6 @@ use Rattle.tally.specs.declared.Tally.{Tally}
 use Rattle.results.specs.Record.{ones-in}
 use Rattle.response.specs.Ending.{Answer}
 use Rattle.response.specs.Respond.{Rooms, respond-to, response-to}
-
--- How many values each slot of a file has.
-abbrev pub counts-of : File → List ℕ
-counts-of f = map (λ (s : Slot). length (s .values)) (f .slots)
 
 -- The bit of rule n in the bytes of a fired record, rule 1 first.
 unfoldable pub bit-of : List ℕ → ℕ → Bool
@@ -51,13 +47,13 @@ pub record LowestConflict (C : Pairs) (s : ℕ) : Type 0 where
 -- and the new card has C's value where C has one, else S's. The changes and the new card are a slip and a card of the file.
 pub record Shows (f : File) (S : List ℕ) (I : List Pair) (a : Answer) (ns : List ℕ) : Type 0 where
   pub pairs : List Pair
-  pub changes-are : read-slip (counts-of f) (a .changes) ≡ taken pairs
+  pub changes-are : read-slip (slot-counts (f .slots)) (a .changes) ≡ taken pairs
   pub same-changes : (p : Pair) → changes (f .rules) I ns p ≡ among p pairs
   pub same-fired : (n : ℕ) → names ns n ≡ bit-of (a .fired) n
   pub how-many : (ones-in (a .fired) ≡ tally (names ns) (length (f .rules))) × (ones-in (a .fired) ≡ length ns)
   pub no-conflict : (s : ℕ) → ¬ InConflict (changes (f .rules) I ns) s
   pub values : List ℕ
-  pub card-is : read-card (counts-of f) (a .new-card) ≡ taken values
+  pub card-is : read-card (slot-counts (f .slots)) (a .new-card) ≡ taken values
   pub new-value : (s v : ℕ) → T (changes (f .rules) I ns (pair s v)) → getD values s 0 ≡ v
   pub old-value : (s : ℕ) → ((v : ℕ) → ¬ T (changes (f .rules) I ns (pair s v))) → getD values s 0 ≡ getD S s 0
 
@@ -66,8 +62,8 @@ pub record Shows (f : File) (S : List ℕ) (I : List Pair) (a : Answer) (ns : Li
 pub record Agreed (f : File) (card slip : List ℕ) (Shown : List ℕ → List Pair → List ℕ → Type 0) : Type 0 where
   pub S : List ℕ
   pub I : List Pair
-  pub card-is : read-card (counts-of f) card ≡ taken S
-  pub slip-is : read-slip (counts-of f) slip ≡ taken I
+  pub card-is : read-card (slot-counts (f .slots)) card ≡ taken S
+  pub slip-is : read-slip (slot-counts (f .slots)) slip ≡ taken I
   pub some-order : (ns : List ℕ) × T (outcome (f .rules) S I ns)
   pub one-outcome : (a b : List ℕ) → T (outcome (f .rules) S I a) → T (outcome (f .rules) S I b) → (changes (f .rules) I a ≡ changes (f .rules) I b) × (names a ≡ names b)
   pub ours : T (outcome (f .rules) S I (response strict (f .rules) S I))

@@ -8,8 +8,8 @@ use Rattle.model.specs.Rules.{Pair, Literal, Rule}
 use Rattle.grammar.specs.Files.{Slot}
 use Rattle.grammar.specs.Reading.{Part, took, stop, _then_, expects, read-slot, read-value, read-condition, read-assign, read-rule}
 use Rattle.model.specs.Result.{pair}
-use Rattle.reader.specs.Rules.{trigger-pair, read-trigger, read-rest, rule-part, Plain-rule}
-use Rattle.steps.specs.Places.{step-part}
+use Rattle.reader.specs.Rules.{trigger-pair, read-trigger, read-rest, Plain-rule}
+use Rattle.steps.specs.Places.{step-part, outcome-part}
 use Rattle.steps.specs.declared.step.Step.{Step}
 use Rattle.steps.specs.declared.step.Step.the-variants as step
 use Rattle.laws.proofs.Filled.{filled-none}
@@ -107,7 +107,7 @@ rest-last : (slots : List Slot) (p : Pair) (ts t1 t2 : List Token) (ls : List Li
 unfolding read-rest _then_
 rest-last slots p ts t1 t2 ls ps e f = rw (e, f)
 
-ended : (m : Part (Unit {0})) (rest : List ℕ) (base : ℕ) (x : Rule) (r : ruled.Rule) (s : Step) → m ≡ step-part rest base s → x ≡ rule-of r → (m then λ u ts. took x ts) ≡ rule-part rest base r s
+ended : (m : Part (Unit {0})) (rest : List ℕ) (base : ℕ) (x : Rule) (r : ruled.Rule) (s : Step) → m ≡ step-part rest base s → x ≡ rule-of r → (m then λ u ts. took x ts) ≡ outcome-part rest base (rule-of r) s
 unfolding _then_
 ended m rest base x r (step.At next) e f = rw (e, f)
 ended m rest base x r (step.Fault k) e f = rw e
@@ -115,7 +115,7 @@ ended m rest base x r (step.Fault k) e f = rw e
 -- The `;` after a rule, or a refusal there.
 pub rest-ended : (slots : List Slot) (p : Pair) (ts t1 t2 : List Token) (ls : List Literal) (ps : List Pair) (rest : List ℕ) (base : ℕ) (r : ruled.Rule) (s : Step)
     → read-condition slots ts ≡ took ls t1 → read-assign slots t1 ≡ took ps t2 → expects SEMICOLON t2 ≡ step-part rest base s → record { trigger = p; literals = ls; assignments = ps } ≡ rule-of r
-    → read-rest slots p ts ≡ rule-part rest base r s
+    → read-rest slots p ts ≡ outcome-part rest base (rule-of r) s
 rest-ended slots p ts t1 t2 ls ps rest base r s e f g h = rest-last slots p ts t1 t2 ls ps e f ∙ ended (expects SEMICOLON t2) rest base _ r s g h
 
 pub rest-no-condition : (slots : List Slot) (p : Pair) (ts : List Token) (k : ℕ) → read-condition slots ts ≡ stop k → read-rest slots p ts ≡ stop k

@@ -10,12 +10,10 @@ use Rattle.model.specs.Result.{pair}
 use Rattle.laws.specs.Filled.{Filled}
 use Rattle.table.specs.Limits.{literal-limit, assignment-limit}
 use Rattle.table.specs.Shape.{no-literal, no-assignment}
-use Rattle.table.specs.Link.{rule-of}
 use Rattle.table.specs.declared.Rule as ruled
 use Rattle.steps.specs.Places.{tokens-past}
 use Rattle.clauses.specs.declared.conditions.Literals.{Literals}
 use Rattle.clauses.specs.declared.assignments.Assignments.{Assignments}
-use Rattle.steps.specs.declared.step.Step.{Step}
 use Rattle.steps.specs.declared.step.Step.the-variants as step
 use Rattle.reader.specs.declared.rules.PairRead.{PairRead}
 use Rattle.reader.specs.declared.rules.PairRead.the-variants as read
@@ -62,8 +60,3 @@ pub record Plain-rule (r : ruled.Rule) : Type 0 where
 -- A rule of its parts.
 abbrev pub made-rule : ℕ → ℕ → Literals → Assignments → ruled.Rule
 made-rule s v ls ps = record { slot = s; value = v; literals = ls .places; tested = ls .count; assignments = ps .places; assigned = ps .count; stratum = 0 }
-
--- A rule read.
-abbrev pub rule-part : List ℕ → ℕ → ruled.Rule → Step → Part Rule
-rule-part rest base r (step.At next) = took (rule-of r) (tokens-past rest base next)
-rule-part rest base r (step.Fault k) = stop k

@@ -6,9 +6,10 @@ ghost use lib.ListN.{length};
 ghost use Rattle.grammar.specs.Files.{Slot};
 ghost use Rattle.grammar.specs.Reading.{read-rule};
 ghost use Rattle.model.specs.Result.{pair};
-ghost use Rattle.steps.specs.Places.{tokens-past, Step-lies};
+ghost use Rattle.table.specs.Link.{rule-of};
+ghost use Rattle.steps.specs.Places.{tokens-past, Step-lies, outcome-part};
 ghost use Rattle.clauses.specs.Literals.{Looked};
-ghost use Rattle.reader.specs.Rules.{trigger-pair, read-trigger, pair-part, Pair-lies, read-rest, rule-part, made-rule, Plain-rule};
+ghost use Rattle.reader.specs.Rules.{trigger-pair, read-trigger, pair-part, Pair-lies, read-rest, made-rule, Plain-rule};
 use clauses::assignments::Assignments;
 use clauses::assignments::assign_next;
 use clauses::conditions::Literals;
@@ -119,7 +120,7 @@ fn rest_next(
 ) -> RuleRead
     requires { ⌜ (slot ≤ 31) × (value ≤ 15) × (length (now bodies) ≡ 512) ⌝ }
     ensures { λ r. ⌜ ((base : ℕ) (slots : List Slot) → Looked (now (text .entry)) slots (now (heads .entry)) (now (bodies .entry))
-        → read-rest slots (pair slot value) (tokens-past (now (rest .entry)) base at) ≡ rule-part (now (rest .entry)) base (r .rule) (r .outcome))
+        → read-rest slots (pair slot value) (tokens-past (now (rest .entry)) base at) ≡ outcome-part (now (rest .entry)) base (rule-of (r .rule)) (r .outcome))
         × Step-lies (length (now (rest .entry))) at (r .outcome) × Plain-rule (r .rule) ⌝ }
 {
     let condition = condition_next(text, rest, heads, bodies, at);
@@ -161,7 +162,7 @@ pub fn rule_next(
 ) -> RuleRead
     requires { ⌜ length (now bodies) ≡ 512 ⌝ }
     ensures { λ r. ⌜ ((base : ℕ) (slots : List Slot) → Looked (now (text .entry)) slots (now (heads .entry)) (now (bodies .entry))
-        → read-rule slots (tokens-past (now (rest .entry)) base at) ≡ rule-part (now (rest .entry)) base (r .rule) (r .outcome))
+        → read-rule slots (tokens-past (now (rest .entry)) base at) ≡ outcome-part (now (rest .entry)) base (rule-of (r .rule)) (r .outcome))
         × Step-lies (length (now (rest .entry))) at (r .outcome) × Plain-rule (r .rule) ⌝ }
 {
     let trigger = trigger_next(text, rest, heads, bodies, at);

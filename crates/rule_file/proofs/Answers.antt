@@ -7,18 +7,14 @@ use mathlib.Core.Logic.{_↔_, ⊎-elim}
 use Prim.Native.Nat.{ℕ, _≤_}
 use native.Mathlib.Omega.{arith}
 use lib.Dec.{T, eqb}
-use lib.ListN.{length}
 use borrow.Author.Tests.{eqb-true, eqb-false, eq-eqb, ne-eqb}
-use Rattle.laws.specs.Numbers.{Numbered}
 use Rattle.model.specs.Rules as model
 use Rattle.model.specs.Strata.{strict, Strata}
 use Rattle.model.specs.Circles.{circle-of}
 use Rattle.model.specs.Least.{strata-of}
 use Rattle.model.proofs.Strata.{no-circle, no-strata, least-strata}
-use Rattle.table.specs.declared.Table.{Table}
 use Rattle.table.specs.Empty.{empty-table}
 use Rattle.table.specs.Fits.{TableFits}
-use Rattle.table.specs.Link.{rules-of, stratum-at, value-counts}
 use Rattle.text.specs.Tokens.{Token}
 use Rattle.grammar.specs.Files.{File}
 use Rattle.grammar.specs.Meaning.{Is-file}
@@ -38,8 +34,9 @@ use Rattle.reader.specs.Tables.{table-for, answered, refusal-number}
 use Rattle.reader.specs.declared.Outcome.{Outcome}
 use Rattle.reader.specs.declared.Outcome.the-variants.{Accepted, Refused}
 use Rattle.reader.specs.declared.FileRead.{FileRead}
+use Rattle.rule_file.specs.Carries.{Carries}
 use Rattle.rule_file.specs.Whole.{layered, answered-whole, reading}
-use Rattle.rule_file.proofs.Declared.{counts-of, read-declared}
+use Rattle.rule_file.proofs.Declared.{read-declared}
 use Rattle.rule_file.proofs.FileTable.{file-rules, file-counts, file-shaped, file-well-formed}
 
 -- The reading's answer for that of the strata.
@@ -146,15 +143,7 @@ reading-accepted-iff text = (there, λ o. back o (read text) refl)
         by-circle false q = absurd (outcomes-differ _ _ (sym o ∙ ap (λ (a : FileRead). a .outcome) (reading-file text f e ∙ layered-circle f (eqb-false (circle-of strict (f .rules)) 0 q))))
     back o (refused k n) e = absurd (outcomes-differ k n (sym o ∙ ap (λ (a : FileRead). a .outcome) (reading-refused text k n e)))
 
--- What an accepted text's table carries: the file's rules and slots, and the least strata.
-pub record Carries (text : List ℕ) (t : Table) : Type 0 where
-  pub file : File
-  pub is-file : Is-file text file
-  pub rules-are : rules-of t ≡ file .rules
-  pub counts-are : value-counts t ≡ counts-of (file .slots)
-  pub strata-are : (n : ℕ) → Numbered (length (file .rules)) n → stratum-at t n ≡ strata-of strict (file .rules) n
-  pub no-circle : circle-of strict (file .rules) ≡ 0
-
+-- An accepted text's table carries its file.
 pub reading-carries : (text : List ℕ) → reading text .outcome ≡ Accepted → Carries text (reading text .table)
 reading-carries text o =
     let w = reading-accepted-iff text .1 o in

@@ -1,7 +1,7 @@
 -- A file that a text means keeps to the limits, and its rules name only what it declares.
 -- Assumes nothing.
-use mathlib.Core.Path.{_≡_, refl, sym, subst, _∙_}
-use mathlib.Core.Bool.{Bool, true, false, cond}
+use mathlib.Core.Path.{_≡_, refl, sym, subst}
+use mathlib.Core.Bool.{Bool, true, false}
 use mathlib.Core.List.{List, [], _∷_, _++_, map}
 use Prim.Native.Nat.{ℕ, zero, suc, _≤_, _<_}
 use native.Mathlib.Omega.{arith}
@@ -15,10 +15,9 @@ use Rattle.laws.proofs.Listed.{all-e, all-append}
 use Rattle.laws.proofs.Lists.{map-append}
 use Rattle.text.specs.Tokens.{Name}
 use Rattle.text.proofs.Cut.{place-le}
-use Rattle.model.specs.Rules.{Pair, Literal, Rule}
+use Rattle.model.specs.Rules.{Pair, Literal, Rule, assigns, each-once}
 use Rattle.grammar.specs.Limits.{max-slots, max-values, max-rules, max-literals, max-assignments}
-use Rattle.grammar.specs.Files.{Slot, File, spellings, slot-names, values-of, no-slot}
-use Rattle.grammar.specs.Files as files
+use Rattle.grammar.specs.Files.{Slot, File, spellings, slot-names, values-of, no-slot, slot-counts}
 use Rattle.grammar.specs.Reading.{accepted, read}
 use Rattle.grammar.proofs.Accepts.{accepts-iff}
 use Rattle.model.specs.Orders.{no-rule}
@@ -26,11 +25,7 @@ use Rattle.grammar.specs.Grammar.{RuleTree, ConditionTree, AssignTree, Assignme
 use Rattle.grammar.specs.Meaning.{Names, Means-condition, means-and, means-one, means-true, Means-assignment, means-assignment, Means-assignments, means-first, means-comma, Means-assign, means-alone, means-braces, Means-trigger, means-trigger, Means-rule, means-rule, Means-rules, no-rules, more-rules, Means-values, means-value, means-values, Means-line, means-line, Means-lines, no-lines, more-lines}
 use Rattle.table.specs.Limits.{slot-limit, value-limit, rule-limit, literal-limit, assignment-limit}
 use Rattle.table.specs.Names.{has-slot, has-value}
-use Rattle.soundness.specs.Sound.{has-pair, assigns, each-once}
-
--- How many values each slot has.
-abbrev pub counts-of : List Slot → List ℕ
-counts-of slots = map (λ (s : Slot). length (s .values)) slots
+use Rattle.soundness.specs.Sound.{has-pair}
 
 -- A slot has values, and no more than the limit.
 abbrev pub has-some : Slot → Bool
@@ -51,7 +46,7 @@ lines-some before ts slots no-lines h = h
 lines-some before ts slots (more-lines {s = s} {ts = us} l m) h = lines-some (before ++ s ∷ []) us slots m (rw (all-append has-some before (s ∷ [])) (and-i _ _ h (and-i (has-some s) true (line-some before _ s l) tt)))
 
 -- A name that means a pair means one that the slots have.
-pub names-there : (slots : List Slot) (s v : Name) (p : Pair) → length slots ≤ slot-limit → T (all-of has-some slots) → Names slots s v p → T (has-pair (length slots) (counts-of slots) p)
+pub names-there : (slots : List Slot) (s v : Name) (p : Pair) → length slots ≤ slot-limit → T (all-of has-some slots) → Names slots s v p → T (has-pair (length slots) (slot-counts slots) p)
 unfolding has-pair has-slot has-value
 names-there slots s v p few some n =
     let k : p .slot < length slots = omega (arith, n .slot-is, place-le (s .letters) (spellings (slot-names slots)), length-map (slot-names slots) (λ (m : Name). m .letters), length-map slots (λ (z : Slot). z .name)) in
@@ -69,20 +64,10 @@ names-there slots s v p few some n =
 abbrev pub tested-pairs : List Literal → List Pair
 tested-pairs ls = map (λ (l : Literal). l .pair) ls
 
--- A slot that one assignment more leaves unassigned was not assigned before, and the two ways to ask agree.
-same-assigns : (ps : List Pair) (s : ℕ) → files.assigns ps s ≡ assigns ps s
-unfolding files.assigns assigns _∨ᵇ_
-same-assigns [] s = refl
-same-assigns (p ∷ ps) s = rw (same-assigns ps s) (go (eqb (p .slot) s) (assigns ps s))
-  where
-    go : (a b : Bool) → cond a true b ≡ (a ∨ᵇ b)
-    go true b = refl
-    go false b = refl
-
 module _ (slots : List Slot) (few : length slots ≤ slot-limit) (some : T (all-of has-some slots)) where
   -- The pair is one that the slots have.
   abbrev there : Pair → Bool
-  there p = has-pair (length slots) (counts-of slots) p
+  there p = has-pair (length slots) (slot-counts slots) p
 
   condition-there : (c : ConditionTree) (ms : List Literal) → Means-condition slots c ms → T (all-of there (tested-pairs ms))
   unfolding all-of
@@ -124,34 +109,34 @@ once-more (q ∷ ps) p t e =
 pub record RuleDeclared (slots : List Slot) (r : Rule) : Type 0 where
   pub few-literals : length (r .literals) ≤ literal-limit
   pub few-assignments : length (r .assignments) ≤ assignment-limit
-  pub trigger-there : T (has-pair (length slots) (counts-of slots) (r .trigger))
-  pub literals-there : T (all-of (has-pair (length slots) (counts-of slots)) (tested-pairs (r .literals)))
-  pub assignments-there : T (all-of (has-pair (length slots) (counts-of slots)) (r .assignments))
+  pub trigger-there : T (has-pair (length slots) (slot-counts slots) (r .trigger))
+  pub literals-there : T (all-of (has-pair (length slots) (slot-counts slots)) (tested-pairs (r .literals)))
+  pub assignments-there : T (all-of (has-pair (length slots) (slot-counts slots)) (r .assignments))
   pub once : T (each-once (r .assignments))
 
 module _ (slots : List Slot) (few : length slots ≤ slot-limit) (some : T (all-of has-some slots)) where
   -- What the assignments of a rule keep to.
   abbrev Assigned : List Pair → Type 0
-  Assigned ps = T (all-of (has-pair (length slots) (counts-of slots)) ps) × T (each-once ps)
+  Assigned ps = T (all-of (has-pair (length slots) (slot-counts slots)) ps) × T (each-once ps)
 
   first-assigned : (a : AssignmentTree) (p : Pair) → Means-assignment slots a p → Assigned (p ∷ [])
   unfolding all-of each-once assigns notᵇ
-  first-assigned a p m = (and-i (has-pair (length slots) (counts-of slots) p) true (assignment-there slots few some a p m) tt, and-i true true tt tt)
+  first-assigned a p m = (and-i (has-pair (length slots) (slot-counts slots) p) true (assignment-there slots few some a p m) tt, and-i true true tt tt)
 
   assignments-right : (l : AssignmentListTree) (ps : List Pair) → Means-assignments slots l ps → Assigned ps
   unfolding all-of
   assignments-right l ps (means-first {a = a} {p = p} m) = first-assigned a p m
   assignments-right l ps (means-comma {l = k} {ps = qs} {a = a} {p = p} ms m e) =
       let w = assignments-right k qs ms in (
-        rw (all-append (has-pair (length slots) (counts-of slots)) qs (p ∷ [])) (and-i _ _ (w .0) (and-i (has-pair (length slots) (counts-of slots) p) true (assignment-there slots few some a p m) tt)),
-        once-more qs p (w .1) (sym (same-assigns qs (p .slot)) ∙ e),
+        rw (all-append (has-pair (length slots) (slot-counts slots)) qs (p ∷ [])) (and-i _ _ (w .0) (and-i (has-pair (length slots) (slot-counts slots) p) true (assignment-there slots few some a p m) tt)),
+        once-more qs p (w .1) (e),
       )
 
   assign-right : (a : AssignTree) (ps : List Pair) → Means-assign slots a ps → Assigned ps
   assign-right a ps (means-alone {a = b} {p = p} m) = first-assigned b p m
   assign-right a ps (means-braces {l = l} m) = assignments-right l ps m
 
-  trigger-right : (t : TriggerTree) (p : Pair) → Means-trigger slots t p → T (has-pair (length slots) (counts-of slots) p)
+  trigger-right : (t : TriggerTree) (p : Pair) → Means-trigger slots t p → T (has-pair (length slots) (slot-counts slots) p)
   trigger-right t p (means-trigger n) = names-there slots _ _ p few some n
 
   rule-means : (t : RuleTree) (r : Rule) → Means-rule slots t r → RuleDeclared slots r

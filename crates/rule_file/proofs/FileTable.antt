@@ -28,13 +28,13 @@ use Rattle.table.proofs.Names.{slot-inside, value-inside}
 use Rattle.table.proofs.Link.{count-is}
 use lib.Seq.{getD-take}
 use Rattle.grammar.specs.Files as files
-use Rattle.grammar.specs.Files.{File}
+use Rattle.grammar.specs.Files.{File, slot-counts}
 use Rattle.soundness.specs.Sound.{has-pair, named, rule-right, well-formed}
 use Rattle.soundness.proofs.WellFormed.{well-formed-i}
 use Rattle.lines.specs.Index.{slot-for, name-for}
 use Rattle.clauses.specs.Assignments.{assignment-for}
 use Rattle.reader.specs.Tables.{literal-for, rule-for, table-for}
-use Rattle.rule_file.proofs.Declared.{counts-of, has-some, tested-pairs, RuleDeclared, Declared}
+use Rattle.rule_file.proofs.Declared.{has-some, tested-pairs, RuleDeclared, Declared}
 
 -- What goes into its place and back is what it was.
 literals-kept : (ls : List model.Literal) → map literal-of (map literal-for ls) ≡ ls
@@ -68,11 +68,11 @@ unfolding rules-of table-for
 file-rules f = ap (map rule-of) (used-of rule-limit unused-rule rule-for (f .rules)) ∙ rules-kept (f .rules)
 
 -- Its slots have the file's values.
-counts-kept : (ss : List files.Slot) → map (λ (s : Slot). s .count) (map slot-for ss) ≡ counts-of ss
+counts-kept : (ss : List files.Slot) → map (λ (s : Slot). s .count) (map slot-for ss) ≡ slot-counts ss
 counts-kept [] = refl
 counts-kept (s ∷ ss) = ap (λ (xs : List ℕ). length (s .values) ∷ xs) (counts-kept ss)
 
-pub file-counts : (f : File) → value-counts (table-for f) ≡ counts-of (f .slots)
+pub file-counts : (f : File) → value-counts (table-for f) ≡ slot-counts (f .slots)
 unfolding value-counts table-for
 file-counts f = ap (map (λ (s : Slot). s .count)) (used-of slot-limit unused-slot slot-for (f .slots)) ∙ counts-kept (f .slots)
 
@@ -102,8 +102,8 @@ abbrev no-pair : model.Pair
 no-pair = record { slot = 0; value = 0 }
 
 -- Each pair of a list that a file has is small.
-each-small : (slots : List files.Slot) (ps : List model.Pair) → T (all-of (has-pair (length slots) (counts-of slots)) ps) → (i : ℕ) → i < length ps → Small (getD ps i no-pair)
-each-small slots ps h i l = small (length slots) (counts-of slots) (getD ps i no-pair) (all-e _ ps no-pair h i l)
+each-small : (slots : List files.Slot) (ps : List model.Pair) → T (all-of (has-pair (length slots) (slot-counts slots)) ps) → (i : ℕ) → i < length ps → Small (getD ps i no-pair)
+each-small slots ps h i l = small (length slots) (slot-counts slots) (getD ps i no-pair) (all-e _ ps no-pair h i l)
 
 -- A rule in its places has their shape.
 rule-for-shaped : (r : model.Rule) → length (r .literals) ≤ literal-limit → length (r .assignments) ≤ assignment-limit → Small (r .trigger)
@@ -197,7 +197,7 @@ module _ (f : File) (D : Declared f) where
       ∙ List·getD-map (λ (s : files.Slot). length (s .values)) (f .slots) i files.no-slot
 
   -- A rule that keeps to what is declared is right in its places.
-  right-here : (r : model.Rule) → RuleDeclared (f .slots) r → T (rule-right (length (f .slots)) (counts-of (f .slots)) (rule-for r))
+  right-here : (r : model.Rule) → RuleDeclared (f .slots) r → T (rule-right (length (f .slots)) (slot-counts (f .slots)) (rule-for r))
   unfolding rule-right named all-of
   right-here r d =
       and-i (leb (length (r .literals)) literal-limit ∧ᵇ leb (length (r .assignments)) assignment-limit ∧ᵇ all-of own (named (rule-for r))) _
@@ -208,7 +208,7 @@ module _ (f : File) (D : Declared f) where
       (rw (assignments-back r) (d .once))
     where
       own : model.Pair → Bool
-      own p = has-pair (length (f .slots)) (counts-of (f .slots)) p
+      own p = has-pair (length (f .slots)) (slot-counts (f .slots)) p
 
   -- The table is well-formed.
   pub file-well-formed : T (well-formed (table-for f))

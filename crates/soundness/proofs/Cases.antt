@@ -18,7 +18,8 @@ use Rattle.table.specs.Link.{rules-of, carried-strata, stratum-at, value-counts
 use Rattle.table.specs.Names.{has-slot, has-value}
 use Rattle.strata.specs.declared.Outcome.the-variants.{Layered, Circle}
 use Rattle.strata.specs.Layered.{rule-with-stratum, with-strata, layering}
-use Rattle.soundness.specs.Sound.{within-limits, slots-have-values, has-pair, named, names-its-own, assigns, each-once, assigns-once, carries-least, well-formed, sound}
+use Rattle.soundness.specs.Sound.{within-limits, slots-have-values, has-pair, named, names-its-own, assigns-once, carries-least, well-formed, sound}
+use Rattle.model.specs.Rules.{assigns, each-once}
 
 -- A literal `*=` or `|=`, plain or under NOT.
 abbrev literal : Bool → Bool → ℕ → ℕ → Literal

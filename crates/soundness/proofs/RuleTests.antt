@@ -5,17 +5,17 @@ use mathlib.Core.Bool.{Bool, true, false}
 use mathlib.Core.List.{List, [], _∷_, map}
 use Prim.Native.Nat.{ℕ, _≤_, _<_}
 use lib.ListN.{getD}
-use borrow.Author.Tests.{eq-eqb, ne-eqb, le-leb, lt-leb}
-use Rattle.laws.specs.Truth.{_∧ᵇ_, _∨ᵇ_, notᵇ}
+use borrow.Author.Tests.{le-leb, lt-leb}
+use Rattle.laws.specs.Truth.{_∧ᵇ_, notᵇ}
 use Rattle.laws.specs.Listed.{all-of}
 use Rattle.laws.proofs.Equations.{and-false}
 use Rattle.laws.proofs.Listed.{all-append}
-use Rattle.model.specs.Rules.{Pair}
+use Rattle.model.specs.Rules.{Pair, assigns, each-once}
 use Rattle.table.specs.declared.Rule.{Rule}
 use Rattle.table.specs.Limits.{literal-limit, assignment-limit}
 use Rattle.table.specs.Link.{rule-of, literals-of, assignments-of}
 use Rattle.table.specs.Names.{has-slot, has-value}
-use Rattle.soundness.specs.Sound.{has-pair, named, assigns, each-once, rule-right}
+use Rattle.soundness.specs.Sound.{has-pair, named, rule-right}
 
 pub pair-lacking : (width : ℕ) (counts : List ℕ) (p : Pair) → has-slot width (p .slot) ≡ false → has-pair width counts p ≡ false
 unfolding has-pair _∧ᵇ_
@@ -36,18 +36,6 @@ all-on f x xs e = rw e
 pub all-none : {A : Type 0} (f : A → Bool) → all-of f [] ≡ true
 unfolding all-of
 all-none f = refl
-
-pub assigns-here : (p : Pair) (ps : List Pair) (s : ℕ) → p .slot ≡ s → assigns (p ∷ ps) s ≡ true
-unfolding assigns _∨ᵇ_
-assigns-here p ps s e = rw (eq-eqb (p .slot) s e)
-
-pub assigns-over : (p : Pair) (ps : List Pair) (s : ℕ) → (p .slot ≡ s → ⊥) → assigns (p ∷ ps) s ≡ assigns ps s
-unfolding assigns _∨ᵇ_
-assigns-over p ps s n = rw (ne-eqb (p .slot) s n)
-
-pub assigns-none : (s : ℕ) → assigns [] s ≡ false
-unfolding assigns
-assigns-none s = refl
 
 -- Both tests of some assignments.
 unfoldable pub both-right : (Pair → Bool) → List Pair → Bool

@@ -14,7 +14,7 @@ use Rattle.laws.specs.Listed.{all-of}
 use Rattle.laws.proofs.Truth.{and-l, and-r, and-i, bool-ext, le-or-lt}
 use Rattle.laws.proofs.Equations.{is-true, from-true, either}
 use Rattle.laws.proofs.Listed.{all-i, all-e, all-append, all-same}
-use Rattle.model.specs.Rules.{Pair}
+use Rattle.model.specs.Rules.{Pair, each-once}
 use Rattle.table.specs.declared.Rule.{Rule}
 use Rattle.table.specs.declared.Slot.{Slot}
 use Rattle.table.specs.declared.Table.{Table}
@@ -26,7 +26,7 @@ use Rattle.table.specs.Flat.{Placed}
 use Rattle.table.specs.Fits.{RuleFits, TableFits}
 use Rattle.table.proofs.Link.{count-is}
 use Rattle.table.proofs.Names.{slot-inside, value-inside}
-use Rattle.soundness.specs.Sound.{within-limits, slots-have-values, has-pair, named, names-its-own, each-once, assigns-once, well-formed, rule-right, carries-least, sound}
+use Rattle.soundness.specs.Sound.{within-limits, slots-have-values, has-pair, named, names-its-own, assigns-once, well-formed, rule-right, carries-least, sound}
 use Rattle.soundness.proofs.RuleTests.{pair-lacking, pair-there}
 
 -- The four parts of `rule-right`.

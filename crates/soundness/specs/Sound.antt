@@ -1,11 +1,11 @@
 -- Document 01, refusal 31: a table that breaks a limit (names are not tested), has a slot without values, names a slot or value it lacks, assigns a slot twice in a rule, or carries other than the least strata.
 -- Unused places are not looked at.
-use mathlib.Core.Bool.{Bool, true, false}
-use mathlib.Core.List.{List, [], _∷_, _++_, map}
+use mathlib.Core.Bool.{Bool}
+use mathlib.Core.List.{List, _∷_, _++_, map}
 use Prim.Native.Nat.{ℕ}
 use lib.Dec.{eqb, leb}
 use lib.ListN.{length, getD}
-use Rattle.laws.specs.Truth.{_∧ᵇ_, _∨ᵇ_, notᵇ}
+use Rattle.laws.specs.Truth.{_∧ᵇ_, notᵇ}
 use Rattle.laws.specs.Numbers.{some-of}
 use Rattle.laws.specs.Listed.{all-of}
 use Rattle.model.specs.Rules.{Pair}
@@ -39,16 +39,6 @@ named r = rule-of r .trigger ∷ map (λ l. l .pair) (rule-of r .literals) ++ as
 -- It names only slots and values that it has.
 unfoldable pub names-its-own : Table → Bool
 names-its-own t = all-of (λ r. all-of (has-pair (t .width) (value-counts t)) (named r)) (used-rules t)
-
--- One of some assignments is to a slot.
-unfoldable pub assigns : List Pair → ℕ → Bool
-assigns [] s = false
-assigns (p ∷ ps) s = eqb (p .slot) s ∨ᵇ assigns ps s
-
--- No two of some assignments are to one slot.
-unfoldable pub each-once : List Pair → Bool
-each-once [] = true
-each-once (p ∷ ps) = notᵇ (assigns ps (p .slot)) ∧ᵇ each-once ps
 
 -- It assigns no slot twice in a rule.
 unfoldable pub assigns-once : Table → Bool

@@ -40,10 +40,14 @@ fault-of (v.Name start size) over = 12
 fault-of v.Long over = over
 fault-of v.Bad over = 11
 
+-- What was read, with the tokens left after it, where this is the outcome; or a refusal.
+abbrev pub outcome-part : {A : Type 0} → List ℕ → ℕ → A → Step → Part A
+outcome-part rest base a (step.At next) = took a (tokens-past rest base next)
+outcome-part rest base a (step.Fault k) = stop k
+
 -- A step as a part read: nothing but the tokens left.
 abbrev pub step-part : List ℕ → ℕ → Step → Part (Unit {0})
-step-part rest base (step.At next) = took tt (tokens-past rest base next)
-step-part rest base (step.Fault k) = stop k
+step-part rest base s = outcome-part rest base tt s
 
 -- The position after it moves on and stays in the remainder.
 abbrev pub Step-lies : ℕ → ℕ → Step → Type 0

@@ -8,7 +8,8 @@ use lib.ListN.{length, drop, getD, length-map}
 use Rattle.table.specs.Limits.{assignment-limit}
 use Rattle.table.specs.Link.{assignment-of}
 use Rattle.table.specs.Shape.{no-assignment}
-use Rattle.grammar.specs.Files.{assigns}
+use Rattle.model.proofs.Pairs.{assigns-here, assigns-later}
+use Rattle.model.specs.Rules.{assigns}
 use Rattle.clauses.specs.Assignments.{pairs-in}
 use Rattle.clauses.proofs.AssignmentLaws as assignments
 use borrow.Author.Needs.{needs}
@@ -58,7 +59,7 @@ wide-requires c κs = search needs
 returns-2 : tie.Need-returns-2 Inv-loop μ-loop
 returns-2 c =
     let k = c .before .before .before .before .before in
-    sym (assignments.assigns-here _ _ (k .before .args .slot) (sym (c .before .wide .ensures) ∙ c .if2 .taken)) ∙ ap (λ ps. assigns ps (k .before .args .slot)) (sym (looked (c .before))) ∙ k .loop .inv .1
+    sym (assigns-here _ _ (k .before .args .slot) (sym (c .before .wide .ensures) ∙ c .if2 .taken)) ∙ ap (λ ps. assigns ps (k .before .args .slot)) (sym (looked (c .before))) ∙ k .loop .inv .1
 
 add-i : tie.Need-add-i Inv-loop μ-loop
 add-i c = search needs
@@ -70,7 +71,7 @@ loop-again : tie.Need-loop-again Inv-loop μ-loop
 loop-again c =
     let k = c .before .before .before .before .before in
     let h = c .before .before .before .before .loop-test .taken in
-    (omega arith, sym (assignments.assigns-other _ _ (k .before .args .slot) (λ e. c .if2 .left (c .before .wide .ensures ∙ e))) ∙ ap (λ ps. assigns ps (k .before .args .slot)) (sym (looked (c .before))) ∙ k .loop .inv .1)
+    (omega arith, sym (assigns-later _ _ (k .before .args .slot) (λ e. c .if2 .left (c .before .wide .ensures ∙ e))) ∙ ap (λ ps. assigns ps (k .before .args .slot)) (sym (looked (c .before))) ∙ k .loop .inv .1)
 
 returns-3 : tie.Need-returns-3 Inv-loop μ-loop
 returns-3 c =

@@ -3,9 +3,9 @@
 use Prim.Native.Nat.{_-_}
 use native.Mathlib.Omega.{arith}
 use mathlib.Core.Path.{refl, ap, subst, _∙_}
-use Rattle.steps.specs.Places.{Step-lies}
-use Rattle.clauses.specs.Conditions.{condition-part}
-use Rattle.clauses.specs.Assignments.{pairs-in, pairs-part}
+use Rattle.steps.specs.Places.{Step-lies, outcome-part}
+use Rattle.clauses.specs.Conditions.{literals-in}
+use Rattle.clauses.specs.Assignments.{pairs-in}
 use Rattle.steps.proofs.Places as places
 use Rattle.reader.proofs.RuleLaws as rules
 use borrow.Author.Needs.{needs}
@@ -53,8 +53,8 @@ returns c =
     let d = subst (Step-lies _ _) (s .second .given .1) (n .assign-next .ensures .1 .0) in
     let e = c .rule-of .ensures in (
       λ base slots L. rules.rest-ended slots _ _ _ _ _ _ _ base (c .rule-of .result) (w .word-next .result)
-          (k .condition-next .ensures .0 base slots L ∙ ap (λ o. condition-part (k .before .before .before .before .args .rest .now) base o (k .condition-next .result .list)) (a .first .given .1))
-          (n .assign-next .ensures .0 base slots L ∙ ap (pairs-part _ base (pairs-in (n .assign-next .result .list))) (s .second .given .1))
+          (k .condition-next .ensures .0 base slots L ∙ ap (outcome-part _ base (literals-in (k .condition-next .result .list))) (a .first .given .1))
+          (n .assign-next .ensures .0 base slots L ∙ ap (outcome-part _ base (pairs-in (n .assign-next .result .list))) (s .second .given .1))
           (w .word-next .ensures .0 base) (rw e refl),
       places.step-earlier _ _ _ (w .word-next .result) (omega (arith, l .0, d .0)) (w .word-next .ensures .1),
       rw e (record { literals-filled = k .condition-next .ensures .2; assignments-filled = n .assign-next .ensures .1 .1; no-stratum = refl }),
@@ -67,8 +67,8 @@ returns-2 c =
     let a = n .before .before in
     let k = a .before .before .before in (
       λ base slots L. rules.rest-no-assign slots _ _ _ _ _
-          (k .condition-next .ensures .0 base slots L ∙ ap (λ o. condition-part (k .before .before .before .before .args .rest .now) base o (k .condition-next .result .list)) (a .first .given .1))
-          (n .assign-next .ensures .0 base slots L ∙ ap (pairs-part _ base (pairs-in (n .assign-next .result .list))) (s .second2 .given .1)),
+          (k .condition-next .ensures .0 base slots L ∙ ap (outcome-part _ base (literals-in (k .condition-next .result .list))) (a .first .given .1))
+          (n .assign-next .ensures .0 base slots L ∙ ap (outcome-part _ base (pairs-in (n .assign-next .result .list))) (s .second2 .given .1)),
       tt,
       rw (c .empty-rule .ensures) rules.unused-plain,
     )
@@ -77,7 +77,7 @@ returns-3 : tie.Need-returns-3
 returns-3 c =
     let a = c .before .before in
     let k = a .before .before .before in
-    (λ base slots L. rules.rest-no-condition slots _ _ _ (k .condition-next .ensures .0 base slots L ∙ ap (λ o. condition-part (k .before .before .before .before .args .rest .now) base o (k .condition-next .result .list)) (a .first2 .given .1)), tt, rw (c .empty-rule2 .ensures) rules.unused-plain)
+    (λ base slots L. rules.rest-no-condition slots _ _ _ (k .condition-next .ensures .0 base slots L ∙ ap (outcome-part _ base (literals-in (k .condition-next .result .list))) (a .first2 .given .1)), tt, rw (c .empty-rule2 .ensures) rules.unused-plain)
 
 pub rest-next-spec : {M : Type 1} → statement M
 rest-next-spec =

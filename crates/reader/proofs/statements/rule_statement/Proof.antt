@@ -4,8 +4,8 @@ use Prim.Native.Nat.{_-_}
 use native.Mathlib.Omega.{arith}
 use mathlib.Core.Path.{ap, subst, _∙_}
 use Rattle.grammar.specs.Limits.{max-rules}
-use Rattle.steps.specs.Places.{step-part, Step-lies}
-use Rattle.reader.specs.Rules.{rule-part}
+use Rattle.steps.specs.Places.{step-part, Step-lies, outcome-part}
+use Rattle.table.specs.Link.{rule-of}
 use Rattle.reader.proofs.StatementLaws as statements
 use borrow.Author.Needs.{needs}
 use Rattle.reader.proofs.statements.rule_statement.Statement.{statement}
@@ -72,7 +72,7 @@ returns-3 c =
     let r = k .rule-next .result in
     let rest = k .before .before .before .before .before .args .rest .now in
     let l = subst (Step-lies _ _) (a .outcome .given .1) (k .rule-next .ensures .1) in (
-      λ base slots rules I e n. statements.next-rule slots rules _ _ _ n (omega arith) (k .rule-next .ensures .0 base slots (statements.looked _ _ _ slots I) ∙ ap (rule-part rest base (r .rule)) (a .outcome .given .1)),
+      λ base slots rules I e n. statements.next-rule slots rules _ _ _ n (omega arith) (k .rule-next .ensures .0 base slots (statements.looked _ _ _ slots I) ∙ ap (outcome-part rest base (rule-of (r .rule))) (a .outcome .given .1)),
       λ width. (l .0, l .1, h, k .rule-next .ensures .2),
     )
 
@@ -84,7 +84,7 @@ returns-4 c =
     let h = k .before .if1 .left in
     let r = k .rule-next .result in
     let rest = k .before .before .before .before .before .args .rest .now in
-    (λ base slots rules I e n. statements.next-stop slots rules _ _ n (omega arith) (k .rule-next .ensures .0 base slots (statements.looked _ _ _ slots I) ∙ ap (rule-part rest base (r .rule)) (a .outcome2 .given .1)), λ width. tt)
+    (λ base slots rules I e n. statements.next-stop slots rules _ _ n (omega arith) (k .rule-next .ensures .0 base slots (statements.looked _ _ _ slots I) ∙ ap (outcome-part rest base (rule-of (r .rule))) (a .outcome2 .given .1)), λ width. tt)
 
 pub rule-statement-spec : {M : Type 1} → statement M
 rule-statement-spec =

@@ -10,8 +10,9 @@ use Rattle.model.specs.Result.{pair}
 use lib.ListN.{drop}
 use Rattle.table.specs.Link.{assignments-of}
 use Rattle.table.proofs.Walks.{assigned-from, assigned-drop, assigned-end, assigned-next}
-use Rattle.soundness.specs.Sound.{assigns}
-use Rattle.soundness.proofs.RuleTests.{assigns-here, assigns-over, assigns-none}
+use Rattle.model.specs.Rules.{assigns}
+use Rattle.model.proofs.Pairs.{assigns-here, assigns-later, assigns-none}
+use Rattle.soundness.proofs.RuleTests.{}
 use borrow.Author.Needs.{needs}
 use Rattle.soundness.proofs.right.assigned_from.Statement.{statement}
 use Rattle.soundness.proofs.right.assigned_from.Tie as tie
@@ -65,7 +66,7 @@ loop-again c =
     let q = c .before in
     let a = q .before .before in
     let s = a .before in
-    (search needs, sym (assigns-over _ _ (s .args .slot) (c .if1 .left)) ∙ first q)
+    (search needs, sym (assigns-later _ _ (s .args .slot) (c .if1 .left)) ∙ first q)
 
 returns-2 : tie.Need-returns-2 Inv-loop μ-loop
 returns-2 c =

@@ -12,7 +12,8 @@ use Rattle.laws.specs.Truth.{_∧ᵇ_}
 use Rattle.laws.specs.Listed.{all-of}
 use Rattle.table.specs.Link.{assignments-of}
 use Rattle.table.proofs.Walks.{assigned-from, assigned-start, assigned-drop, assigned-end, assigned-next}
-use Rattle.soundness.specs.Sound.{has-pair, each-once}
+use Rattle.soundness.specs.Sound.{has-pair}
+use Rattle.model.specs.Rules.{each-once}
 use Rattle.soundness.proofs.RuleTests.{both-right, both-lacking, both-twice, both-on, both-none}
 use borrow.Author.Needs.{needs}
 use Rattle.soundness.proofs.right.assignments_right.Statement.{statement}
