@@ -13,17 +13,17 @@ use Rattle.soundness.specs.Sound.{sound}
 use Rattle.cards.specs.declared.Card.{Card}
 use Rattle.cards.specs.declared.Slip.{Slip}
 use Rattle.cards.specs.declared.Packing.the-variants as packing
-use Rattle.cards.specs.Answers.{passed, fault, Taking, taken, refused, after}
-use Rattle.cards.specs.Forms.{card-width, slip-width, card-bytes, slip-bytes, card-test, slip-test, read-card, read-slip, write-card, write-slip}
+use Rattle.cards.specs.Answers.{passed, fault, OrRefused, taken, refused, after}
+use Rattle.cards.specs.Forms.{card-bits, slip-bits, card-bytes, slip-bytes, card-test, slip-test, read-card, read-slip, write-card, write-slip}
 use Rattle.cards.specs.Cards.{values-of, changes-of, if-sound, unpacked-card, unpacked-slip, packed-card, packed-slip, packing-of, output-of}
 use Rattle.cards.proofs.Formed.{card-length, slip-length}
 
 -- What the code gives for a refusal, and for bytes that are written.
-pub answer-refused : (u : Taking (List ℕ)) (k s : ℕ) (out : List ℕ) → u ≡ refused k s → (packing.Refused k s ≡ packing-of u) × (out ≡ output-of u out)
+pub answer-refused : (u : OrRefused (List ℕ)) (k s : ℕ) (out : List ℕ) → u ≡ refused k s → (packing.Refused k s ≡ packing-of u) × (out ≡ output-of u out)
 unfolding packing-of output-of
 answer-refused u k s out e = rw e (refl, refl)
 
-pub answer-taken : (u : Taking (List ℕ)) (ys first out : List ℕ) (n : ℕ) → u ≡ taken ys → n ≡ length ys → out ≡ ys ++ drop n first → (packing.Packed n ≡ packing-of u) × (out ≡ output-of u first)
+pub answer-taken : (u : OrRefused (List ℕ)) (ys first out : List ℕ) (n : ℕ) → u ≡ taken ys → n ≡ length ys → out ≡ ys ++ drop n first → (packing.Packed n ≡ packing-of u) × (out ≡ output-of u first)
 unfolding packing-of output-of
 answer-taken u ys first out n e l w = rw (e, ← l) (refl, w)
 
@@ -60,13 +60,13 @@ module _ (t : Table) (e : sound t ≡ true) where
     unfolding packed-card if-sound write-card after
     card-faulty k s f = rw (e, f)
 
-    pub card-without-room : card-test (value-counts t) (values-of c) ≡ passed → room < byte-count (card-width (c .count)) → packed-card t c room ≡ refused 30 1
+    pub card-without-room : card-test (value-counts t) (values-of c) ≡ passed → room < byte-count (card-bits (c .count)) → packed-card t c room ≡ refused 30 1
     unfolding packed-card if-sound write-card after
-    card-without-room f h = rw (e, f, card-length c, lt-ltb room (byte-count (card-width (c .count))) h)
+    card-without-room f h = rw (e, f, card-length c, lt-ltb room (byte-count (card-bits (c .count))) h)
 
-    pub card-with-room : card-test (value-counts t) (values-of c) ≡ passed → byte-count (card-width (c .count)) ≤ room → packed-card t c room ≡ taken (card-bytes (values-of c))
+    pub card-with-room : card-test (value-counts t) (values-of c) ≡ passed → byte-count (card-bits (c .count)) ≤ room → packed-card t c room ≡ taken (card-bytes (values-of c))
     unfolding packed-card if-sound write-card after
-    card-with-room f h = rw (e, f, card-length c, le-ltb room (byte-count (card-width (c .count))) h)
+    card-with-room f h = rw (e, f, card-length c, le-ltb room (byte-count (card-bits (c .count))) h)
 
   -- Packing a slip: too many changes, a fault, no room, or its bytes.
   module _ (s : Slip) (room : ℕ) where
@@ -78,10 +78,10 @@ module _ (t : Table) (e : sound t ≡ true) where
     unfolding packed-slip if-sound write-slip after
     slip-faulty l k r f = rw (e, slip-length s, le-ltb 32 (s .count) l, f)
 
-    pub slip-without-room : s .count ≤ 32 → slip-test (value-counts t) (changes-of s) ≡ passed → room < byte-count (slip-width (s .count)) → packed-slip t s room ≡ refused 30 2
+    pub slip-without-room : s .count ≤ 32 → slip-test (value-counts t) (changes-of s) ≡ passed → room < byte-count (slip-bits (s .count)) → packed-slip t s room ≡ refused 30 2
     unfolding packed-slip if-sound write-slip after
-    slip-without-room l f h = rw (e, slip-length s, le-ltb 32 (s .count) l, f, lt-ltb room (byte-count (slip-width (s .count))) h)
+    slip-without-room l f h = rw (e, slip-length s, le-ltb 32 (s .count) l, f, lt-ltb room (byte-count (slip-bits (s .count))) h)
 
-    pub slip-with-room : s .count ≤ 32 → slip-test (value-counts t) (changes-of s) ≡ passed → byte-count (slip-width (s .count)) ≤ room → packed-slip t s room ≡ taken (slip-bytes (changes-of s))
+    pub slip-with-room : s .count ≤ 32 → slip-test (value-counts t) (changes-of s) ≡ passed → byte-count (slip-bits (s .count)) ≤ room → packed-slip t s room ≡ taken (slip-bytes (changes-of s))
     unfolding packed-slip if-sound write-slip after
-    slip-with-room l f h = rw (e, slip-length s, le-ltb 32 (s .count) l, f, le-ltb room (byte-count (slip-width (s .count))) h)
+    slip-with-room l f h = rw (e, slip-length s, le-ltb 32 (s .count) l, f, le-ltb room (byte-count (slip-bits (s .count))) h)

@@ -19,8 +19,8 @@ use Rattle.table.specs.Link.{value-counts}
 use Rattle.soundness.specs.Sound.{sound}
 use Rattle.cards.specs.declared.Card.{Card}
 use Rattle.cards.specs.declared.Slip.{Slip}
-use Rattle.cards.specs.Answers.{Verdict, passed, fault, Taking, taken, refused, after}
-use Rattle.cards.specs.Forms.{card-width, slip-width, card-bytes, slip-bytes, card-test, change-fault, changes-test, slip-test, read-card, read-slip, write-card, write-slip}
+use Rattle.cards.specs.Answers.{Verdict, passed, fault, OrRefused, taken, refused, after}
+use Rattle.cards.specs.Forms.{card-bits, slip-bits, card-bytes, slip-bytes, card-test, change-fault, changes-test, slip-test, read-card, read-slip, write-card, write-slip}
 use Rattle.cards.specs.Cards.{values-of, card-of, changes-of, slip-of, pair-of, change-of, no-change, if-sound, unpacked-card, unpacked-slip, packed-card, packed-slip}
 use Rattle.cards.proofs.Formed.{card-length, card-at, slip-length, slip-at}
 use Rattle.cards.proofs.Tested.{no-pair, change-right}
@@ -47,7 +47,7 @@ slip-of-changes ps =
     ∙ ap (λ x. pair-of x) (List·getD-append (map change-of ps) (replicate (slot-limit - length (map change-of ps)) no-change) no-change j l ∙ List·getD-map change-of ps j no-pair))
 
 -- Only a sound table lets pass.
-is-sound : {A : Type 0} (t : Table) (u : Taking A) (x : A) → if-sound t u ≡ taken x → sound t ≡ true
+is-sound : {A : Type 0} (t : Table) (u : OrRefused A) (x : A) → if-sound t u ≡ taken x → sound t ≡ true
 unfolding if-sound
 is-sound {A} t u x e = go (sound t) refl e
   where
@@ -78,16 +78,16 @@ written passed false k s bytes ys e = (refl, (let z : bytes ≡ ys = cc in z))
 
 card-written : (counts vs : List ℕ) (room : ℕ) (ys : List ℕ) → write-card counts vs room ≡ taken ys → (card-test counts vs ≡ passed) × (card-bytes vs ≡ ys)
 unfolding write-card
-card-written counts vs room ys e = written (card-test counts vs) (ltb room (byte-count (card-width (length vs)))) 30 1 (card-bytes vs) ys e
+card-written counts vs room ys e = written (card-test counts vs) (ltb room (byte-count (card-bits (length vs)))) 30 1 (card-bytes vs) ys e
 
 slip-written : (counts : List ℕ) (ps : List Pair) (room : ℕ) (ys : List ℕ) → write-slip counts ps room ≡ taken ys → (length ps ≤ 32) × (slip-test counts ps ≡ passed) × (slip-bytes ps ≡ ys)
 unfolding write-slip
 slip-written counts ps room ys e = go (ltb 32 (length ps)) refl e
   where
-    go : (b : Bool) → ltb 32 (length ps) ≡ b → cond b (refused 24 0) (after (slip-test counts ps) (cond (ltb room (byte-count (slip-width (length ps)))) (refused 30 2) (taken (slip-bytes ps)))) ≡ taken ys
+    go : (b : Bool) → ltb 32 (length ps) ≡ b → cond b (refused 24 0) (after (slip-test counts ps) (cond (ltb room (byte-count (slip-bits (length ps)))) (refused 30 2) (taken (slip-bytes ps)))) ≡ taken ys
         → (length ps ≤ 32) × (slip-test counts ps ≡ passed) × (slip-bytes ps ≡ ys)
     go true d e = absurd (let z : _≡_ {A = ℕ} 0 1 = cc in omega arith)
-    go false d e = let w = written (slip-test counts ps) (ltb room (byte-count (slip-width (length ps)))) 30 2 (slip-bytes ps) ys e in (ltb-false 32 (length ps) d, w .0, w .1)
+    go false d e = let w = written (slip-test counts ps) (ltb room (byte-count (slip-bits (length ps)))) 30 2 (slip-bytes ps) ys e in (ltb-false 32 (length ps) d, w .0, w .1)
 
 packed-sound-card : (t : Table) (c : Card) (room : ℕ) (ys : List ℕ) → packed-card t c room ≡ taken ys → (sound t ≡ true) × (write-card (value-counts t) (values-of c) room ≡ taken ys)
 unfolding packed-card if-sound

@@ -13,7 +13,7 @@ use Rattle.laws.proofs.Truth.{and-i}
 use Rattle.laws.proofs.Tabulated.{tabulate-length, tabulate-at, is-tabulate}
 use Rattle.model.specs.Rules.{Pair}
 use Rattle.model.specs.Result.{pair}
-use Rattle.cards.specs.Forms.{card-fields, change-fields, slip-fields, card-width, slip-width, count-in, values-in, changes-in}
+use Rattle.cards.specs.Forms.{card-fields, change-fields, slip-fields, card-bits, slip-bits, count-in, values-in, changes-in}
 use Rattle.cards.proofs.Tested.{no-pair}
 use Rattle.cards.proofs.Taken.{values-length, changes-length}
 
@@ -21,15 +21,15 @@ tabulate-same : {A : Type 0} (f g : ℕ → A) (n : ℕ) (d : A) → ((i : ℕ) 
 tabulate-same f g n d e = is-tabulate g n d (tabulate f n) (tabulate-length f n) (λ i h. tabulate-at f n i d h ∙ e i)
 
 -- The widths of a card's fields, and of a slip's.
-abbrev pub card-widths : ℕ → List ℕ
-card-widths n = 6 ∷ replicate n 4
+abbrev pub card-bits-sum : ℕ → List ℕ
+card-bits-sum n = 6 ∷ replicate n 4
 
 unfoldable pub change-widths : ℕ → List ℕ
 change-widths zero = []
 change-widths (suc m) = 5 ∷ 4 ∷ change-widths m
 
-abbrev pub slip-widths : ℕ → List ℕ
-slip-widths m = 6 ∷ change-widths m
+abbrev pub slip-bits-sum : ℕ → List ℕ
+slip-bits-sum m = 6 ∷ change-widths m
 
 -- Their sums.
 values-in-bits : (n : ℕ) → bits-in (replicate n 4) ≡ 4 * n
@@ -37,7 +37,7 @@ unfolding bits-in
 values-in-bits zero = refl
 values-in-bits (suc n) = omega (arith, values-in-bits n)
 
-pub card-in-bits : (n : ℕ) → bits-in (card-widths n) ≡ card-width n
+pub card-in-bits : (n : ℕ) → bits-in (card-bits-sum n) ≡ card-bits n
 unfolding bits-in
 card-in-bits n = ap (λ (k : ℕ). 6 + k) (values-in-bits n)
 
@@ -46,7 +46,7 @@ unfolding bits-in change-widths
 changes-in-bits zero = refl
 changes-in-bits (suc m) = omega (arith, changes-in-bits m)
 
-pub slip-in-bits : (m : ℕ) → bits-in (slip-widths m) ≡ slip-width m
+pub slip-in-bits : (m : ℕ) → bits-in (slip-bits-sum m) ≡ slip-bits m
 unfolding bits-in
 slip-in-bits m = ap (λ (k : ℕ). 6 + k) (changes-in-bits m)
 
@@ -55,7 +55,7 @@ values-widths : (vs : List ℕ) → map (λ f. f .width) (map (field 4) vs) ≡ 
 values-widths [] = refl
 values-widths (v ∷ vs) = ap (λ (ws : List ℕ). 4 ∷ ws) (values-widths vs)
 
-pub card-field-widths : (vs : List ℕ) → map (λ f. f .width) (card-fields vs) ≡ card-widths (length vs)
+pub card-field-widths : (vs : List ℕ) → map (λ f. f .width) (card-fields vs) ≡ card-bits-sum (length vs)
 unfolding card-fields
 card-field-widths vs = ap (λ (ws : List ℕ). 6 ∷ ws) (values-widths vs)
 
@@ -64,7 +64,7 @@ unfolding change-fields change-widths
 changes-widths [] = refl
 changes-widths (p ∷ ps) = ap (λ (ws : List ℕ). 5 ∷ 4 ∷ ws) (changes-widths ps)
 
-pub slip-field-widths : (ps : List Pair) → map (λ f. f .width) (slip-fields ps) ≡ slip-widths (length ps)
+pub slip-field-widths : (ps : List Pair) → map (λ f. f .width) (slip-fields ps) ≡ slip-bits-sum (length ps)
 unfolding slip-fields
 slip-field-widths ps = ap (λ (ws : List ℕ). 6 ∷ ws) (changes-widths ps)
 
@@ -77,7 +77,7 @@ values-fields ys (suc n) p =
     let e = tabulate-same (λ i. field-at ys (p + 4 * suc i) 4) (λ i. field-at ys (p + 4 + 4 * i) 4) n 0 (λ i. (let y : p + 4 * suc i ≡ p + 4 + 4 * i = omega arith in ap (λ (q : ℕ). field-at ys q 4) y)) in
     ap₂ (λ (x : ℕ) (fs : List Field). field 4 (field-at ys x 4) ∷ fs) z (ap (map (field 4)) e ∙ values-fields ys n (p + 4))
 
-pub card-read-fields : (ys : List ℕ) → card-fields (values-in ys) ≡ fields-at ys 0 (card-widths (count-in ys))
+pub card-read-fields : (ys : List ℕ) → card-fields (values-in ys) ≡ fields-at ys 0 (card-bits-sum (count-in ys))
 unfolding card-fields fields-at values-in
 card-read-fields ys = ap₂ (λ (k : ℕ) (fs : List Field). field 6 k ∷ fs) (values-length ys) (values-fields ys (count-in ys) 6)
 
@@ -94,7 +94,7 @@ changes-fields ys (suc m) p =
     let r = ap change-fields e ∙ changes-fields ys m (p + 9) ∙ ap (λ (q : ℕ). fields-at ys q (change-widths m)) x in
     ap₂ (λ (q : ℕ) (fs : List Field). field 5 (field-at ys q 5) ∷ fs) z (ap₂ (λ (q : ℕ) (fs : List Field). field 4 (field-at ys q 4) ∷ fs) y r)
 
-pub slip-read-fields : (ys : List ℕ) → slip-fields (changes-in ys) ≡ fields-at ys 0 (slip-widths (count-in ys))
+pub slip-read-fields : (ys : List ℕ) → slip-fields (changes-in ys) ≡ fields-at ys 0 (slip-bits-sum (count-in ys))
 unfolding slip-fields fields-at changes-in
 slip-read-fields ys = ap₂ (λ (k : ℕ) (fs : List Field). field 6 k ∷ fs) (changes-length ys) (changes-fields ys (count-in ys) 6)
 

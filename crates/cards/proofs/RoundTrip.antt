@@ -12,12 +12,12 @@ use Rattle.laws.specs.Packed.{Field, field, byte-count, pack-fields, field-bits
 use Rattle.laws.proofs.Fields.{packs-back, reads-packed, padding-packed, fields-length}
 use Rattle.model.specs.Rules.{Pair}
 use Rattle.table.specs.Limits.{slot-limit}
-use Rattle.cards.specs.Answers.{Verdict, passed, fault, Taking, taken, refused, after}
-use Rattle.cards.specs.Forms.{card-width, slip-width, card-fields, slip-fields, card-bytes, slip-bytes, count-in, values-in, changes-in, padding, card-test, slip-test, read-card, read-slip}
+use Rattle.cards.specs.Answers.{Verdict, passed, fault, OrRefused, taken, refused, after}
+use Rattle.cards.specs.Forms.{card-bits, slip-bits, card-fields, slip-fields, card-bytes, slip-bytes, count-in, values-in, changes-in, padding, card-test, slip-test, read-card, read-slip}
 use Rattle.cards.proofs.Taken.{values-length, value-at, card-taken, slip-taken}
 use Rattle.cards.proofs.Written.{card-bytes-length, slip-bytes-length}
 use Rattle.cards.proofs.Passed.{Slots, card-pass, values-pass, changes-pass}
-use Rattle.cards.proofs.FieldForms.{card-widths, slip-widths, card-in-bits, slip-in-bits, card-field-widths, slip-field-widths, card-read-fields, slip-read-fields, card-by-fields, slip-by-fields, card-fields-fit, slip-fields-fit}
+use Rattle.cards.proofs.FieldForms.{card-bits-sum, slip-bits-sum, card-in-bits, slip-in-bits, card-field-widths, slip-field-widths, card-read-fields, slip-read-fields, card-by-fields, slip-by-fields, card-fields-fit, slip-fields-fit}
 
 -- What bytes that are taken passed.
 pub record Accepted {A : Type 0} (long : Bool) (test : Verdict) (pad : ℕ) (form given : A) : Type 0 where
@@ -26,7 +26,7 @@ pub record Accepted {A : Type 0} (long : Bool) (test : Verdict) (pad : ℕ) (for
   pub padding-zero : pad ≡ 0
   pub same-form : form ≡ given
 
-not-taken : {A : Type 0} (k s : ℕ) (x : A) → _≡_ {A = Taking A} (refused k s) (taken x) → ⊥
+not-taken : {A : Type 0} (k s : ℕ) (x : A) → _≡_ {A = OrRefused A} (refused k s) (taken x) → ⊥
 not-taken k s x e = let z : _≡_ {A = ℕ} 0 1 = cc in omega arith
 
 accepted : {A : Type 0} (long : Bool) (test : Verdict) (pad k l : ℕ) (form given : A) → cond long (after test (cond (eqb pad 0) (taken form) (refused k 0))) (refused l 0) ≡ taken given → Accepted long test pad form given
@@ -40,12 +40,12 @@ accepted true passed pad k l form given e = go (eqb pad 0) refl e
     go false d e = absurd (not-taken k 0 given e)
 
 pub card-accepted : (counts ys vs : List ℕ) → read-card counts ys ≡ taken vs
-    → Accepted (eqb (length ys) (byte-count (card-width (count-in ys)))) (card-test counts (values-in ys)) (padding ys (card-width (count-in ys))) (values-in ys) vs
+    → Accepted (eqb (length ys) (byte-count (card-bits (count-in ys)))) (card-test counts (values-in ys)) (padding ys (card-bits (count-in ys))) (values-in ys) vs
 unfolding read-card
 card-accepted counts ys vs e = accepted _ (card-test counts (values-in ys)) _ 23 20 (values-in ys) vs e
 
 pub slip-accepted : (counts ys : List ℕ) (ps : List Pair) → read-slip counts ys ≡ taken ps
-    → Accepted (eqb (length ys) (byte-count (slip-width (count-in ys)))) (slip-test counts (changes-in ys)) (padding ys (slip-width (count-in ys))) (changes-in ys) ps
+    → Accepted (eqb (length ys) (byte-count (slip-bits (count-in ys)))) (slip-test counts (changes-in ys)) (padding ys (slip-bits (count-in ys))) (changes-in ys) ps
 unfolding read-slip
 slip-accepted counts ys ps e = accepted _ (slip-test counts (changes-in ys)) _ 28 24 (changes-in ys) ps e
 
@@ -54,20 +54,20 @@ pub card-packs-back : (counts ys vs : List ℕ) → Bytes ys → read-card count
 unfolding card-bytes
 card-packs-back counts ys vs b e =
     let a = card-accepted counts ys vs e in
-    let l = eqb-true (length ys) (byte-count (card-width (count-in ys))) (a .length-right) in
+    let l = eqb-true (length ys) (byte-count (card-bits (count-in ys))) (a .length-right) in
     let s = card-in-bits (count-in ys) in
     ap (λ (us : List ℕ). pack-fields (card-fields us)) (sym (a .same-form)) ∙ ap pack-fields (card-read-fields ys)
-    ∙ packs-back ys (card-widths (count-in ys)) b (rw s l) (rw s (a .padding-zero))
+    ∙ packs-back ys (card-bits-sum (count-in ys)) b (rw s l) (rw s (a .padding-zero))
 
 -- and so is an accepted slip.
 pub slip-packs-back : (counts ys : List ℕ) (ps : List Pair) → Bytes ys → read-slip counts ys ≡ taken ps → slip-bytes ps ≡ ys
 unfolding slip-bytes
 slip-packs-back counts ys ps b e =
     let a = slip-accepted counts ys ps e in
-    let l = eqb-true (length ys) (byte-count (slip-width (count-in ys))) (a .length-right) in
+    let l = eqb-true (length ys) (byte-count (slip-bits (count-in ys))) (a .length-right) in
     let s = slip-in-bits (count-in ys) in
     ap (λ (qs : List Pair). pack-fields (slip-fields qs)) (sym (a .same-form)) ∙ ap pack-fields (slip-read-fields ys)
-    ∙ packs-back ys (slip-widths (count-in ys)) b (rw s l) (rw s (a .padding-zero))
+    ∙ packs-back ys (slip-bits-sum (count-in ys)) b (rw s l) (rw s (a .padding-zero))
 
 -- Two accepted byte strings with the same form are equal.
 pub one-card : (counts ys zs vs : List ℕ) → Bytes ys → Bytes zs → read-card counts ys ≡ taken vs → read-card counts zs ≡ taken vs → ys ≡ zs
@@ -88,11 +88,11 @@ first-number : (ys ws : List ℕ) (n : ℕ) (fs : List Field) → fields-at ys 0
 unfolding fields-at
 first-number ys ws n fs r = ap (λ (f : Field). f .number) (head-eq-of-cons-eq r)
 
-card-count : (ys vs : List ℕ) → fields-at ys 0 (card-widths (length vs)) ≡ card-fields vs → count-in ys ≡ length vs
+card-count : (ys vs : List ℕ) → fields-at ys 0 (card-bits-sum (length vs)) ≡ card-fields vs → count-in ys ≡ length vs
 unfolding card-fields
 card-count ys vs r = first-number ys _ (length vs) _ r
 
-slip-count : (ys : List ℕ) (ps : List Pair) → fields-at ys 0 (slip-widths (length ps)) ≡ slip-fields ps → count-in ys ≡ length ps
+slip-count : (ys : List ℕ) (ps : List Pair) → fields-at ys 0 (slip-bits-sum (length ps)) ≡ slip-fields ps → count-in ys ≡ length ps
 unfolding slip-fields
 slip-count ys ps r = first-number ys _ (length ps) _ r
 
@@ -104,12 +104,12 @@ card-reads-back counts vs S e =
     let p = card-pass counts vs e in
     let n = length vs in
     let f = card-fields-fit vs (omega (arith, p .0, S .few)) (λ i h. (let k : i < length counts = omega (arith, p .0) in omega (arith, values-pass 0 counts vs (p .1) i k h, S .small i k))) in
-    let r : fields-at ys 0 (card-widths n) ≡ card-fields vs = rw (card-field-widths vs) at (reads-packed (card-fields vs) f) in
+    let r : fields-at ys 0 (card-bits-sum n) ≡ card-fields vs = rw (card-field-widths vs) at (reads-packed (card-fields vs) f) in
     let c : count-in ys ≡ n = card-count ys vs r in
-    let v : values-in ys ≡ vs = card-by-fields (values-in ys) vs (card-read-fields ys ∙ ap (λ (m : ℕ). fields-at ys 0 (card-widths m)) c ∙ r) in
-    let w : length (field-bits (card-fields vs)) ≡ card-width n = fields-length (card-fields vs) ∙ rw (card-field-widths vs) (card-in-bits n) in
-    let z : padding ys (card-width n) ≡ 0 = rw w at (padding-packed (card-fields vs) (8 * length ys - card-width n)) in
-    card-taken counts ys (card-bytes-length vs ∙ ap (λ (m : ℕ). byte-count (card-width m)) (sym c)) (rw v e) (rw c z) ∙ ap taken v
+    let v : values-in ys ≡ vs = card-by-fields (values-in ys) vs (card-read-fields ys ∙ ap (λ (m : ℕ). fields-at ys 0 (card-bits-sum m)) c ∙ r) in
+    let w : length (field-bits (card-fields vs)) ≡ card-bits n = fields-length (card-fields vs) ∙ rw (card-field-widths vs) (card-in-bits n) in
+    let z : padding ys (card-bits n) ≡ 0 = rw w at (padding-packed (card-fields vs) (8 * length ys - card-bits n)) in
+    card-taken counts ys (card-bytes-length vs ∙ ap (λ (m : ℕ). byte-count (card-bits m)) (sym c)) (rw v e) (rw c z) ∙ ap taken v
 
 -- So is a slip of at most 32 changes.
 pub slip-reads-back : (counts : List ℕ) (ps : List Pair) → Slots counts → length ps ≤ slot-limit → slip-test counts ps ≡ passed → read-slip counts (slip-bytes ps) ≡ taken ps
@@ -118,9 +118,9 @@ slip-reads-back counts ps S few e =
     let ys = slip-bytes ps in
     let n = length ps in
     let f = slip-fields-fit ps (omega arith) (λ j h. (let q = changes-pass counts 0 0 ps e j h in (omega (arith, q .0, S .few), omega (arith, q .1, S .small _ (q .0))))) in
-    let r : fields-at ys 0 (slip-widths n) ≡ slip-fields ps = rw (slip-field-widths ps) at (reads-packed (slip-fields ps) f) in
+    let r : fields-at ys 0 (slip-bits-sum n) ≡ slip-fields ps = rw (slip-field-widths ps) at (reads-packed (slip-fields ps) f) in
     let c : count-in ys ≡ n = slip-count ys ps r in
-    let v : changes-in ys ≡ ps = slip-by-fields (changes-in ys) ps (slip-read-fields ys ∙ ap (λ (m : ℕ). fields-at ys 0 (slip-widths m)) c ∙ r) in
-    let w : length (field-bits (slip-fields ps)) ≡ slip-width n = fields-length (slip-fields ps) ∙ rw (slip-field-widths ps) (slip-in-bits n) in
-    let z : padding ys (slip-width n) ≡ 0 = rw w at (padding-packed (slip-fields ps) (8 * length ys - slip-width n)) in
-    slip-taken counts ys (slip-bytes-length ps ∙ ap (λ (m : ℕ). byte-count (slip-width m)) (sym c)) (rw v e) (rw c z) ∙ ap taken v
+    let v : changes-in ys ≡ ps = slip-by-fields (changes-in ys) ps (slip-read-fields ys ∙ ap (λ (m : ℕ). fields-at ys 0 (slip-bits-sum m)) c ∙ r) in
+    let w : length (field-bits (slip-fields ps)) ≡ slip-bits n = fields-length (slip-fields ps) ∙ rw (slip-field-widths ps) (slip-in-bits n) in
+    let z : padding ys (slip-bits n) ≡ 0 = rw w at (padding-packed (slip-fields ps) (8 * length ys - slip-bits n)) in
+    slip-taken counts ys (slip-bytes-length ps ∙ ap (λ (m : ℕ). byte-count (slip-bits m)) (sym c)) (rw v e) (rw c z) ∙ ap taken v

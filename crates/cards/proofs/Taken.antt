@@ -16,7 +16,7 @@ use Rattle.laws.proofs.Tabulated.{tabulate-length, tabulate-at}
 use Rattle.model.specs.Result.{pair}
 use Rattle.table.specs.Limits.{slot-limit}
 use Rattle.cards.specs.Answers.{passed, fault, taken, refused, after}
-use Rattle.cards.specs.Forms.{card-width, slip-width, count-in, values-in, changes-in, padding, card-test, slip-test, read-card, read-slip}
+use Rattle.cards.specs.Forms.{card-bits, slip-bits, count-in, values-in, changes-in, padding, card-test, slip-test, read-card, read-slip}
 use Rattle.cards.proofs.Tested.{no-pair}
 
 -- As many values and changes as the bytes count, each at its place.
@@ -37,39 +37,39 @@ unfolding changes-in
 change-at ys j h = tabulate-at (λ j. pair (field-at ys (6 + 9 * j) 5) (field-at ys (11 + 9 * j) 4)) (count-in ys) j no-pair h
 
 module _ (counts ys : List ℕ) where
-  pub card-short : (length ys ≡ byte-count (card-width (count-in ys)) → ⊥) → read-card counts ys ≡ refused 20 0
+  pub card-short : (length ys ≡ byte-count (card-bits (count-in ys)) → ⊥) → read-card counts ys ≡ refused 20 0
   unfolding read-card
-  card-short n = rw (ne-eqb (length ys) (byte-count (card-width (count-in ys))) n)
+  card-short n = rw (ne-eqb (length ys) (byte-count (card-bits (count-in ys))) n)
 
-  pub slip-short : (length ys ≡ byte-count (slip-width (count-in ys)) → ⊥) → read-slip counts ys ≡ refused 24 0
+  pub slip-short : (length ys ≡ byte-count (slip-bits (count-in ys)) → ⊥) → read-slip counts ys ≡ refused 24 0
   unfolding read-slip
-  slip-short n = rw (ne-eqb (length ys) (byte-count (slip-width (count-in ys))) n)
+  slip-short n = rw (ne-eqb (length ys) (byte-count (slip-bits (count-in ys))) n)
 
-  module _ (long : length ys ≡ byte-count (card-width (count-in ys))) where
+  module _ (long : length ys ≡ byte-count (card-bits (count-in ys))) where
     pub card-fault : (k s : ℕ) → card-test counts (values-in ys) ≡ fault k s → read-card counts ys ≡ refused k s
     unfolding read-card after
-    card-fault k s e = rw (eq-eqb (length ys) (byte-count (card-width (count-in ys))) long, e)
+    card-fault k s e = rw (eq-eqb (length ys) (byte-count (card-bits (count-in ys))) long, e)
 
-    pub card-padded : card-test counts (values-in ys) ≡ passed → (padding ys (card-width (count-in ys)) ≡ 0 → ⊥) → read-card counts ys ≡ refused 23 0
+    pub card-padded : card-test counts (values-in ys) ≡ passed → (padding ys (card-bits (count-in ys)) ≡ 0 → ⊥) → read-card counts ys ≡ refused 23 0
     unfolding read-card after
-    card-padded e n = rw (eq-eqb (length ys) (byte-count (card-width (count-in ys))) long, e, ne-eqb (padding ys (card-width (count-in ys))) 0 n)
+    card-padded e n = rw (eq-eqb (length ys) (byte-count (card-bits (count-in ys))) long, e, ne-eqb (padding ys (card-bits (count-in ys))) 0 n)
 
-    pub card-taken : card-test counts (values-in ys) ≡ passed → padding ys (card-width (count-in ys)) ≡ 0 → read-card counts ys ≡ taken (values-in ys)
+    pub card-taken : card-test counts (values-in ys) ≡ passed → padding ys (card-bits (count-in ys)) ≡ 0 → read-card counts ys ≡ taken (values-in ys)
     unfolding read-card after
-    card-taken e z = rw (eq-eqb (length ys) (byte-count (card-width (count-in ys))) long, e, eq-eqb (padding ys (card-width (count-in ys))) 0 z)
+    card-taken e z = rw (eq-eqb (length ys) (byte-count (card-bits (count-in ys))) long, e, eq-eqb (padding ys (card-bits (count-in ys))) 0 z)
 
-  module _ (long : length ys ≡ byte-count (slip-width (count-in ys))) where
+  module _ (long : length ys ≡ byte-count (slip-bits (count-in ys))) where
     pub slip-fault : (k s : ℕ) → slip-test counts (changes-in ys) ≡ fault k s → read-slip counts ys ≡ refused k s
     unfolding read-slip after
-    slip-fault k s e = rw (eq-eqb (length ys) (byte-count (slip-width (count-in ys))) long, e)
+    slip-fault k s e = rw (eq-eqb (length ys) (byte-count (slip-bits (count-in ys))) long, e)
 
-    pub slip-padded : slip-test counts (changes-in ys) ≡ passed → (padding ys (slip-width (count-in ys)) ≡ 0 → ⊥) → read-slip counts ys ≡ refused 28 0
+    pub slip-padded : slip-test counts (changes-in ys) ≡ passed → (padding ys (slip-bits (count-in ys)) ≡ 0 → ⊥) → read-slip counts ys ≡ refused 28 0
     unfolding read-slip after
-    slip-padded e n = rw (eq-eqb (length ys) (byte-count (slip-width (count-in ys))) long, e, ne-eqb (padding ys (slip-width (count-in ys))) 0 n)
+    slip-padded e n = rw (eq-eqb (length ys) (byte-count (slip-bits (count-in ys))) long, e, ne-eqb (padding ys (slip-bits (count-in ys))) 0 n)
 
-    pub slip-taken : slip-test counts (changes-in ys) ≡ passed → padding ys (slip-width (count-in ys)) ≡ 0 → read-slip counts ys ≡ taken (changes-in ys)
+    pub slip-taken : slip-test counts (changes-in ys) ≡ passed → padding ys (slip-bits (count-in ys)) ≡ 0 → read-slip counts ys ≡ taken (changes-in ys)
     unfolding read-slip after
-    slip-taken e z = rw (eq-eqb (length ys) (byte-count (slip-width (count-in ys))) long, e, eq-eqb (padding ys (slip-width (count-in ys))) 0 z)
+    slip-taken e z = rw (eq-eqb (length ys) (byte-count (slip-bits (count-in ys))) long, e, eq-eqb (padding ys (slip-bits (count-in ys))) 0 z)
 
 -- Images by what changes nothing.
 pub map-same : {A : Type 0} (xs : List A) → map (λ x. x) xs ≡ xs

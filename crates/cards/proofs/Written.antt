@@ -14,7 +14,7 @@ use Rattle.laws.proofs.Fields.{field-bits-append}
 use Rattle.laws.proofs.Put.{put-more}
 use Rattle.laws.proofs.Lists.{map-append}
 use Rattle.model.specs.Rules.{Pair}
-use Rattle.cards.specs.Forms.{card-fields, change-fields, slip-fields, card-bytes, slip-bytes, card-width, slip-width}
+use Rattle.cards.specs.Forms.{card-fields, change-fields, slip-fields, card-bytes, slip-bytes, card-bits, slip-bits}
 use Rattle.cards.proofs.Tested.{no-pair}
 
 -- The output holds the bytes of some fields, and after them what it held at first.
@@ -74,18 +74,18 @@ unfolding field-bits
 values-bits [] = refl
 values-bits (v ∷ vs) = length-append (bits 4 v) _ ∙ rw (bits-length 4 v, values-bits vs) (omega arith)
 
-pub card-bits : (vs : List ℕ) (i : ℕ) → i ≤ length vs → length (field-bits (card-upto vs i)) ≡ card-width i
+pub card-bits : (vs : List ℕ) (i : ℕ) → i ≤ length vs → length (field-bits (card-upto vs i)) ≡ card-bits i
 unfolding field-bits
 card-bits vs i h = length-append (bits 6 (length vs)) _ ∙ rw (bits-length 6 (length vs), values-bits (take i vs), length-take-le i vs h)
 
-pub card-bytes-length : (vs : List ℕ) → length (card-bytes vs) ≡ byte-count (card-width (length vs))
+pub card-bytes-length : (vs : List ℕ) → length (card-bytes vs) ≡ byte-count (card-bits (length vs))
 unfolding card-bytes card-fields field-bits
 card-bytes-length vs = front-length (card-fields vs) ∙ rw (length-append (bits 6 (length vs)) (field-bits (map (field 4) vs)), bits-length 6 (length vs), values-bits vs)
 
 pub card-next : (vs : List ℕ) (i : ℕ) → i < length vs → card-upto vs (i + 1) ≡ card-upto vs i ++ field 4 (getD vs i 0) ∷ []
 card-next vs i h = rw (add-one i, take-suc vs i 0 h) (ap (λ fs. field 6 (length vs) ∷ fs) (map-append (field 4) (take i vs) (getD vs i 0 ∷ [])))
 
-pub card-all : (vs : List ℕ) (first out : List ℕ) (i : ℕ) → length vs ≤ i → Written (card-upto vs i) first out → out ≡ card-bytes vs ++ drop (byte-count (card-width (length vs))) first
+pub card-all : (vs : List ℕ) (first out : List ℕ) (i : ℕ) → length vs ≤ i → Written (card-upto vs i) first out → out ≡ card-bytes vs ++ drop (byte-count (card-bits (length vs))) first
 unfolding card-bytes card-fields
 card-all vs first out i h e =
     let t = take-all i vs h in
@@ -102,11 +102,11 @@ changes-bits [] = refl
 changes-bits (p ∷ ps) =
     length-append (bits 5 (p .slot)) _ ∙ rw (bits-length 5 (p .slot), length-append (bits 4 (p .value)) (field-bits (change-fields ps)), bits-length 4 (p .value), changes-bits ps) (omega arith)
 
-pub slip-bits : (ps : List Pair) (i : ℕ) → i ≤ length ps → length (field-bits (slip-upto ps i)) ≡ slip-width i
+pub slip-bits : (ps : List Pair) (i : ℕ) → i ≤ length ps → length (field-bits (slip-upto ps i)) ≡ slip-bits i
 unfolding field-bits
 slip-bits ps i h = length-append (bits 6 (length ps)) _ ∙ rw (bits-length 6 (length ps), changes-bits (take i ps), length-take-le i ps h)
 
-pub slip-bytes-length : (ps : List Pair) → length (slip-bytes ps) ≡ byte-count (slip-width (length ps))
+pub slip-bytes-length : (ps : List Pair) → length (slip-bytes ps) ≡ byte-count (slip-bits (length ps))
 unfolding slip-bytes slip-fields field-bits
 slip-bytes-length ps = front-length (slip-fields ps) ∙ rw (length-append (bits 6 (length ps)) (field-bits (change-fields ps)), bits-length 6 (length ps), changes-bits ps)
 
@@ -118,7 +118,7 @@ changes-append (q ∷ ps) p = ap (λ fs. field 5 (q .slot) ∷ field 4 (q .value
 pub slip-next : (ps : List Pair) (i : ℕ) → i < length ps → slip-upto ps (i + 1) ≡ slip-upto ps i ++ field 5 (getD ps i no-pair .slot) ∷ [] ++ field 4 (getD ps i no-pair .value) ∷ []
 slip-next ps i h = rw (add-one i, take-suc ps i no-pair h) (ap (λ fs. field 6 (length ps) ∷ fs) (changes-append (take i ps) (getD ps i no-pair)))
 
-pub slip-all : (ps : List Pair) (first out : List ℕ) (i : ℕ) → length ps ≤ i → Written (slip-upto ps i) first out → out ≡ slip-bytes ps ++ drop (byte-count (slip-width (length ps))) first
+pub slip-all : (ps : List Pair) (first out : List ℕ) (i : ℕ) → length ps ≤ i → Written (slip-upto ps i) first out → out ≡ slip-bytes ps ++ drop (byte-count (slip-bits (length ps))) first
 unfolding slip-bytes slip-fields
 slip-all ps first out i h e =
     let t = take-all i ps h in

@@ -7,11 +7,11 @@ pub data Verdict : Type 0 where
   fault : ℕ → ℕ → Verdict
 
 -- What is taken of bytes that are unpacked, or of a form that is packed; or a refusal with both its numbers.
-pub data Taking (A : Type 0) : Type 0 where
-  taken : A → Taking A
-  refused : ℕ → ℕ → Taking A
+pub data OrRefused (A : Type 0) : Type 0 where
+  taken : A → OrRefused A
+  refused : ℕ → ℕ → OrRefused A
 
 -- What comes after a test: where it is not passed, its refusal.
-unfoldable pub after : {A : Type 0} → Verdict → Taking A → Taking A
+unfoldable pub after : {A : Type 0} → Verdict → OrRefused A → OrRefused A
 after passed u = u
 after (fault k s) u = refused k s

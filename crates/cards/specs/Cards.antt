@@ -20,7 +20,7 @@ use Rattle.cards.specs.declared.CardRead.{CardRead}
 use Rattle.cards.specs.declared.SlipRead.{SlipRead}
 use Rattle.cards.specs.declared.Packing.{Packing}
 use Rattle.cards.specs.declared.Packing.the-variants as packing
-use Rattle.cards.specs.Answers.{Verdict, passed, fault, Taking, taken, refused}
+use Rattle.cards.specs.Answers.{Verdict, passed, fault, OrRefused, taken, refused}
 use Rattle.cards.specs.Forms.{read-card, read-slip, write-card, write-slip}
 
 -- How many values each of the first n slots has, by an array.
@@ -73,29 +73,29 @@ abbrev pub no-slip : Slip
 no-slip = record { changes = replicate slot-limit no-change; count = 0 }
 
 -- 31 before all else.
-unfoldable pub if-sound : {A : Type 0} → Table → Taking A → Taking A
+unfoldable pub if-sound : {A : Type 0} → Table → OrRefused A → OrRefused A
 if-sound t u = cond (sound t) u (refused 31 0)
 
 -- Unpacking a card and a slip.
-unfoldable pub unpacked-card : Table → List ℕ → Taking (List ℕ)
+unfoldable pub unpacked-card : Table → List ℕ → OrRefused (List ℕ)
 unpacked-card t ys = if-sound t (read-card (value-counts t) ys)
 
-unfoldable pub unpacked-slip : Table → List ℕ → Taking (List Pair)
+unfoldable pub unpacked-slip : Table → List ℕ → OrRefused (List Pair)
 unpacked-slip t ys = if-sound t (read-slip (value-counts t) ys)
 
 -- Packing a card and a slip into so much room.
-unfoldable pub packed-card : Table → Card → ℕ → Taking (List ℕ)
+unfoldable pub packed-card : Table → Card → ℕ → OrRefused (List ℕ)
 packed-card t c room = if-sound t (write-card (value-counts t) (values-of c) room)
 
-unfoldable pub packed-slip : Table → Slip → ℕ → Taking (List ℕ)
+unfoldable pub packed-slip : Table → Slip → ℕ → OrRefused (List ℕ)
 packed-slip t s room = if-sound t (write-slip (value-counts t) (changes-of s) room)
 
 -- What the code answers to bytes unpacked as a card, and as a slip.
-unfoldable pub card-read : Taking (List ℕ) → CardRead
+unfoldable pub card-read : OrRefused (List ℕ) → CardRead
 card-read (taken vs) = record { outcome = outcome.Accepted; card = card-of vs }
 card-read (refused k s) = record { outcome = outcome.Refused k s; card = no-card }
 
-unfoldable pub slip-read : Taking (List Pair) → SlipRead
+unfoldable pub slip-read : OrRefused (List Pair) → SlipRead
 slip-read (taken ps) = record { outcome = outcome.Accepted; slip = slip-of ps }
 slip-read (refused k s) = record { outcome = outcome.Refused k s; slip = no-slip }
 
@@ -105,12 +105,12 @@ outcome-of passed = outcome.Accepted
 outcome-of (fault k s) = outcome.Refused k s
 
 -- What the code answers to a form that is packed: how many bytes it takes.
-unfoldable pub packing-of : Taking (List ℕ) → Packing
+unfoldable pub packing-of : OrRefused (List ℕ) → Packing
 packing-of (taken ys) = packing.Packed (length ys)
 packing-of (refused k s) = packing.Refused k s
 
 -- The output after a packing: the packed bytes, then what was there; a refusal leaves all.
-unfoldable pub output-of : Taking (List ℕ) → List ℕ → List ℕ
+unfoldable pub output-of : OrRefused (List ℕ) → List ℕ → List ℕ
 output-of (taken ys) out = ys ++ drop (length ys) out
 output-of (refused k s) out = out
 

@@ -9,7 +9,7 @@ use Rattle.laws.specs.Tabulated.{tabulate}
 use Rattle.laws.specs.Packed.{Field, field, byte-count, pack-fields, field-at}
 use Rattle.model.specs.Rules.{Pair}
 use Rattle.model.specs.Result.{pair}
-use Rattle.cards.specs.Answers.{Verdict, passed, fault, Taking, taken, refused, after}
+use Rattle.cards.specs.Answers.{Verdict, passed, fault, OrRefused, taken, refused, after}
 
 -- A card: 6 bits, the slot count; then for each slot a field of 4 bits, 0 for no value, k for the k-th declared value.
 unfoldable pub card-fields : List ℕ → List Field
@@ -25,11 +25,11 @@ unfoldable pub slip-fields : List Pair → List Field
 slip-fields ps = field 6 (length ps) ∷ change-fields ps
 
 -- The bits of a card of n slots, and of a slip of m changes.
-abbrev pub card-width : ℕ → ℕ
-card-width n = 6 + 4 * n
+abbrev pub card-bits : ℕ → ℕ
+card-bits n = 6 + 4 * n
 
-abbrev pub slip-width : ℕ → ℕ
-slip-width m = 6 + 9 * m
+abbrev pub slip-bits : ℕ → ℕ
+slip-bits m = 6 + 9 * m
 
 -- The bytes of a card and of a slip.
 unfoldable pub card-bytes : List ℕ → List ℕ
@@ -80,25 +80,25 @@ abbrev pub slip-test : List ℕ → List Pair → Verdict
 slip-test counts ps = changes-test counts 0 0 ps
 
 -- Unpacking a card: 20 where its length is not that of its own count (so where it is empty, for that counts 0 and lacks its byte), 21, 22, and 23 where the padding is not zero.
-unfoldable pub read-card : List ℕ → List ℕ → Taking (List ℕ)
+unfoldable pub read-card : List ℕ → List ℕ → OrRefused (List ℕ)
 read-card counts ys =
-    cond (eqb (length ys) (byte-count (card-width (count-in ys))))
-    (after (card-test counts (values-in ys)) (cond (eqb (padding ys (card-width (count-in ys))) 0) (taken (values-in ys)) (refused 23 0)))
+    cond (eqb (length ys) (byte-count (card-bits (count-in ys))))
+    (after (card-test counts (values-in ys)) (cond (eqb (padding ys (card-bits (count-in ys))) 0) (taken (values-in ys)) (refused 23 0)))
     (refused 20 0)
 
 -- Unpacking a slip: 24 as 20 for a card; the first faulty change by 25, 26, 27; and 28 where the padding is not zero.
-unfoldable pub read-slip : List ℕ → List ℕ → Taking (List Pair)
+unfoldable pub read-slip : List ℕ → List ℕ → OrRefused (List Pair)
 read-slip counts ys =
-    cond (eqb (length ys) (byte-count (slip-width (count-in ys))))
-    (after (slip-test counts (changes-in ys)) (cond (eqb (padding ys (slip-width (count-in ys))) 0) (taken (changes-in ys)) (refused 28 0)))
+    cond (eqb (length ys) (byte-count (slip-bits (count-in ys))))
+    (after (slip-test counts (changes-in ys)) (cond (eqb (padding ys (slip-bits (count-in ys))) 0) (taken (changes-in ys)) (refused 28 0)))
     (refused 24 0)
 
 -- Packing a card into so much room: 21, 22, and 30 with 1 where the room is under the packed length.
-unfoldable pub write-card : List ℕ → List ℕ → ℕ → Taking (List ℕ)
-write-card counts vs room = after (card-test counts vs) (cond (ltb room (byte-count (card-width (length vs)))) (refused 30 1) (taken (card-bytes vs)))
+unfoldable pub write-card : List ℕ → List ℕ → ℕ → OrRefused (List ℕ)
+write-card counts vs room = after (card-test counts vs) (cond (ltb room (byte-count (card-bits (length vs)))) (refused 30 1) (taken (card-bytes vs)))
 
 -- Packing a slip: 24 where it has over 32 changes, 25 to 27, and 30 with 2.
-unfoldable pub write-slip : List ℕ → List Pair → ℕ → Taking (List ℕ)
+unfoldable pub write-slip : List ℕ → List Pair → ℕ → OrRefused (List ℕ)
 write-slip counts ps room =
     cond (ltb 32 (length ps)) (refused 24 0)
-    (after (slip-test counts ps) (cond (ltb room (byte-count (slip-width (length ps)))) (refused 30 2) (taken (slip-bytes ps))))
+    (after (slip-test counts ps) (cond (ltb room (byte-count (slip-bits (length ps)))) (refused 30 2) (taken (slip-bytes ps))))

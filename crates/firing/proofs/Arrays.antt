@@ -18,7 +18,7 @@ use Rattle.model.specs.Orders.{rule-at, names, changes}
 use Rattle.model.specs.Strata.{strict}
 use Rattle.model.specs.Response.{response}
 use Rattle.model.proofs.Changes.{cause}
-use Rattle.model.proofs.Orders.{outcome-e}
+use Rattle.model.proofs.Orders.{whole-e}
 use Rattle.model.proofs.Orders as orders
 use Rattle.table.specs.declared.Table.{Table}
 use Rattle.table.specs.Limits.{row, pair-places}
@@ -28,7 +28,7 @@ use Rattle.table.specs.Flat.{Placed, place-of, pair-at, set-of, flags-of, pairs
 use Rattle.table.proofs.Flat.{pairs-of-set, placed-inside}
 use Rattle.table.proofs.Fits.{assigned-placed, fits-at}
 use Rattle.firing.specs.Firing.{Fireable, fired-in, firing-of}
-use Rattle.firing.proofs.Responses.{fires-outcome}
+use Rattle.firing.proofs.Responses.{fires-whole}
 
 -- The pair that stands where a pair has its place is that pair.
 at-its-place : (p : Pair) → p .value < row → pair-at (place-of p) ≡ p
@@ -76,7 +76,7 @@ fired-changes t f sh S slip l = flags-stand _ placed
 
     assigned : (n : ℕ) (p : Pair) → T (names ns n) → T (among p (rule-at (rules-of t) n .assignments)) → Placed (p .slot) (p .value)
     assigned n p u a =
-        let w = fits-at t (f .fits) sh n (orders.rules-of (rules-of t) S (pairs-of slip) ns (outcome-e (rules-of t) S (pairs-of slip) ns (fires-outcome t f S slip)) n u) in
+        let w = fits-at t (f .fits) sh n (orders.rules-of (rules-of t) S (pairs-of slip) ns (whole-e (rules-of t) S (pairs-of slip) ns (fires-whole t f S slip)) n u) in
         assigned-placed (w .0) p (w .1) (rw (w .2) at a)
 
     placed : (p : Pair) → T (changes (rules-of t) (pairs-of slip) ns p) → Placed (p .slot) (p .value)

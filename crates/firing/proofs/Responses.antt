@@ -9,17 +9,17 @@ use native.Mathlib.Omega.{arith}
 use lib.Dec.{T}
 use lib.ListN.{replicate, length-replicate}
 use Rattle.laws.specs.Truth.{_∨ᵇ_}
-use Rattle.laws.specs.Numbers.{tally}
+use Rattle.laws.specs.Numbers.{how-many}
 use Rattle.laws.specs.Tabulated.{tabulate}
 use Rattle.laws.proofs.Truth.{bool-ext, or-l, or-e}
 use Rattle.laws.proofs.Tabulated.{tabulate-at}
 use Rattle.model.specs.Rules.{Pair, among}
-use Rattle.model.specs.Orders.{names, changes, outcome}
+use Rattle.model.specs.Orders.{names, changes, whole-order}
 use Rattle.model.specs.Strata.{strict}
 use Rattle.model.specs.Circles.{circle-of}
 use Rattle.model.specs.Response.{response}
 use Rattle.model.proofs.Alike.{SameCard, SamePairs, response-alike, response-changes-alike}
-use Rattle.model.proofs.Demand3.{any-strata, response-is-outcome, demand-3}
+use Rattle.model.proofs.Demand3.{any-strata, response-is-whole, demand-3}
 use Rattle.model.proofs.Strata.{no-circle}
 use Rattle.table.specs.declared.Table.{Table}
 use Rattle.table.specs.Limits.{rule-limit, pair-places}
@@ -49,11 +49,11 @@ module _ (t : Table) (f : Fireable t) (S : List ℕ) (slip : List Bool) where
   no-circles = no-circle strict (rules-of t) (stratum-at t) (f .strata)
 
   -- The rules that it fires, in the order fired, are a complete and consistent firing order.
-  pub fires-outcome : T (outcome (rules-of t) S (pairs-of slip) (response strict (rules-of t) S (pairs-of slip)))
-  fires-outcome = response-is-outcome strict (rules-of t) S (pairs-of slip) no-circles
+  pub fires-whole : T (whole-order (rules-of t) S (pairs-of slip) (response strict (rules-of t) S (pairs-of slip)))
+  fires-whole = response-is-whole strict (rules-of t) S (pairs-of slip) no-circles
 
   -- The one bits of its record are as many as the rules fired.
-  pub fired-count : t .count ≤ rule-limit → ones-in (flag-record (firing-of t S slip .fired) (t .count)) ≡ tally (names (response strict (rules-of t) S (pairs-of slip))) (t .count)
+  pub fired-count : t .count ≤ rule-limit → ones-in (flag-record (firing-of t S slip .fired) (t .count)) ≡ how-many (names (response strict (rules-of t) S (pairs-of slip))) (t .count)
   unfolding firing-of fired-in
   fired-count few =
       record-ones _ (t .count) (names (response strict (rules-of t) S (pairs-of slip)))

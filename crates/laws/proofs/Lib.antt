@@ -17,4 +17,4 @@ pub mod Fields
 pub mod Put
 pub mod Counted
 pub mod Fronts
-pub mod Tallied
+pub mod HowMany

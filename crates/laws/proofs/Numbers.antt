@@ -8,7 +8,7 @@ use mathlib.Core.Bool.{Bool, true, false, cond}
 use mathlib.Core.Logic.{_⊎_, inl, inr, ⊎-elim}
 use lib.Dec.{T}
 use Rattle.laws.specs.Truth.{_∨ᵇ_, notᵇ}
-use Rattle.laws.specs.Numbers.{Numbered, some-of, first-of, tally, total}
+use Rattle.laws.specs.Numbers.{Numbered, some-of, first-of, how-many, total}
 use Rattle.laws.proofs.Truth.{or-l, or-r, or-e, not-e}
 
 pub some-i : (f : ℕ → Bool) (k i : ℕ) → Numbered k i → T (f i) → T (some-of f k)
@@ -68,36 +68,36 @@ one-zero : (a : Bool) → _≡_ {A = ℕ} (cond a 1 0) 0 → T a → ⊥
 one-zero true e h = omega arith
 one-zero false e h = h
 
-pub tally-top : (f : ℕ → Bool) (k : ℕ) → tally f k ≤ k
-unfolding tally
-tally-top f zero = omega arith
-tally-top f (suc k) = omega (arith, one-top (f (suc k)), tally-top f k)
+pub how-many-top : (f : ℕ → Bool) (k : ℕ) → how-many f k ≤ k
+unfolding how-many
+how-many-top f zero = omega arith
+how-many-top f (suc k) = omega (arith, one-top (f (suc k)), how-many-top f k)
 
-pub tally-le : (f g : ℕ → Bool) (k : ℕ) → ((i : ℕ) → 1 ≤ i → i ≤ k → T (f i) → T (g i)) → tally f k ≤ tally g k
-unfolding tally
-tally-le f g zero h = omega arith
-tally-le f g (suc k) h =
-    omega (arith, one-le (f (suc k)) (g (suc k)) (h (suc k) (omega arith) (omega arith)), tally-le f g k (λ i lo hi. h i lo (omega arith)))
+pub how-many-le : (f g : ℕ → Bool) (k : ℕ) → ((i : ℕ) → 1 ≤ i → i ≤ k → T (f i) → T (g i)) → how-many f k ≤ how-many g k
+unfolding how-many
+how-many-le f g zero h = omega arith
+how-many-le f g (suc k) h =
+    omega (arith, one-le (f (suc k)) (g (suc k)) (h (suc k) (omega arith) (omega arith)), how-many-le f g k (λ i lo hi. h i lo (omega arith)))
 
-pub tally-lt : (f g : ℕ → Bool) (k : ℕ) → ((i : ℕ) → 1 ≤ i → i ≤ k → T (f i) → T (g i))
-    → (j : ℕ) → 1 ≤ j → j ≤ k → T (notᵇ (f j)) → T (g j) → tally f k < tally g k
-unfolding tally
-tally-lt f g zero h j lo hi n y = absurd (omega arith)
-tally-lt f g (suc k) h j lo hi n y =
+pub how-many-lt : (f g : ℕ → Bool) (k : ℕ) → ((i : ℕ) → 1 ≤ i → i ≤ k → T (f i) → T (g i))
+    → (j : ℕ) → 1 ≤ j → j ≤ k → T (notᵇ (f j)) → T (g j) → how-many f k < how-many g k
+unfolding how-many
+how-many-lt f g zero h j lo hi n y = absurd (omega arith)
+how-many-lt f g (suc k) h j lo hi n y =
     ⊎-elim
-    (λ (e : j ≡ suc k). omega (arith, one-lt (f (suc k)) (g (suc k)) (rw e at n) (rw e at y), tally-le f g k (λ i lo hi. h i lo (omega arith))))
+    (λ (e : j ≡ suc k). omega (arith, one-lt (f (suc k)) (g (suc k)) (rw e at n) (rw e at y), how-many-le f g k (λ i lo hi. h i lo (omega arith))))
     (λ (l : j < suc k). omega (
       arith,
       one-le (f (suc k)) (g (suc k)) (h (suc k) (omega arith) (omega arith)),
-      tally-lt f g k (λ i lo hi. h i lo (omega arith)) j lo (omega arith) n y,
+      how-many-lt f g k (λ i lo hi. h i lo (omega arith)) j lo (omega arith) n y,
     ))
     (eq-or-lt-of-le hi)
 
-pub tally-zero : (f : ℕ → Bool) (k : ℕ) → tally f k ≡ 0 → (i : ℕ) → 1 ≤ i → i ≤ k → T (f i) → ⊥
-unfolding tally
-tally-zero f zero e i lo hi t = omega arith
-tally-zero f (suc k) e i lo hi t =
-    ⊎-elim (λ (q : i ≡ suc k). one-zero (f (suc k)) (omega arith) (rw q at t)) (λ (l : i < suc k). tally-zero f k (omega arith) i lo (omega arith) t) (eq-or-lt-of-le hi)
+pub how-many-zero : (f : ℕ → Bool) (k : ℕ) → how-many f k ≡ 0 → (i : ℕ) → 1 ≤ i → i ≤ k → T (f i) → ⊥
+unfolding how-many
+how-many-zero f zero e i lo hi t = omega arith
+how-many-zero f (suc k) e i lo hi t =
+    ⊎-elim (λ (q : i ≡ suc k). one-zero (f (suc k)) (omega arith) (rw q at t)) (λ (l : i < suc k). how-many-zero f k (omega arith) i lo (omega arith) t) (eq-or-lt-of-le hi)
 
 pub total-le : (f g : ℕ → ℕ) (k : ℕ) → ((i : ℕ) → 1 ≤ i → i ≤ k → f i ≤ g i) → total f k ≤ total g k
 unfolding total

@@ -19,9 +19,9 @@ first-of f zero = 0
 first-of f (suc k) = cond (some-of f k) (first-of f k) (cond (f (suc k)) (suc k) 0)
 
 -- How many of the numbers 1 to k pass.
-unfoldable pub tally : (ℕ → Bool) → ℕ → ℕ
-tally f zero = 0
-tally f (suc k) = cond (f (suc k)) 1 0 + tally f k
+unfoldable pub how-many : (ℕ → Bool) → ℕ → ℕ
+how-many f zero = 0
+how-many f (suc k) = cond (f (suc k)) 1 0 + how-many f k
 
 -- The sum over 1 to k.
 unfoldable pub total : (ℕ → ℕ) → ℕ → ℕ

@@ -13,7 +13,7 @@ use Rattle.table.specs.declared.Table.{Table}
 use Rattle.table.specs.Shape.{no-name, no-slot}
 use Rattle.table.specs.Names.{Showing, refused, has-slot, has-value, show-name, show-slot, show-value-of, show-value}
 use Rattle.library.specs.declared.RlName.{RlName}
-use Rattle.library.specs.Places.{nowhere, name-place, slot-place, value-place-in, value-place, Shows}
+use Rattle.library.specs.Places.{nowhere, name-place, slot-place, value-place-in, value-place, ShowsPart}
 
 -- A name that stands inside the text.
 pub place-inside : (n : ℕ) (x : Name) → x .start + x .size ≤ n → name-place n x ≡ record { number = 0; start = x .start; size = x .size }
@@ -26,43 +26,43 @@ unfolding name-place
 place-outside n x h = rw (lt-leb (x .start + x .size) n h)
 
 -- The place of a name is that of the stretch shown.
-pub name-place-shows : (text : List ℕ) (x : Name) → Shows text (name-place (length text) x) (show-name text x)
+pub name-place-shows : (text : List ℕ) (x : Name) → ShowsPart text (name-place (length text) x) (show-name text x)
 unfolding name-place show-name
 name-place-shows text x = by (leb (x .start + x .size) (length text)) where
-  by : (b : Bool) → Shows text (cond b (record { number = 0; start = x .start; size = x .size }) nowhere) (cond b (record { code = 0; part = take (x .size) (drop (x .start) text) }) refused)
+  by : (b : Bool) → ShowsPart text (cond b (record { number = 0; start = x .start; size = x .size }) nowhere) (cond b (record { code = 0; part = take (x .size) (drop (x .start) text) }) refused)
   by true = (refl, refl)
   by false = (refl, refl)
 
 -- The same for a slot's name.
-pub slot-place-shows : (text : List ℕ) (t : Table) (slot : ℕ) → Shows text (slot-place (length text) t slot) (show-slot text t slot)
+pub slot-place-shows : (text : List ℕ) (t : Table) (slot : ℕ) → ShowsPart text (slot-place (length text) t slot) (show-slot text t slot)
 unfolding slot-place show-slot
 slot-place-shows text t slot = by (has-slot (t .width) slot) where
   name : Name
   name = getD (t .slots) slot no-slot .name
 
-  by : (b : Bool) → Shows text (cond b (name-place (length text) name) nowhere) (cond b (show-name text name) refused)
+  by : (b : Bool) → ShowsPart text (cond b (name-place (length text) name) nowhere) (cond b (show-name text name) refused)
   by true = name-place-shows text name
   by false = (refl, refl)
 
 -- The same for the name of a value of a slot.
-pub value-of-place-shows : (text : List ℕ) (s : Slot) (value : ℕ) → Shows text (value-place-in (length text) s value) (show-value-of text s value)
+pub value-of-place-shows : (text : List ℕ) (s : Slot) (value : ℕ) → ShowsPart text (value-place-in (length text) s value) (show-value-of text s value)
 unfolding value-place-in show-value-of
 value-of-place-shows text s value = by (has-value (s .count) value) where
   name : Name
   name = getD (s .values) (value - 1) no-name
 
-  by : (b : Bool) → Shows text (cond b (name-place (length text) name) nowhere) (cond b (show-name text name) refused)
+  by : (b : Bool) → ShowsPart text (cond b (name-place (length text) name) nowhere) (cond b (show-name text name) refused)
   by true = name-place-shows text name
   by false = (refl, refl)
 
 -- The same for a value's name.
-pub value-place-shows : (text : List ℕ) (t : Table) (slot value : ℕ) → Shows text (value-place (length text) t slot value) (show-value text t slot value)
+pub value-place-shows : (text : List ℕ) (t : Table) (slot value : ℕ) → ShowsPart text (value-place (length text) t slot value) (show-value text t slot value)
 unfolding value-place show-value
 value-place-shows text t slot value = by (has-slot (t .width) slot) where
   s : Slot
   s = getD (t .slots) slot no-slot
 
-  by : (b : Bool) → Shows text (cond b (value-place-in (length text) s value) nowhere) (cond b (show-value-of text s value) refused)
+  by : (b : Bool) → ShowsPart text (cond b (value-place-in (length text) s value) nowhere) (cond b (show-value-of text s value) refused)
   by true = value-of-place-shows text s value
   by false = (refl, refl)
 
@@ -89,11 +89,11 @@ unfolding value-place value-place-in
 value-lacking n t slot value e h = rw (e, h)
 
 -- A result that is the place of a name shows it.
-shows-by : (text : List ℕ) (r q : RlName) (s : Showing) → r ≡ q → Shows text q s → (r ≡ q) × Shows text r s
+shows-by : (text : List ℕ) (r q : RlName) (s : Showing) → r ≡ q → ShowsPart text q s → (r ≡ q) × ShowsPart text r s
 shows-by text r q s e h = (e, (ap (λ (x : RlName). x .number) e ∙ h .0, ap (λ (x : RlName). take (x .size) (drop (x .start) text)) e ∙ h .1))
 
-pub slot-shown : (text : List ℕ) (t : Table) (slot : ℕ) (r : RlName) → r ≡ slot-place (length text) t slot → (r ≡ slot-place (length text) t slot) × Shows text r (show-slot text t slot)
+pub slot-shown : (text : List ℕ) (t : Table) (slot : ℕ) (r : RlName) → r ≡ slot-place (length text) t slot → (r ≡ slot-place (length text) t slot) × ShowsPart text r (show-slot text t slot)
 slot-shown text t slot r e = shows-by text r _ _ e (slot-place-shows text t slot)
 
-pub value-shown : (text : List ℕ) (t : Table) (slot value : ℕ) (r : RlName) → r ≡ value-place (length text) t slot value → (r ≡ value-place (length text) t slot value) × Shows text r (show-value text t slot value)
+pub value-shown : (text : List ℕ) (t : Table) (slot value : ℕ) (r : RlName) → r ≡ value-place (length text) t slot value → (r ≡ value-place (length text) t slot value) × ShowsPart text r (show-value text t slot value)
 value-shown text t slot value r e = shows-by text r _ _ e (value-place-shows text t slot value)

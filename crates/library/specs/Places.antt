@@ -33,5 +33,5 @@ unfoldable pub value-place : ℕ → Table → ℕ → ℕ → RlName
 value-place length t slot value = cond (has-slot (t .width) slot) (value-place-in length (getD (t .slots) slot no-slot) value) nowhere
 
 -- A place shows what is to be shown of a text: the same number, and its stretch of the text is the part.
-abbrev pub Shows : List ℕ → RlName → Showing → Type 0
-Shows text r s = (r .number ≡ s .code) × (take (r .size) (drop (r .start) text) ≡ s .part)
+abbrev pub ShowsPart : List ℕ → RlName → Showing → Type 0
+ShowsPart text r s = (r .number ≡ s .code) × (take (r .size) (drop (r .start) text) ≡ s .part)

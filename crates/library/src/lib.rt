@@ -5,9 +5,9 @@ ghost use Rattle.table.specs.Names.{show-slot, show-value};
 ghost use Rattle.soundness.specs.Sound.{sound};
 ghost use Rattle.rule_file.specs.Whole.{reading};
 ghost use Rattle.cards.specs.Cards.{unpacked-card, unpacked-slip, packed-card, packed-slip, card-read, slip-read, packing-of, output-of};
-ghost use Rattle.response.specs.Respond.{rooms-of, outputs, outputs-after, respond-to, response-to};
+ghost use Rattle.response.specs.Respond.{rooms-of, outputs, outputs-after, answer-to, response-to};
 ghost use Rattle.library.specs.Results.{read-result, card-result, slip-result, packing-result, numbered, response-result};
-ghost use Rattle.library.specs.Places.{name-place, slot-place, value-place, Shows};
+ghost use Rattle.library.specs.Places.{name-place, slot-place, value-place, ShowsPart};
 use cards::Card;
 use cards::Packing;
 use cards::Slip;
@@ -125,7 +125,7 @@ fn place_of(length: usize, name: Name) -> RlName
 // Where a slot's name stands in the text, or 31.
 #[no_mangle]
 pub extern "C" fn rl_slot_name(text: &[u8], t: Table, slot: usize) -> RlName
-    ensures { λ r. ⌜ (r ≡ slot-place (length (now (text .entry))) t slot) × Shows (now (text .entry)) r (show-slot (now (text .entry)) t slot) ⌝ }
+    ensures { λ r. ⌜ (r ≡ slot-place (length (now (text .entry))) t slot) × ShowsPart (now (text .entry)) r (show-slot (now (text .entry)) t slot) ⌝ }
 {
     let width = t.width;
     if !table::has_slot(width, slot) {
@@ -143,7 +143,7 @@ pub extern "C" fn rl_slot_name(text: &[u8], t: Table, slot: usize) -> RlName
 // Where the name of a value of a slot stands in the text, values counted from 1, or 31.
 #[no_mangle]
 pub extern "C" fn rl_value_name(text: &[u8], t: Table, slot: usize, value: usize) -> RlName
-    ensures { λ r. ⌜ (r ≡ value-place (length (now (text .entry))) t slot value) × Shows (now (text .entry)) r (show-value (now (text .entry)) t slot value) ⌝ }
+    ensures { λ r. ⌜ (r ≡ value-place (length (now (text .entry))) t slot value) × ShowsPart (now (text .entry)) r (show-value (now (text .entry)) t slot value) ⌝ }
 {
     let width = t.width;
     if !table::has_slot(width, slot) {
@@ -300,7 +300,7 @@ pub extern "C" fn rl_respond(
 ) -> RlResponse
     ensures { λ r. ⌜ (r ≡ response-result (response-to t tally (now (card .entry)) (now (slip .entry)) (rooms-of (now (renewed .entry)) (now (changes .entry)) (now (fired .entry)))))
         × (outputs (now (renewed .exit)) (now (changes .exit)) (now (fired .exit))
-        ≡ outputs-after (respond-to t tally (now (card .entry)) (now (slip .entry)) (rooms-of (now (renewed .entry)) (now (changes .entry)) (now (fired .entry)))) (outputs (now (renewed .entry)) (now (changes .entry)) (now (fired .entry)))) ⌝ }
+        ≡ outputs-after (answer-to t tally (now (card .entry)) (now (slip .entry)) (rooms-of (now (renewed .entry)) (now (changes .entry)) (now (fired .entry)))) (outputs (now (renewed .entry)) (now (changes .entry)) (now (fired .entry)))) ⌝ }
 {
     let response = response::respond(t, tally, card, slip, renewed, changes, fired);
     let outcome = response.outcome;

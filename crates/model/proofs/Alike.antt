@@ -9,7 +9,7 @@ use Rattle.laws.specs.Numbers.{some-of}
 use Rattle.laws.specs.Filled.{filled}
 use Rattle.laws.proofs.Fronts.{filled-at}
 use Rattle.model.specs.Rules.{Pair, Pairs, Literal, Rule, among, was, became, test, holds, all-hold, enabled}
-use Rattle.model.specs.Orders.{rule-at, each, changes, ready, can-fire, firing-order, complete, consistent, outcome}
+use Rattle.model.specs.Orders.{rule-at, each, changes, ready, can-fire, firing-order, complete, consistent, whole-order}
 use Rattle.model.specs.Strata.{Grading}
 use Rattle.model.specs.Least.{strata-of}
 use Rattle.model.specs.Response.{next-of, fire-then, fire-on, response-by, response}

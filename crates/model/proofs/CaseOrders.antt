@@ -6,7 +6,7 @@ use mathlib.Core.Bool.{true, false}
 use mathlib.Core.List.{List, [], _∷_, map}
 use lib.ListN.{getD}
 use Rattle.model.specs.Rules.{Pair, Rule}
-use Rattle.model.specs.Orders.{changes, firing-order, complete, consistent, outcome}
+use Rattle.model.specs.Orders.{changes, firing-order, complete, consistent, whole-order}
 use Rattle.model.specs.Strata.{strict}
 use Rattle.model.specs.Response.{next-of, response}
 use Rattle.model.specs.Result.{pair}
@@ -40,9 +40,9 @@ unfolding computes rules-E slip-E
 consistent-E = refl
 
 -- Only e alone is all three.
-pub outcome-E : map (outcome rules-E all-0 slip-E) lists ≡ false ∷ false ∷ true ∷ false ∷ false ∷ false ∷ false ∷ false ∷ []
+pub whole-E : map (whole-order rules-E all-0 slip-E) lists ≡ false ∷ false ∷ true ∷ false ∷ false ∷ false ∷ false ∷ false ∷ []
 unfolding computes rules-E slip-E lists
-outcome-E = refl
+whole-E = refl
 
 -- C starts at the slip, and each rule fired adds its assignments.
 pub changes-C : map (λ ns. map (changes (rule-a ∷ rule-b ∷ []) (pair x v1 ∷ []) ns) (pair x v1 ∷ pair y v1 ∷ pair z v1 ∷ pair z v0 ∷ [])) ([] ∷ (1 ∷ []) ∷ (1 ∷ 2 ∷ []) ∷ [])

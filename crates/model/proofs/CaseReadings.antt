@@ -4,7 +4,7 @@ use mathlib.Core.Path.{_≡_, refl}
 use mathlib.Core.Bool.{true, false}
 use mathlib.Core.List.{List, [], _∷_, map}
 use Rattle.model.specs.Rules.{Pair, Rule, among, became}
-use Rattle.model.specs.Orders.{changes, firing-order, complete, consistent, outcome}
+use Rattle.model.specs.Orders.{changes, firing-order, complete, consistent, whole-order}
 use Rattle.model.specs.Strata.{strict, weak}
 use Rattle.model.specs.Response.{response}
 use Rattle.model.specs.Result.{pair, conflict-slot}
@@ -26,7 +26,7 @@ unfolding computes
 card-had-it-idle = refl
 
 -- 3. Firing d before e in case E: it is a firing order and complete, but d is no longer enabled at its end.
-pub d-before-e : map (λ f. f (rule-d ∷ rule-e ∷ []) all-0 (pair y v1 ∷ []) (1 ∷ 2 ∷ [])) (firing-order ∷ complete ∷ consistent ∷ outcome ∷ [])
+pub d-before-e : map (λ f. f (rule-d ∷ rule-e ∷ []) all-0 (pair y v1 ∷ []) (1 ∷ 2 ∷ [])) (firing-order ∷ complete ∷ consistent ∷ whole-order ∷ [])
     ≡ true ∷ true ∷ false ∷ false ∷ []
 unfolding computes
 d-before-e = refl
@@ -52,7 +52,7 @@ unfolding computes two-conflicts slip-xz
 first-conflict = refl
 
 -- Both orders are complete and consistent; neither rule alone is.
-pub both-orders : map (outcome two-conflicts all-0 slip-xz) ((1 ∷ 2 ∷ []) ∷ (2 ∷ 1 ∷ []) ∷ (1 ∷ []) ∷ (2 ∷ []) ∷ []) ≡ true ∷ true ∷ false ∷ false ∷ []
+pub both-orders : map (whole-order two-conflicts all-0 slip-xz) ((1 ∷ 2 ∷ []) ∷ (2 ∷ 1 ∷ []) ∷ (1 ∷ []) ∷ (2 ∷ []) ∷ []) ≡ true ∷ true ∷ false ∷ false ∷ []
 unfolding computes two-conflicts slip-xz
 both-orders = refl
 

@@ -9,7 +9,7 @@ use Rattle.laws.specs.Below.{first-below, count-below}
 use Rattle.laws.specs.Tabulated.{tabulate}
 use lib.ListN.{length}
 use Rattle.model.specs.Rules.{Pair, Literal, Rule, same, among, was, became, test, holds, all-hold, enabled}
-use Rattle.model.specs.Orders.{no-rule, rule-at, names, each, changes, ready, can-fire, firing-order, complete, consistent, outcome}
+use Rattle.model.specs.Orders.{no-rule, rule-at, names, each, changes, ready, can-fire, firing-order, complete, consistent, whole-order}
 use Rattle.model.specs.Strata.{pairs-where, is-becomes, is-plain, is-under-not, tested, needed, barred, meet, depends, depends-plainly, depends-under-not, Grading, may-stay-level, must-fall}
 use Rattle.model.specs.Circles.{within, reach, step, behind, on-circle, circle-of}
 use Rattle.model.specs.Least.{least-above, round, strata-of}
@@ -23,7 +23,7 @@ runs-rules = tt
 
 -- What the tests of firing orders run.
 unfoldable runs-orders : Unit {0}
-unfolding some-of names each changes ready can-fire firing-order complete consistent outcome
+unfolding some-of names each changes ready can-fire firing-order complete consistent whole-order
 runs-orders = tt
 
 -- What dependence runs.

@@ -11,15 +11,15 @@ use lib.Dec.{T, ltb, ltb→lt, nltb→le}
 use lib.ListN.{length}
 use Rattle.laws.specs.Truth.{notᵇ}
 use Rattle.laws.proofs.Truth.{not-i}
-use Rattle.laws.proofs.Numbers.{tally-zero}
+use Rattle.laws.proofs.Numbers.{how-many-zero}
 use Rattle.model.specs.Rules.{Pair, Rule}
-use Rattle.model.specs.Orders.{names, changes, ready, outcome}
+use Rattle.model.specs.Orders.{names, changes, ready, whole-order}
 use Rattle.model.specs.Strata.{Grading, Strata}
 use Rattle.model.specs.Response.{lower, next-of, fire-then, fire-on, response-by}
 use Rattle.model.proofs.Changes.{names-reverse, changes-same}
 use Rattle.model.proofs.Orders.{Ready, ready-e, ready-i, Complete, unfired-count, fewer, all-unfired}
 use Rattle.model.proofs.Unique.{unique}
-use Rattle.model.proofs.Loop.{Lowest, Reached, start, fire, reached-outcome}
+use Rattle.model.proofs.Loop.{Lowest, Reached, start, fire, reached-whole}
 
 module _ (rs : List Rule) (S : List ℕ) (I : List Pair) (t : ℕ → ℕ) where
   -- The rule chosen of 1 to k: none is ready, or it is ready and none of them stands lower.
@@ -69,7 +69,7 @@ module _ (rs : List Rule) (S : List ℕ) (I : List Pair) (t : ℕ → ℕ) where
 
   ended : (k : ℕ) (done : List ℕ) → unfired-count rs done ≤ k → Reached rs S I t done → Ended done (fire-on rs S I t k done)
   unfolding fire-on Ended Complete unfired-count
-  ended zero done le re = (re, λ n r. tally-zero (λ m. notᵇ (names done m)) (length rs) (omega arith) n (r .rule .first) (r .rule .last) (not-i _ (r .unfired)))
+  ended zero done le re = (re, λ n r. how-many-zero (λ m. notᵇ (names done m)) (length rs) (omega arith) n (r .rule .first) (r .rule .last) (not-i _ (r .unfired)))
   ended (suc k) done le re =
       ended-then done (λ n. fire-on rs S I t k (n ∷ done)) re
       (λ n lo. ended k (n ∷ done) (omega (arith, fewer rs S I done n (lo .is-ready))) (fire re lo)) (next-of rs S I t done (length rs)) (next-right done)
@@ -80,15 +80,15 @@ module _ (rs : List Rule) (S : List ℕ) (I : List Pair) (t : ℕ → ℕ) where
   response-reached = ended (length rs) [] (all-unfired rs []) start
 
 -- Existence: the response by any strata is a complete and consistent firing order.
-pub response-outcome : (G : Grading) (rs : List Rule) (t : ℕ → ℕ) → Strata G rs t → (S : List ℕ) (I : List Pair) → T (outcome rs S I (response-by rs S I t))
-response-outcome G rs t s S I =
+pub response-whole : (G : Grading) (rs : List Rule) (t : ℕ → ℕ) → Strata G rs t → (S : List ℕ) (I : List Pair) → T (whole-order rs S I (response-by rs S I t))
+response-whole G rs t s S I =
     let r = response-reached rs S I t in
-    rw reverse-reverse at (reached-outcome rs S I t G s (reverse (response-by rs S I t)) (r .0) (r .1))
+    rw reverse-reverse at (reached-whole rs S I t G s (reverse (response-by rs S I t)) (r .0) (r .1))
 
 -- A loop's end: nothing is ready any more. Then it has fired what the response fires, and its C is the response's.
 pub loop-end : (G : Grading) (rs : List Rule) (t : ℕ → ℕ) → Strata G rs t → (S : List ℕ) (I : List Pair) (done : List ℕ) → Reached rs S I t done → Complete rs S I done
     → (names done ≡ names (response-by rs S I t)) × (changes rs I done ≡ changes rs I (response-by rs S I t))
 loop-end G rs t s S I done r c =
-    let u = unique G rs t s S I (reverse done) (response-by rs S I t) (reached-outcome rs S I t G s done r c) (response-outcome G rs t s S I) in
+    let u = unique G rs t s S I (reverse done) (response-by rs S I t) (reached-whole rs S I t G s done r c) (response-whole G rs t s S I) in
     let e = sym (names-reverse done) ∙ u .0 in
     (e, changes-same rs I done (response-by rs S I t) e)

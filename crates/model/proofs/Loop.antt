@@ -10,11 +10,11 @@ use lib.ListN.{length}
 use Rattle.laws.specs.Numbers.{Numbered}
 use Rattle.laws.proofs.Truth.{or-r, or-e, le-or-lt}
 use Rattle.model.specs.Rules.{Pair, Rule, enabled}
-use Rattle.model.specs.Orders.{rule-at, names, changes, firing-order, outcome}
+use Rattle.model.specs.Orders.{rule-at, names, changes, firing-order, whole-order}
 use Rattle.model.specs.Strata.{Grading, Strata}
 use Rattle.model.proofs.Changes.{names-more, names-e, names-none, names-reverse}
 use Rattle.model.proofs.Enabled.{enabled-up}
-use Rattle.model.proofs.Orders.{Ready, fire-none, fire-last, Complete, Consistent, complete-same, consistent-same, outcome-i}
+use Rattle.model.proofs.Orders.{Ready, fire-none, fire-last, Complete, Consistent, complete-same, consistent-same, whole-i}
 use Rattle.model.proofs.Gradings.{plain-no-higher, under-not-smaller}
 
 module _ (rs : List Rule) (S : List ℕ) (I : List Pair) (t : ℕ → ℕ) where
@@ -86,10 +86,10 @@ module _ (rs : List Rule) (S : List ℕ) (I : List Pair) (t : ℕ → ℕ) where
     reached-consistent r n u = (keeps r n u) .1
 
     -- Where nothing is ready any more, the rules in the order fired are a complete and consistent firing order.
-    pub reached-outcome : (done : List ℕ) → Reached done → Complete rs S I done → T (outcome rs S I (reverse done))
-    reached-outcome done r c =
+    pub reached-whole : (done : List ℕ) → Reached done → Complete rs S I done → T (whole-order rs S I (reverse done))
+    reached-whole done r c =
         let e = names-reverse done in
-        outcome-i rs S I (reverse done) (record {
+        whole-i rs S I (reverse done) (record {
           order = reached-order r;
           completes = complete-same rs S I done (reverse done) (sym e) c;
           stays-consistent = consistent-same rs S I done (reverse done) (sym e) (reached-consistent r);

@@ -7,21 +7,21 @@ use mathlib.Core.Logic.{⊎-elim}
 use lib.Dec.{T, leb→le, le→leb}
 use lib.ListN.{length}
 use Rattle.laws.specs.Truth.{notᵇ}
-use Rattle.laws.specs.Numbers.{Numbered, tally}
+use Rattle.laws.specs.Numbers.{Numbered, how-many}
 use Rattle.laws.proofs.Truth.{and-l, and-r, and-i, not-e, not-i, stable, bool-ext}
-use Rattle.laws.proofs.Numbers.{some-i, some-e, tally-top, tally-lt}
+use Rattle.laws.proofs.Numbers.{some-i, some-e, how-many-top, how-many-lt}
 use Rattle.model.specs.Rules.{Pair, Pairs, Rule, enabled}
-use Rattle.model.specs.Orders.{rule-at, names, changes, ready, can-fire, firing-order, complete, consistent, outcome}
+use Rattle.model.specs.Orders.{rule-at, names, changes, ready, can-fire, firing-order, complete, consistent, whole-order}
 use Rattle.model.proofs.Changes.{names-first, names-more, names-e, names-none, each-e, each-i, changes-same}
 
 -- How many rules are unfired: so many can still fire.
 unfoldable pub unfired-count : List Rule → List ℕ → ℕ
-unfired-count rs done = tally (λ n. notᵇ (names done n)) (length rs)
+unfired-count rs done = how-many (λ n. notᵇ (names done n)) (length rs)
 
 -- At most all rules are unfired.
 pub all-unfired : (rs : List Rule) (done : List ℕ) → unfired-count rs done ≤ length rs
 unfolding unfired-count
-all-unfired rs done = tally-top _ (length rs)
+all-unfired rs done = how-many-top _ (length rs)
 
 module _ (rs : List Rule) (S : List ℕ) (I : List Pair) where
   -- n can fire where the rules of `done` have fired.
@@ -57,7 +57,7 @@ module _ (rs : List Rule) (S : List ℕ) (I : List Pair) where
   pub fewer : (done : List ℕ) (n : ℕ) → Ready done n → unfired-count rs (n ∷ done) < unfired-count rs done
   unfolding unfired-count
   fewer done n r =
-      tally-lt _ _ (length rs) (λ i lo hi u. not-i _ (λ h. not-e _ u (names-more i n done h))) n (r .rule .first) (r .rule .last)
+      how-many-lt _ _ (length rs) (λ i lo hi u. not-i _ (λ h. not-e _ u (names-more i n done h))) n (r .rule .first) (r .rule .last)
       (not-i _ (λ h. not-e _ h (names-first n done))) (not-i _ (r .unfired))
 
   -- The first rule of a list that can fire is ready.
@@ -135,26 +135,26 @@ module _ (rs : List Rule) (S : List ℕ) (I : List Pair) where
   consistent-same a b e c n t = subst (λ (C : Pairs). T (enabled S C (rule-at rs n))) (changes-same rs I a b e) (c n (rw e t))
 
   -- A complete and consistent firing order.
-  pub record Outcome (ns : List ℕ) : Type 0 where
+  pub record WholeOrder (ns : List ℕ) : Type 0 where
     pub order : T (firing-order rs S I ns)
     pub completes : Complete ns
     pub stays-consistent : Consistent ns
 
   -- What the test `outcome` says.
-  pub outcome-e : (ns : List ℕ) → T (outcome rs S I ns) → Outcome ns
-  unfolding outcome
-  outcome-e ns t = record {
+  pub whole-e : (ns : List ℕ) → T (whole-order rs S I ns) → WholeOrder ns
+  unfolding whole-order
+  whole-e ns t = record {
     order = and-l _ _ (and-l _ _ t);
     completes = complete-e ns (and-r _ _ (and-l _ _ t));
     stays-consistent = consistent-e ns (and-r _ _ t);
   }
 
   -- And back.
-  pub outcome-i : (ns : List ℕ) → Outcome ns → T (outcome rs S I ns)
-  unfolding outcome
-  outcome-i ns o = and-i _ _ (and-i _ _ (o .order) (complete-i ns (o .completes))) (consistent-i ns (o .stays-consistent))
+  pub whole-i : (ns : List ℕ) → WholeOrder ns → T (whole-order rs S I ns)
+  unfolding whole-order
+  whole-i ns o = and-i _ _ (and-i _ _ (o .order) (complete-i ns (o .completes))) (consistent-i ns (o .stays-consistent))
 
   -- Its numbers are numbers of rules.
-  pub rules-of : (ns : List ℕ) → Outcome ns → (n : ℕ) → T (names ns n) → Numbered (length rs) n
+  pub rules-of : (ns : List ℕ) → WholeOrder ns → (n : ℕ) → T (names ns n) → Numbered (length rs) n
   unfolding firing-order
   rules-of ns o n t = are-rules [] ns (o .order) n t

@@ -8,15 +8,15 @@ use mathlib.Core.Logic.{_⊎_, inl, inr, ⊎-elim, _↔_}
 use lib.Dec.{T}
 use lib.ListN.{length}
 use Rattle.model.specs.Rules.{Pair, Rule}
-use Rattle.model.specs.Orders.{names, changes, can-fire, firing-order, complete, outcome}
+use Rattle.model.specs.Orders.{names, changes, can-fire, firing-order, complete, whole-order}
 use Rattle.model.specs.Strata.{Grading}
 use Rattle.model.specs.Circles.{circle-of}
 use Rattle.model.specs.Response.{response}
 use Rattle.model.specs.Result.{conflict-slot, Bounded}
 use Rattle.model.specs.Paper.{Firing, first-firing, fire, Fireable, NoneFireable, Follows, DeclarativeResponse, RuleConsistent, SlotConsistent, Unambiguous, Correct, firing-of, firings-from, firings}
 use Rattle.model.proofs.Changes.{names-reverse, changes-same}
-use Rattle.model.proofs.Orders.{unfired-count, all-unfired, fewer, Ready, fire-none, fire-first, fire-rest, fire-last, Complete, complete-e, complete-i, complete-same, Consistent, outcome-e, outcome-i}
-use Rattle.model.proofs.Demand3.{response-is-outcome, demand-3}
+use Rattle.model.proofs.Orders.{unfired-count, all-unfired, fewer, Ready, fire-none, fire-first, fire-rest, fire-last, Complete, complete-e, complete-i, complete-same, Consistent, whole-e, whole-i}
+use Rattle.model.proofs.Demand3.{response-is-whole, demand-3}
 use Rattle.model.proofs.Results.{no-conflict-e, no-conflict-i}
 
 module _ (rs : List Rule) (S : List ℕ) (I : List Pair) where
@@ -120,12 +120,12 @@ module _ (rs : List Rule) (S : List ℕ) (I : List Pair) where
     finite-length = ⊎-elim (λ w. (w .0, omega (arith, w .1), w .2)) (λ w. absurd (omega (arith, w .3))) (ended (suc (length rs)))
 
     -- Where it ends rule-consistent, it is a complete and consistent firing order.
-    pub declarative-outcome : (k : ℕ) → NoneFireable rs S (σ k) → RuleConsistent rs S (σ k) → (ns : List ℕ) × T (outcome rs S I ns) × (σ k ≡ firing-of rs I ns)
+    pub declarative-whole : (k : ℕ) → NoneFireable rs S (σ k) → RuleConsistent rs S (σ k) → (ns : List ℕ) × T (whole-order rs S I ns) × (σ k ≡ firing-of rs I ns)
     unfolding RuleConsistent Consistent firing-of
-    declarative-outcome k rest con =
+    declarative-whole k rest con =
         let w = declarative-order k in (
           w .0,
-          outcome-i rs S I (w .0) (record {
+          whole-i rs S I (w .0) (record {
             order = w .1;
             completes = none-complete (w .0) (subst (NoneFireable rs S) (w .2) rest);
             stays-consistent = subst (RuleConsistent rs S) (w .2) con;
@@ -137,19 +137,19 @@ module _ (G : Grading) (rs : List Rule) (S : List ℕ) (I : List Pair) (no-circl
   -- The response is a declarative response of Definition 1, and no rule is fireable after its last rule.
   pub response-declarative : DeclarativeResponse rs S I (firings rs I (response G rs S I)) × NoneFireable rs S (firing-of rs I (response G rs S I))
   response-declarative =
-      let o = outcome-e rs S I (response G rs S I) (response-is-outcome G rs S I no-circle) in
+      let o = whole-e rs S I (response G rs S I) (response-is-whole G rs S I no-circle) in
       let d = order-declarative rs S I (response G rs S I) (o .order) (complete-i rs S I (response G rs S I) (o .completes)) in
       (d .0, subst (NoneFireable rs S) (firings-last rs S I (response G rs S I)) (d .1))
 
   -- It is rule-consistent by Definition 2.
   pub response-rule-consistent : RuleConsistent rs S (firing-of rs I (response G rs S I))
   unfolding RuleConsistent firing-of Consistent
-  response-rule-consistent = (outcome-e rs S I (response G rs S I) (response-is-outcome G rs S I no-circle)) .stays-consistent
+  response-rule-consistent = (whole-e rs S I (response G rs S I) (response-is-whole G rs S I no-circle)) .stays-consistent
 
   -- Every declarative response that ends rule-consistent ends at the firing of the response: with the same changes and the same fired rules.
   pub declarative-agrees : (σ : ℕ → Firing) (k : ℕ) → DeclarativeResponse rs S I σ → NoneFireable rs S (σ k) → RuleConsistent rs S (σ k) → σ k ≡ firing-of rs I (response G rs S I)
   declarative-agrees σ k D rest con =
-      let w = declarative-outcome rs S I σ D k rest con in
+      let w = declarative-whole rs S I σ D k rest con in
       w .2 ∙ firing-same rs S I (w .0) (response G rs S I) (((demand-3 G rs S I no-circle) .1 (w .0) (w .1)) .0)
 
   -- It is unambiguous.

@@ -5,9 +5,9 @@ use native.Mathlib.Omega.{arith}
 use mathlib.Core.Bool.{Bool, true}
 use mathlib.Core.Logic.{_⊎_, inl, inr, ⊎-elim}
 use lib.Dec.{T, eqb→eq, eqb-refl}
-use Rattle.laws.specs.Numbers.{Numbered, tally}
+use Rattle.laws.specs.Numbers.{Numbered, how-many}
 use Rattle.laws.proofs.Truth.{and-l, and-r, and-i, or-l, or-r, or-e, not-i, stable, le-or-lt}
-use Rattle.laws.proofs.Numbers.{some-i, some-e, tally-top, tally-lt}
+use Rattle.laws.proofs.Numbers.{some-i, some-e, how-many-top, how-many-lt}
 use Rattle.model.specs.Circles.{within, reach, Walk, here, on}
 
 -- Round k of a growing set X.
@@ -17,22 +17,22 @@ module _ (N : ℕ) (X : ℕ → ℕ → Bool) where
   Rests k = (i : ℕ) → Numbered N i → T (X (suc k) i) → T (X k i)
 
   module _ (grows : (k i : ℕ) → T (X k i) → T (X (suc k) i)) (stays : (k : ℕ) → Rests k → Rests (suc k)) where
-    equal-rests : (k : ℕ) → tally (X (suc k)) N ≤ tally (X k) N → Rests k
+    equal-rests : (k : ℕ) → how-many (X (suc k)) N ≤ how-many (X k) N → Rests k
     unfolding Rests
     equal-rests k le i r t =
-        stable (X k i) (λ u. omega (arith, tally-lt (X k) (X (suc k)) N (λ j lo hi. grows k j) i (r .first) (r .last) (not-i _ u) t))
+        stable (X k i) (λ u. omega (arith, how-many-lt (X k) (X (suc k)) N (λ j lo hi. grows k j) i (r .first) (r .last) (not-i _ u) t))
 
-    fills : (k : ℕ) → Rests k ⊎ (k ≤ tally (X k) N)
+    fills : (k : ℕ) → Rests k ⊎ (k ≤ how-many (X k) N)
     fills zero = inr (omega arith)
     fills (suc k) =
         ⊎-elim (λ h. inl (stays k h))
-        (λ (h : k ≤ tally (X k) N). ⊎-elim (λ le. inl (stays k (equal-rests k le))) (λ (lt : tally (X k) N < tally (X (suc k)) N). inr (omega arith)) (le-or-lt (tally (X (suc k)) N) (tally (X k) N)))
+        (λ (h : k ≤ how-many (X k) N). ⊎-elim (λ le. inl (stays k (equal-rests k le))) (λ (lt : how-many (X k) N < how-many (X (suc k)) N). inr (omega arith)) (le-or-lt (how-many (X (suc k)) N) (how-many (X k) N)))
         (fills k)
 
     rests : Rests N
     unfolding Rests
     rests = ⊎-elim (λ h. h)
-        (λ (h : N ≤ tally (X N) N). λ i r t. stable (X N i) (λ u. omega (arith, tally-lt (X N) (λ j. true) N (λ j lo hi x. tt) i (r .first) (r .last) (not-i _ u) tt, tally-top (λ j. true) N)))
+        (λ (h : N ≤ how-many (X N) N). λ i r t. stable (X N i) (λ u. omega (arith, how-many-lt (X N) (λ j. true) N (λ j lo hi x. tt) i (r .first) (r .last) (not-i _ u) tt, how-many-top (λ j. true) N)))
         (fills N)
 
 module _ (N : ℕ) (e : ℕ → ℕ → Bool) where

@@ -13,10 +13,10 @@ use Rattle.laws.specs.Rearranged.{Perm, under, goes, p-sym}
 use Rattle.laws.proofs.Truth.{bool-ext}
 use Rattle.laws.proofs.Rearranged.{under-under, under-at, goes-back, back-goes, goes-at, goes-lt}
 use Rattle.model.specs.Rules.{Pair, Pairs, Rule, among}
-use Rattle.model.specs.Orders.{no-rule, rule-at, names, changes, can-fire, firing-order, outcome}
+use Rattle.model.specs.Orders.{no-rule, rule-at, names, changes, can-fire, firing-order, whole-order}
 use Rattle.model.specs.Strata.{Grading, Strata}
 use Rattle.model.proofs.Changes.{names-first, names-more, names-e, names-none}
-use Rattle.model.proofs.Orders.{Ready, fire-none, fire-first, fire-rest, fire-i, Complete, Consistent, outcome-e, outcome-i}
+use Rattle.model.proofs.Orders.{Ready, fire-none, fire-first, fire-rest, fire-i, Complete, Consistent, whole-e, whole-i}
 use Rattle.model.proofs.Gradings.{level-moved, fall-moved}
 
 -- f takes a rule's number to its new number, g back.
@@ -83,11 +83,11 @@ module _ (rs rs′ : List Rule) (f g : ℕ → ℕ) (R : Renaming rs rs′ f g) 
 
 -- Complete and consistent firing orders go to complete and consistent ones.
 module _ (rs rs′ : List Rule) (f g : ℕ → ℕ) (R : Renaming rs rs′ f g) (S : List ℕ) (I : List Pair) where
-  pub outcome-moved : (a : List ℕ) → T (outcome rs S I a) → T (outcome rs′ S I (map f a))
+  pub whole-moved : (a : List ℕ) → T (whole-order rs S I a) → T (whole-order rs′ S I (map f a))
   unfolding Complete Consistent
-  outcome-moved a t =
-      let A = outcome-e rs S I a t in
-      outcome-i rs′ S I (map f a) (record {
+  whole-moved a t =
+      let A = whole-e rs S I a t in
+      whole-i rs′ S I (map f a) (record {
         order = order-moved rs rs′ f g R S I a (A .order);
         completes = λ n r. A .completes (g n) (subst (λ (ms : List ℕ). Ready rs S I ms (g n)) (map-back rs rs′ f g R a) (ready-moved rs′ rs g f (back R) S I (map f a) n r));
         stays-consistent = λ n u. rw (changes-moved rs rs′ f g R, ← ((back R) .moved n)) (A .stays-consistent (g n) (names-unmap rs rs′ f g R a n u));

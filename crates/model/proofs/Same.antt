@@ -8,13 +8,13 @@ use lib.ListN.{length}
 use Rattle.laws.specs.Numbers.{Numbered}
 use Rattle.laws.specs.Rearranged.{Perm}
 use Rattle.model.specs.Rules.{Pair, Pairs, Rule, among}
-use Rattle.model.specs.Orders.{rule-at, changes, outcome}
+use Rattle.model.specs.Orders.{rule-at, changes, whole-order}
 use Rattle.model.specs.Strata.{Grading}
 use Rattle.model.specs.Circles.{circle-of}
 use Rattle.model.specs.Response.{response}
 use Rattle.model.specs.Result.{conflict-slot, changes-slip, new-card, Bounded}
-use Rattle.model.proofs.Orders.{outcome-e}
-use Rattle.model.proofs.Demand3.{response-is-outcome, demand-3}
+use Rattle.model.proofs.Orders.{whole-e}
+use Rattle.model.proofs.Demand3.{response-is-whole, demand-3}
 use Rattle.model.proofs.Rearranged.{rearranged-response}
 use Rattle.model.proofs.Results.{changes-bounded, slip-exact}
 
@@ -33,9 +33,9 @@ same-results slots values S C D e = record {
 }
 
 -- Every complete and consistent firing order has the results of the response.
-pub outcome-results : (slots values : ℕ) (G : Grading) (rs : List Rule) (S : List ℕ) (I : List Pair) → circle-of G rs ≡ 0 → (a : List ℕ) → T (outcome rs S I a)
+pub whole-results : (slots values : ℕ) (G : Grading) (rs : List Rule) (S : List ℕ) (I : List Pair) → circle-of G rs ≡ 0 → (a : List ℕ) → T (whole-order rs S I a)
     → SameResults slots values S (changes rs I a) (changes rs I (response G rs S I))
-outcome-results slots values G rs S I e a A = same-results slots values S _ _ (((demand-3 G rs S I e) .1 a A) .1)
+whole-results slots values G rs S I e a A = same-results slots values S _ _ (((demand-3 G rs S I e) .1 a A) .1)
 
 -- Rearranged rules have the same results.
 pub rearranged-results : (slots values : ℕ) (G : Grading) (rs rs′ : List Rule) → Perm rs rs′ → circle-of G rs ≡ 0 → (S : List ℕ) (I : List Pair)
@@ -43,8 +43,8 @@ pub rearranged-results : (slots values : ℕ) (G : Grading) (rs rs′ : List Rul
 rearranged-results slots values G rs rs′ p e S I = same-results slots values S _ _ ((rearranged-response G rs rs′ p e S I) .1)
 
 -- Where the response answers, the pairs of its changes are exactly the C of every complete and consistent firing order.
-pub outcome-changes : (slots values : ℕ) (G : Grading) (rs : List Rule) (S : List ℕ) (I : List Pair) → circle-of G rs ≡ 0
+pub whole-changes : (slots values : ℕ) (G : Grading) (rs : List Rule) (S : List ℕ) (I : List Pair) → circle-of G rs ≡ 0
     → Bounded slots values (changes rs I (response G rs S I)) → conflict-slot slots values (changes rs I (response G rs S I)) ≡ slots
-    → (a : List ℕ) → T (outcome rs S I a) → changes rs I a ≡ (λ (p : Pair). among p (changes-slip slots values (changes rs I (response G rs S I))))
-outcome-changes slots values G rs S I e b none a A =
+    → (a : List ℕ) → T (whole-order rs S I a) → changes rs I a ≡ (λ (p : Pair). among p (changes-slip slots values (changes rs I (response G rs S I))))
+whole-changes slots values G rs S I e b none a A =
     ((demand-3 G rs S I e) .1 a A) .1 ∙ sym (slip-exact values (changes rs I (response G rs S I)) slots b none)

@@ -9,9 +9,9 @@ use mathlib.Core.List.{List}
 use mathlib.Core.Logic.{_⊎_, inl, inr, ⊎-elim, _↔_}
 use lib.Dec.{T}
 use lib.ListN.{length}
-use Rattle.laws.specs.Numbers.{Numbered, tally, total}
+use Rattle.laws.specs.Numbers.{Numbered, how-many, total}
 use Rattle.laws.proofs.Truth.{or-l, or-r, or-e, not-i, le-or-lt}
-use Rattle.laws.proofs.Numbers.{tally-top, tally-le, tally-lt, total-lt, total-top, settles}
+use Rattle.laws.proofs.Numbers.{how-many-top, how-many-le, how-many-lt, total-lt, total-top, settles}
 use Rattle.model.specs.Rules.{Rule}
 use Rattle.model.specs.Strata.{Grading, strict, may-stay-level, must-fall, Strata}
 use Rattle.model.specs.Circles.{Walk, here, on, step, behind, on-circle, circle-of}
@@ -34,20 +34,20 @@ cond-true false a t = absurd t
 module _ (G : Grading) (rs : List Rule) where
   -- One more than the number of rules behind a rule: strata where there is no circle.
   depth : ℕ → ℕ
-  depth n = suc (tally (behind G rs n) (length rs))
+  depth n = suc (how-many (behind G rs n) (length rs))
 
   depth-strata : NoCircle G rs → Strata G rs depth
   unfolding NoCircle depth step on-circle
   depth-strata c = record {
     from-one = λ n i. omega arith;
-    no-higher = λ n m i j t. omega (arith, tally-le (behind G rs m) (behind G rs n) (length rs) (λ q lo hi. behind-before G rs n m q i j (or-l _ _ t)));
-    smaller = λ n m i j t. omega (arith, tally-lt (behind G rs m) (behind G rs n) (length rs) (λ q lo hi. behind-before G rs n m q i j (or-r _ _ t)) m (j .first) (j .last) (not-i _ (c m j)) (behind-at G rs n m i j t));
+    no-higher = λ n m i j t. omega (arith, how-many-le (behind G rs m) (behind G rs n) (length rs) (λ q lo hi. behind-before G rs n m q i j (or-l _ _ t)));
+    smaller = λ n m i j t. omega (arith, how-many-lt (behind G rs m) (behind G rs n) (length rs) (λ q lo hi. behind-before G rs n m q i j (or-r _ _ t)) m (j .first) (j .last) (not-i _ (c m j)) (behind-at G rs n m i j t));
   }
 
   depth-top : NoCircle G rs → (n : ℕ) → Numbered (length rs) n → depth n ≤ length rs
   unfolding NoCircle depth on-circle
   depth-top c n i =
-      omega (arith, tally-lt (behind G rs n) (λ q. true) (length rs) (λ q lo hi t. tt) n (i .first) (i .last) (not-i _ (c n i)) tt, tally-top (λ q. true) (length rs))
+      omega (arith, how-many-lt (behind G rs n) (λ q. true) (length rs) (λ q lo hi t. tt) n (i .first) (i .last) (not-i _ (c n i)) tt, how-many-top (λ q. true) (length rs))
 
   -- Strata do not rise along a walk.
   walk-no-higher : (t : ℕ → ℕ) → Strata G rs t → {n m : ℕ} → Walk (length rs) (step G rs) n m → t m ≤ t n

@@ -10,11 +10,11 @@ use lib.ListN.{length}
 use Rattle.laws.specs.Numbers.{Numbered}
 use Rattle.laws.proofs.Truth.{bool-ext}
 use Rattle.model.specs.Rules.{Pair, Rule, among, enabled}
-use Rattle.model.specs.Orders.{rule-at, names, changes, can-fire, firing-order, outcome}
+use Rattle.model.specs.Orders.{rule-at, names, changes, can-fire, firing-order, whole-order}
 use Rattle.model.specs.Strata.{needed, barred, Grading, Strata}
 use Rattle.model.proofs.Changes.{names-first, names-more, names-e, names-none, from-slip, from-rule, cause, changes-same}
 use Rattle.model.proofs.Enabled.{enabled-up}
-use Rattle.model.proofs.Orders.{Ready, fire-first, fire-rest, Complete, Consistent, all-fired, Outcome, outcome-e, rules-of}
+use Rattle.model.proofs.Orders.{Ready, fire-first, fire-rest, Complete, Consistent, all-fired, WholeOrder, whole-e, rules-of}
 use Rattle.model.proofs.Gradings.{plain-no-higher, under-not-smaller}
 
 module _ (G : Grading) (rs : List Rule) (S : List ℕ) (I : List Pair) (t : ℕ → ℕ) (strata : Strata G rs t) where
@@ -58,19 +58,19 @@ module _ (G : Grading) (rs : List Rule) (S : List ℕ) (I : List Pair) (t : ℕ 
       (names-e m n ns h)
 
   -- By strata from below: what one order fires, the other fires.
-  below : (k : ℕ) (a b : List ℕ) → Outcome rs S I a → Outcome rs S I b → (m : ℕ) → T (names a m) → t m < k → T (names b m)
+  below : (k : ℕ) (a b : List ℕ) → WholeOrder rs S I a → WholeOrder rs S I b → (m : ℕ) → T (names a m) → t m < k → T (names b m)
   unfolding firing-order
   below zero a b A B m h lt = absurd (omega arith)
   below (suc k) a b A B m h lt =
       along k a b [] a (A .order) (λ x u. u) (λ x u. absurd (names-none x u)) (λ x u. (rules-of rs S I b B x u, below k b a B A x u))
       (A .stays-consistent) (B .completes) m h (omega arith)
 
-  same-fired : (a b : List ℕ) → Outcome rs S I a → Outcome rs S I b → names a ≡ names b
+  same-fired : (a b : List ℕ) → WholeOrder rs S I a → WholeOrder rs S I b → names a ≡ names b
   same-fired a b A B =
       fun-ext (λ n. bool-ext (names a n) (names b n) (λ h. below (suc (t n)) a b A B n h (omega arith)) (λ h. below (suc (t n)) b a B A n h (omega arith)))
 
 -- Uniqueness, for strata of either kind.
-pub unique : (G : Grading) (rs : List Rule) (t : ℕ → ℕ) → Strata G rs t → (S : List ℕ) (I : List Pair) (a b : List ℕ) → T (outcome rs S I a) → T (outcome rs S I b)
+pub unique : (G : Grading) (rs : List Rule) (t : ℕ → ℕ) → Strata G rs t → (S : List ℕ) (I : List Pair) (a b : List ℕ) → T (whole-order rs S I a) → T (whole-order rs S I b)
     → (names a ≡ names b) × (changes rs I a ≡ changes rs I b)
 unique G rs t s S I a b A B =
-    let e = same-fired G rs S I t s a b (outcome-e rs S I a A) (outcome-e rs S I b B) in (e, changes-same rs I a b e)
+    let e = same-fired G rs S I t s a b (whole-e rs S I a A) (whole-e rs S I b B) in (e, changes-same rs I a b e)

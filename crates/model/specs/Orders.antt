@@ -55,5 +55,5 @@ module _ (rs : List Rule) (S : List ℕ) (I : List Pair) where
   consistent ns = each (λ n. enabled S (changes rs I ns) (rule-at rs n)) ns
 
   -- A firing order that is complete and consistent: what demand 3 is about (01, 'Agreement').
-  unfoldable pub outcome : List ℕ → Bool
-  outcome ns = firing-order ns ∧ᵇ complete ns ∧ᵇ consistent ns
+  unfoldable pub whole-order : List ℕ → Bool
+  whole-order ns = firing-order ns ∧ᵇ complete ns ∧ᵇ consistent ns

@@ -5,7 +5,7 @@ ghost use Prim.Native.Nat.{ℕ, _≤_};
 ghost use lib.ListN.{length, drop};
 ghost use Rattle.laws.specs.Packed.{byte-count};
 ghost use Rattle.table.specs.Limits.{slot-limit};
-ghost use Rattle.cards.specs.Forms.{card-width, slip-width, card-test, slip-test, card-bytes, slip-bytes};
+ghost use Rattle.cards.specs.Forms.{card-bits, slip-bits, card-test, slip-test, card-bytes, slip-bytes};
 ghost use Rattle.cards.specs.Cards.{counts-in, values-of, changes-of, outcome-of, CardFits, SlipFits};
 use cards::Card;
 use cards::Change;
@@ -62,8 +62,8 @@ pub fn check_slip(s: Slip, width: usize, counts: &[usize; SLOTS]) -> Outcome
 
 // A card's bytes at the front of an output with room for them; says how many.
 pub fn write_card(c: Card, out: &mut [u8]) -> usize
-    requires { ⌜ CardFits c × (byte-count (card-width (c .count)) ≤ length (now out)) ⌝ }
-    ensures { λ r. ⌜ (r ≡ byte-count (card-width (c .count))) × (now (out .exit) ≡ card-bytes (values-of c) ++ drop (byte-count (card-width (c .count))) (now (out .entry))) ⌝ }
+    requires { ⌜ CardFits c × (byte-count (card-bits (c .count)) ≤ length (now out)) ⌝ }
+    ensures { λ r. ⌜ (r ≡ byte-count (card-bits (c .count))) × (now (out .exit) ≡ card-bytes (values-of c) ++ drop (byte-count (card-bits (c .count))) (now (out .entry))) ⌝ }
 {
     let n = c.count;
     put_field(out, 0, 6, n);
@@ -78,8 +78,8 @@ pub fn write_card(c: Card, out: &mut [u8]) -> usize
 
 // A slip's bytes, in the same manner.
 pub fn write_slip(s: Slip, out: &mut [u8]) -> usize
-    requires { ⌜ SlipFits s × (byte-count (slip-width (s .count)) ≤ length (now out)) ⌝ }
-    ensures { λ r. ⌜ (r ≡ byte-count (slip-width (s .count))) × (now (out .exit) ≡ slip-bytes (changes-of s) ++ drop (byte-count (slip-width (s .count))) (now (out .entry))) ⌝ }
+    requires { ⌜ SlipFits s × (byte-count (slip-bits (s .count)) ≤ length (now out)) ⌝ }
+    ensures { λ r. ⌜ (r ≡ byte-count (slip-bits (s .count))) × (now (out .exit) ≡ slip-bytes (changes-of s) ++ drop (byte-count (slip-bits (s .count))) (now (out .entry))) ⌝ }
 {
     let m = s.count;
     put_field(out, 0, 6, m);

@@ -9,27 +9,27 @@ use Rattle.grammar.specs.Files.{File}
 use Rattle.grammar.specs.Meaning.{Is-file}
 use Rattle.rule_file.specs.Whole.{reading}
 use Rattle.rule_file.proofs.Answers.{reading-no-refusal}
-use Rattle.cards.specs.Answers.{Taking, taken, refused}
+use Rattle.cards.specs.Answers.{OrRefused, taken, refused}
 use Rattle.tally.specs.declared.Tally.{Tally}
 use Rattle.response.specs.Ending.{Answer}
-use Rattle.response.specs.Respond.{Outputs, rooms-of, refusal-number, second-number, outcome-of, respond-to, response-to, outputs-after}
+use Rattle.response.specs.Respond.{Outputs, rooms-of, refusal-number, second-number, outcome-of, answer-to, response-to, outputs-after}
 use Rattle.promises.specs.Agreement.{Agreed, LowestConflict, Demand3}
 use Rattle.promises.specs.Called.{IsAccepted, CalledAnswer, Called}
 use Rattle.promises.proofs.Refusals.{Only, respond-numbered}
 use Rattle.promises.proofs.Demand3.{demand-3-accepted}
 
 -- An outcome of number 0 is an answer, one of another number a refusal.
-number-0 : (u : Taking Answer) → Only (λ k. 1 ≤ k) u → refusal-number (outcome-of u) ≡ 0 → (a : Answer) × (u ≡ taken a)
+number-0 : (u : OrRefused Answer) → Only (λ k. 1 ≤ k) u → refusal-number (outcome-of u) ≡ 0 → (a : Answer) × (u ≡ taken a)
 unfolding outcome-of
 number-0 (taken a) h e = (a, refl)
 number-0 (refused k s) h e = absurd (omega (arith, h, e))
 
-number-40 : (u : Taking Answer) → refusal-number (outcome-of u) ≡ 40 → u ≡ refused 40 (second-number (outcome-of u))
+number-40 : (u : OrRefused Answer) → refusal-number (outcome-of u) ≡ 40 → u ≡ refused 40 (second-number (outcome-of u))
 unfolding outcome-of
 number-40 (taken a) e = absurd (omega (arith, e))
 number-40 (refused k s) e = ap (λ (j : ℕ). refused j s) e
 
-outputs-kept : (u : Taking Answer) (o : Outputs) → (refusal-number (outcome-of u) ≡ 0 → ⊥) → outputs-after u o ≡ o
+outputs-kept : (u : OrRefused Answer) (o : Outputs) → (refusal-number (outcome-of u) ≡ 0 → ⊥) → outputs-after u o ≡ o
 unfolding outcome-of outputs-after
 outputs-kept (taken a) o n = absurd (n refl)
 outputs-kept (refused k s) o n = refl
@@ -45,8 +45,8 @@ called text accepted = (f, d .1, d .2, record { where-answered = answers; where-
     f : File
     f = d .0
 
-    response : Tally → List ℕ → List ℕ → Outputs → Taking Answer
-    response y card slip o = respond-to (reading text .table) y card slip (rooms-of (o .card) (o .changes) (o .fired))
+    response : Tally → List ℕ → List ℕ → Outputs → OrRefused Answer
+    response y card slip o = answer-to (reading text .table) y card slip (rooms-of (o .card) (o .changes) (o .fired))
 
     answers : (y : Tally) (card slip : List ℕ) (o : Outputs) → refusal-number (outcome-of (response y card slip o)) ≡ 0 → CalledAnswer text f y card slip o
     answers y card slip o e =
@@ -57,7 +57,7 @@ called text accepted = (f, d .1, d .2, record { where-answered = answers; where-
         told w = ap outcome-of (w .1)
 
         held : (w : (a : Answer) × (response y card slip o ≡ taken a)) → outputs-after (response y card slip o) o ≡ outputs-after (taken (w .0)) o
-        held w = ap (λ (u : Taking Answer). outputs-after u o) (w .1)
+        held w = ap (λ (u : OrRefused Answer). outputs-after u o) (w .1)
 
     conflicts : (y : Tally) (card slip : List ℕ) (o : Outputs) → refusal-number (outcome-of (response y card slip o)) ≡ 40
         → Agreed f card slip (λ S I ns. LowestConflict (changes (f .rules) I ns) (second-number (outcome-of (response y card slip o))))

@@ -19,8 +19,8 @@ use Rattle.rule_file.proofs.Cases.{runs, case-text}
 use Rattle.cards.specs.Answers.{taken, refused, after}
 use Rattle.cards.specs.Forms.{card-fields, change-fields, slip-fields, card-bytes, slip-bytes, values-in, changes-in, values-test, card-test, change-fault, changes-test, read-card, read-slip}
 use Rattle.results.specs.Record.{ones-in}
-use Rattle.response.specs.Ending.{fired-record, answer-of, settled, ending}
-use Rattle.response.specs.Respond.{_then_, if-room, responded, worked, respond-to, counted, tally-after}
+use Rattle.response.specs.Ending.{fired-record, answer-of, unless-conflict, answer-by-firing}
+use Rattle.response.specs.Respond.{_then_, if-room, answer-by-rules, answer-by-table, answer-to, counted, tally-after}
 use Rattle.tally.specs.Counting.{is-full}
 use Rattle.promises.specs.Agreement.{bit-of}
 use Rattle.promises.specs.Day.{fresh}
@@ -38,7 +38,7 @@ runs-cards = tt
 
 -- What a response and its listing run.
 unfoldable runs-response : Unit {0}
-unfolding fired-record ones ones-in answer-of settled ending _then_ if-room responded worked is-full respond-to counted tally-after show-name show-slot show-value-of show-value bit-of list-response list-reading listing
+unfolding fired-record ones ones-in answer-of unless-conflict answer-by-firing _then_ if-room answer-by-rules answer-by-table is-full answer-to counted tally-after show-name show-slot show-value-of show-value bit-of list-response list-reading listing
 runs-response = tt
 
 -- `unfolding lists` opens all that a listing runs.
@@ -135,7 +135,7 @@ unfolding lists
 cases = refl
 
 -- The bytes of case C: the new card, the changes and the fired record; two rules fired, and the tally counts one answered.
-pub case-C-bytes : respond-to (reading text-C .table) fresh all-0 x-to-1 program-rooms
+pub case-C-bytes : answer-to (reading text-C .table) fresh all-0 x-to-1 program-rooms
     ≡ taken (record { new-card = 0x0C ∷ 0x88 ∷ 0x80 ∷ []; changes = 0x0C ∷ 0x04 ∷ 0x12 ∷ 0x11 ∷ 0x00 ∷ []; fired = 0xC0 ∷ [] })
 unfolding lists
 case-C-bytes = refl

@@ -11,19 +11,19 @@ use lib.ListN.{length}
 use borrow.Author.Tests.{ne-eqb, lt-leb}
 use Rattle.laws.specs.Truth.{_∨ᵇ_}
 use Rattle.laws.proofs.Truth.{le-or-lt, or-l, or-r}
-use Rattle.cards.specs.Answers.{Taking, taken, refused}
+use Rattle.cards.specs.Answers.{OrRefused, taken, refused}
 use Rattle.tally.specs.declared.Tally.{Tally}
 use Rattle.response.specs.Ending.{Answer}
-use Rattle.response.specs.Respond.{worked, respond-to, counted, tally-after, response-to}
+use Rattle.response.specs.Respond.{answer-by-table, answer-to, counted, tally-after, response-to}
 use Rattle.tally.specs.Counting.{is-full}
 use Rattle.promises.specs.Day.{Call, fresh, answer-at, next-tally, tally-over, answers-over, answered-in, refused-in, answer-after}
-use Rattle.promises.proofs.Refusals.{Only, Other, worked-other}
+use Rattle.promises.proofs.Refusals.{Only, Other, by-table-other}
 
 -- What comes of a call whose tally is full or not, and the tally after it.
-abbrev at-tally : Bool → Taking Answer → Taking Answer
+abbrev at-tally : Bool → OrRefused Answer → OrRefused Answer
 at-tally full w = cond full (refused 32 0) w
 
-counts-one : (full : Bool) (y : Tally) (w : Taking Answer) (us : List (Taking Answer)) → Only (Other 32) w
+counts-one : (full : Bool) (y : Tally) (w : OrRefused Answer) (us : List (OrRefused Answer)) → Only (Other 32) w
     → (cond full y (counted y (at-tally full w)) .answered + answered-in us ≡ y .answered + answered-in (at-tally full w ∷ us))
     × (cond full y (counted y (at-tally full w)) .refused + refused-in us ≡ y .refused + refused-in (at-tally full w ∷ us))
 unfolding counted answered-in refused-in
@@ -31,11 +31,11 @@ counts-one true y w us h = (refl, refl)
 counts-one false y (taken a) us h = (omega arith, refl)
 counts-one false y (refused k s) us h = (refl, rw (ne-eqb k 32 h) (omega arith))
 
-next-counts : (y : Tally) (c : Call) (us : List (Taking Answer))
+next-counts : (y : Tally) (c : Call) (us : List (OrRefused Answer))
     → (next-tally y c .answered + answered-in us ≡ y .answered + answered-in (answer-at y c ∷ us))
     × (next-tally y c .refused + refused-in us ≡ y .refused + refused-in (answer-at y c ∷ us))
-unfolding response-to tally-after respond-to
-next-counts y c us = counts-one (is-full y) y (worked (c .table) (c .card) (c .slip) (c .rooms)) us (worked-other (c .table) (c .card) (c .slip) (c .rooms))
+unfolding response-to tally-after answer-to
+next-counts y c us = counts-one (is-full y) y (answer-by-table (c .table) (c .card) (c .slip) (c .rooms)) us (by-table-other (c .table) (c .card) (c .slip) (c .rooms))
 
 -- From any tally on: the calls answered and refused are added.
 pub tally-counts : (y : Tally) (cs : List Call)
@@ -53,7 +53,7 @@ day-tally cs = let w = tally-counts fresh cs in ap₂ (λ (a r : ℕ). record { 
 
 -- Each call's answer is what it would be alone, on a fresh tally, unless the tally was full.
 pub day-alone : (before : List Call) (c : Call) → answer-after before c ≡ cond (is-full (tally-over fresh before)) (refused 32 0) (answer-after [] c)
-unfolding respond-to is-full _∨ᵇ_ tally-over
+unfolding answer-to is-full _∨ᵇ_ tally-over
 day-alone before c = refl
 
 -- In the list of a day's answers it stands in the call's place.
@@ -65,7 +65,7 @@ day-each before c rest = go fresh before
     go : (y : Tally) (before : List Call)
         → answers-over y (before ++ c ∷ rest) ≡ answers-over y before ++ answer-at (tally-over y before) c ∷ answers-over (tally-over y (before ++ c ∷ [])) rest
     go y [] = refl
-    go y (d ∷ ds) = ap (λ (us : List (Taking Answer)). answer-at y d ∷ us) (go (next-tally y d) ds)
+    go y (d ∷ ds) = ap (λ (us : List (OrRefused Answer)). answer-at y d ∷ us) (go (next-tally y d) ds)
 
 -- There is an answer for each call.
 pub day-length : (y : Tally) (cs : List Call) → length (answers-over y cs) ≡ length cs
@@ -73,13 +73,13 @@ unfolding answers-over
 day-length y [] = refl
 day-length y (c ∷ cs) = ap suc (day-length (next-tally y c) cs)
 
-answered-few : (us : List (Taking Answer)) → answered-in us ≤ length us
+answered-few : (us : List (OrRefused Answer)) → answered-in us ≤ length us
 unfolding answered-in
 answered-few [] = omega arith
 answered-few (taken a ∷ us) = omega (arith, answered-few us)
 answered-few (refused k s ∷ us) = omega (arith, answered-few us)
 
-refused-few : (us : List (Taking Answer)) → refused-in us ≤ length us
+refused-few : (us : List (OrRefused Answer)) → refused-in us ≤ length us
 unfolding refused-in
 refused-few [] = omega arith
 refused-few (taken a ∷ us) = omega (arith, refused-few us)
@@ -107,7 +107,7 @@ not-full y e = (
   ⊎-elim (λ (l : 9999 ≤ y .refused). absurd (rw e at (or-r (leb 9999 (y .answered)) (leb 9999 (y .refused)) (le→leb 9999 (y .refused) l)))) (λ l. l) (le-or-lt 9999 (y .refused)),
 )
 
-top-next : (y : Tally) (u : Taking Answer) (full : Bool) → is-full y ≡ full → (y .answered ≤ 9999) × (y .refused ≤ 9999)
+top-next : (y : Tally) (u : OrRefused Answer) (full : Bool) → is-full y ≡ full → (y .answered ≤ 9999) × (y .refused ≤ 9999)
     → (cond full y (counted y u) .answered ≤ 9999) × (cond full y (counted y u) .refused ≤ 9999)
 unfolding counted
 top-next y u true e h = h

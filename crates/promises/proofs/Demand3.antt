@@ -16,15 +16,15 @@ use Rattle.rule_file.proofs.Declared.{Declared, read-declared}
 use Rattle.rule_file.proofs.Answers.{reading-accepted-iff}
 use Rattle.cards.specs.Answers.{taken, refused}
 use Rattle.cards.proofs.Having.{card-tested, slip-tested}
-use Rattle.response.specs.Ending.{Answer, ending}
+use Rattle.response.specs.Ending.{Answer, answer-by-firing}
 use Rattle.promises.specs.Agreement.{Shows, LowestConflict, Agreed, Demand3}
-use Rattle.promises.proofs.Ends.{Ended, response-ends, file-no-circle, settled-taken, settled-40}
+use Rattle.promises.proofs.Ends.{Ended, response-ends, file-no-circle, unless-conflict-taken, unless-conflict-40}
 use Rattle.promises.proofs.Orders.{agreed, shows-order, lowest-conflict}
 use Rattle.promises.proofs.Rearranged.{unmoved}
 
 -- For every text that is accepted and the file that it is.
 pub demand-3 : (text : List ℕ) (f : File) → Is-file text f → reading text .outcome ≡ Accepted → Demand3 text f
-unfolding ending
+unfolding answer-by-firing
 demand-3 text f h o = record {
   where-answered = λ y card slip rooms a e. answered card slip a (response-ends text f h o y card slip rooms (taken a) tt e);
   where-40 = λ y card slip rooms s e. conflicting card slip s (response-ends text f h o y card slip rooms (refused 40 s) refl e);
@@ -40,7 +40,7 @@ demand-3 text f h o = record {
         let i = slip-tested (slot-counts (f .slots)) slip (e .I) (e .slip-is) in
         let z = file-no-circle text f h o in
         let ns = response strict (f .rules) (e .S) (e .I) in
-        let w = settled-taken (length (slot-counts (f .slots))) (length (f .rules)) (e .S) (changes (f .rules) (e .I) ns) ns a (e .ends) in
+        let w = unless-conflict-taken (length (slot-counts (f .slots))) (length (f .rules)) (e .S) (changes (f .rules) (e .I) ns) ns a (e .ends) in
         agreed f declared z (e .S) (e .I) c i card slip (e .card-is) (e .slip-is) (λ S I ns. Shows f S I a ns)
         (λ ns A. subst (λ (x : Answer). Shows f (e .S) (e .I) x ns) (w .1) (shows-order f declared z (e .S) (e .I) c i (w .0) ns A))
 
@@ -50,7 +50,7 @@ demand-3 text f h o = record {
         let i = slip-tested (slot-counts (f .slots)) slip (e .I) (e .slip-is) in
         let z = file-no-circle text f h o in
         let ns = response strict (f .rules) (e .S) (e .I) in
-        let w = settled-40 (length (slot-counts (f .slots))) (length (f .rules)) (e .S) (changes (f .rules) (e .I) ns) ns s (e .ends) in
+        let w = unless-conflict-40 (length (slot-counts (f .slots))) (length (f .rules)) (e .S) (changes (f .rules) (e .I) ns) ns s (e .ends) in
         agreed f declared z (e .S) (e .I) c i card slip (e .card-is) (e .slip-is) (λ S I ns. LowestConflict (changes (f .rules) I ns) s)
         (λ ns A. subst (λ (r : ℕ). LowestConflict (changes (f .rules) (e .I) ns) r) (w .1) (lowest-conflict f declared z (e .S) (e .I) c i (w .0) ns A))
 

@@ -25,19 +25,19 @@ use Rattle.grammar.proofs.Accepts.{one-meaning}
 use Rattle.reader.specs.declared.Outcome.the-variants.{Accepted}
 use Rattle.rule_file.specs.Whole.{reading}
 use Rattle.rule_file.proofs.Answers.{reading-carries, reading-passes}
-use Rattle.cards.specs.Answers.{Taking, taken, refused}
-use Rattle.cards.specs.Forms.{card-width, read-card, read-slip}
+use Rattle.cards.specs.Answers.{OrRefused, taken, refused}
+use Rattle.cards.specs.Forms.{card-bits, read-card, read-slip}
 use Rattle.tally.specs.declared.Tally.{Tally}
-use Rattle.response.specs.Ending.{Answer, answer-of, settled, ending}
-use Rattle.response.specs.Respond.{_then_, Rooms, changes-room, if-room, responded, worked, respond-to}
+use Rattle.response.specs.Ending.{Answer, answer-of, unless-conflict, answer-by-firing}
+use Rattle.response.specs.Respond.{_then_, Rooms, changes-room, if-room, answer-by-rules, answer-by-table, answer-to}
 use Rattle.tally.specs.Counting.{is-full}
 use Rattle.promises.specs.Agreement.{responds}
 use Rattle.promises.proofs.Refusals.{Only, Early, Other, only-more, card-early, slip-early}
 
 -- An accepted text responds by its file's slots and rules.
 pub file-response : (text : List ℕ) (f : File) → Is-file text f → reading text .outcome ≡ Accepted → (y : Tally) (card slip : List ℕ) (rooms : Rooms)
-    → responds text y card slip rooms ≡ cond (is-full y) (refused 32 0) (responded (slot-counts (f .slots)) (f .rules) card slip rooms)
-unfolding respond-to worked
+    → responds text y card slip rooms ≡ cond (is-full y) (refused 32 0) (answer-by-rules (slot-counts (f .slots)) (f .rules) card slip rooms)
+unfolding answer-to answer-by-table
 file-response text f h o y card slip rooms =
     let c = reading-carries text o in
     let e : c .file ≡ f = one-meaning text (c .file) f (c .is-file) h in
@@ -52,42 +52,42 @@ file-no-circle text f h o =
     sym (ap (λ (g : File). circle-of strict (g .rules)) (one-meaning text (c .file) f (c .is-file) h)) ∙ c .no-circle
 
 -- An answer or 40.
-abbrev pub Final : Taking Answer → Type 0
+abbrev pub Final : OrRefused Answer → Type 0
 Final (taken a) = Unit
 Final (refused k s) = k ≡ 40
 
-then-back : {A : Type 0} (u : Taking A) (f : A → Taking Answer) (w : Taking Answer) → Final w → Only (Other 40) u → (u then f) ≡ w → (a : A) × (u ≡ taken a) × (f a ≡ w)
+then-back : {A : Type 0} (u : OrRefused A) (f : A → OrRefused Answer) (w : OrRefused Answer) → Final w → Only (Other 40) u → (u then f) ≡ w → (a : A) × (u ≡ taken a) × (f a ≡ w)
 unfolding _then_
 then-back (taken a) f w l h e = (a, refl, e)
 then-back (refused k s) f w l h e = absurd (h (subst Final (sym e) l))
 
-cond-back : (b : Bool) (k s : ℕ) (u w : Taking Answer) → Final w → (k ≡ 40 → ⊥) → cond b (refused k s) u ≡ w → u ≡ w
+cond-back : (b : Bool) (k s : ℕ) (u w : OrRefused Answer) → Final w → (k ≡ 40 → ⊥) → cond b (refused k s) u ≡ w → u ≡ w
 cond-back true k s u w l h e = absurd (h (subst Final (sym e) l))
 cond-back false k s u w l h e = e
 
-room-back : (width count : ℕ) (rooms : Rooms) (u w : Taking Answer) → Final w → if-room width count rooms u ≡ w → u ≡ w
+room-back : (width count : ℕ) (rooms : Rooms) (u w : OrRefused Answer) → Final w → if-room width count rooms u ≡ w → u ≡ w
 unfolding if-room
 room-back width count rooms u w l e =
     cond-back (ltb (rooms .for-fired) (byte-count count)) 30 3 u w l (λ q. omega arith)
     (cond-back (ltb (rooms .for-changes) changes-room) 30 2 _ w l (λ q. omega arith)
-    (cond-back (ltb (rooms .for-card) (byte-count (card-width width))) 30 1 _ w l (λ q. omega arith) e))
+    (cond-back (ltb (rooms .for-card) (byte-count (card-bits width))) 30 1 _ w l (λ q. omega arith) e))
 
 -- Card and slip were unpacked, and the rules have fired.
-pub record Ended (f : File) (card slip : List ℕ) (w : Taking Answer) : Type 0 where
+pub record Ended (f : File) (card slip : List ℕ) (w : OrRefused Answer) : Type 0 where
   pub S : List ℕ
   pub I : List Pair
   pub card-is : read-card (slot-counts (f .slots)) card ≡ taken S
   pub slip-is : read-slip (slot-counts (f .slots)) slip ≡ taken I
-  pub ends : ending (f .rules) (length (slot-counts (f .slots))) S I ≡ w
+  pub ends : answer-by-firing (f .rules) (length (slot-counts (f .slots))) S I ≡ w
 
 not-40 : (k : ℕ) → Early k → Other 40 k
 not-40 k l e = omega arith
 
-pub response-ends : (text : List ℕ) (f : File) → Is-file text f → reading text .outcome ≡ Accepted → (y : Tally) (card slip : List ℕ) (rooms : Rooms) (w : Taking Answer)
+pub response-ends : (text : List ℕ) (f : File) → Is-file text f → reading text .outcome ≡ Accepted → (y : Tally) (card slip : List ℕ) (rooms : Rooms) (w : OrRefused Answer)
     → Final w → responds text y card slip rooms ≡ w → Ended f card slip w
-unfolding responded
+unfolding answer-by-rules
 response-ends text f h o y card slip rooms w l e =
-    let u = cond-back (is-full y) 32 0 (responded (slot-counts (f .slots)) (f .rules) card slip rooms) w l (λ q. omega arith) (sym (file-response text f h o y card slip rooms) ∙ e) in
+    let u = cond-back (is-full y) 32 0 (answer-by-rules (slot-counts (f .slots)) (f .rules) card slip rooms) w l (λ q. omega arith) (sym (file-response text f h o y card slip rooms) ∙ e) in
     let a = then-back (read-card (slot-counts (f .slots)) card) _ w l (only-more Early (Other 40) not-40 (read-card (slot-counts (f .slots)) card) (card-early (slot-counts (f .slots)) card)) u in
     let b = then-back (read-slip (slot-counts (f .slots)) slip) _ w l (only-more Early (Other 40) not-40 (read-slip (slot-counts (f .slots)) slip) (slip-early (slot-counts (f .slots)) slip)) (a .2) in
     record {
@@ -99,10 +99,10 @@ response-ends text f h o y card slip rooms w l e =
     }
 
 -- An answer: no slot is in conflict, and these are its bytes.
-pub settled-taken : (width count : ℕ) (S : List ℕ) (C : Pairs) (ns : List ℕ) (a : Answer) → settled width count S C ns ≡ taken a
+pub unless-conflict-taken : (width count : ℕ) (S : List ℕ) (C : Pairs) (ns : List ℕ) (a : Answer) → unless-conflict width count S C ns ≡ taken a
     → (conflict-slot width row C ≡ width) × (answer-of width count S C ns ≡ a)
-unfolding settled
-settled-taken width count S C ns a e = go (ltb (conflict-slot width row C) width) refl e
+unfolding unless-conflict
+unless-conflict-taken width count S C ns a e = go (ltb (conflict-slot width row C) width) refl e
   where
     go : (b : Bool) → ltb (conflict-slot width row C) width ≡ b → cond b (refused 40 (conflict-slot width row C)) (taken (answer-of width count S C ns)) ≡ taken a
         → (conflict-slot width row C ≡ width) × (answer-of width count S C ns ≡ a)
@@ -111,10 +111,10 @@ settled-taken width count S C ns a e = go (ltb (conflict-slot width row C) width
         (le-antisymm (conflict-slot-top row C width) (ltb-false (conflict-slot width row C) width q), let x : answer-of width count S C ns ≡ a = cc in x)
 
 -- 40: a slot is in conflict, and this is its lowest.
-pub settled-40 : (width count : ℕ) (S : List ℕ) (C : Pairs) (ns : List ℕ) (s : ℕ) → settled width count S C ns ≡ refused 40 s
+pub unless-conflict-40 : (width count : ℕ) (S : List ℕ) (C : Pairs) (ns : List ℕ) (s : ℕ) → unless-conflict width count S C ns ≡ refused 40 s
     → (conflict-slot width row C < width) × (conflict-slot width row C ≡ s)
-unfolding settled
-settled-40 width count S C ns s e = go (ltb (conflict-slot width row C) width) refl e
+unfolding unless-conflict
+unless-conflict-40 width count S C ns s e = go (ltb (conflict-slot width row C) width) refl e
   where
     go : (b : Bool) → ltb (conflict-slot width row C) width ≡ b → cond b (refused 40 (conflict-slot width row C)) (taken (answer-of width count S C ns)) ≡ refused 40 s
         → (conflict-slot width row C < width) × (conflict-slot width row C ≡ s)

@@ -17,16 +17,16 @@ use Rattle.soundness.specs.Sound.{sound}
 use Rattle.reader.specs.declared.Outcome.the-variants.{Accepted}
 use Rattle.rule_file.specs.Whole.{reading}
 use Rattle.rule_file.proofs.Answers.{reading-passes}
-use Rattle.cards.specs.Answers.{Taking, taken, refused}
+use Rattle.cards.specs.Answers.{OrRefused, taken, refused}
 use Rattle.cards.specs.Forms.{read-card, read-slip}
 use Rattle.tally.specs.declared.Tally.{Tally}
 use Rattle.response.specs.Ending.{Answer}
-use Rattle.response.specs.Respond.{Rooms, responded, worked, respond-to, response-to}
+use Rattle.response.specs.Respond.{Rooms, answer-by-rules, answer-by-table, answer-to, response-to}
 use Rattle.tally.specs.Counting.{is-full}
 use Rattle.promises.specs.Day.{Call, fresh, tally-over, answers-over, answer-after}
 use Rattle.promises.specs.Listing.{program-rooms}
 use Rattle.promises.proofs.Cases.{lists, text-C, all-0, x-to-1, case-C-bytes}
-use Rattle.promises.proofs.Refusals.{Only, Other, only-e, only-cond, responded-other, worked-other}
+use Rattle.promises.proofs.Refusals.{Only, Other, only-e, only-cond, by-rules-other, by-table-other}
 
 -- The call of case C.
 unfoldable pub call-C : Call
@@ -47,12 +47,12 @@ unfolding lists
 finds-strata = refl
 
 -- One that returns the card it was given: case C answers with another.
-pub not-the-card : (a : Answer) → respond-to (reading text-C .table) fresh all-0 x-to-1 program-rooms ≡ taken a → ¬ (a .new-card ≡ all-0)
+pub not-the-card : (a : Answer) → answer-to (reading text-C .table) fresh all-0 x-to-1 program-rooms ≡ taken a → ¬ (a .new-card ≡ all-0)
 not-the-card a e q =
     let n : 0x88 ≡ getD (a .new-card) 1 0 = ap second (sym case-C-bytes ∙ e) in
     omega (arith, n, ap (λ (ys : List ℕ). getD ys 1 0) q)
   where
-    second : Taking Answer → ℕ
+    second : OrRefused Answer → ℕ
     second (taken x) = getD (x .new-card) 1 0
     second (refused k s) = 0
 
@@ -63,35 +63,35 @@ unfolding lists call-C answers-over tally-over response-to
 same-call-twice = (refl, refl)
 
 -- One that says 32 on a fresh tally: 32 is given at a full tally alone, and there always.
-pub only-full : (t : Table) (y : Tally) (card slip : List ℕ) (rooms : Rooms) (s : ℕ) → respond-to t y card slip rooms ≡ refused 32 s → T (is-full y)
-unfolding respond-to
+pub only-full : (t : Table) (y : Tally) (card slip : List ℕ) (rooms : Rooms) (s : ℕ) → answer-to t y card slip rooms ≡ refused 32 s → T (is-full y)
+unfolding answer-to
 only-full t y card slip rooms s = go (is-full y)
   where
-    go : (b : Bool) → cond b (refused 32 0) (worked t card slip rooms) ≡ refused 32 s → T b
+    go : (b : Bool) → cond b (refused 32 0) (answer-by-table t card slip rooms) ≡ refused 32 s → T b
     go true e = tt
-    go false e = absurd (only-e (Other 32) (worked t card slip rooms) 32 s (worked-other t card slip rooms) e refl)
+    go false e = absurd (only-e (Other 32) (answer-by-table t card slip rooms) 32 s (by-table-other t card slip rooms) e refl)
 
-pub always-full : (t : Table) (y : Tally) (card slip : List ℕ) (rooms : Rooms) → T (is-full y) → respond-to t y card slip rooms ≡ refused 32 0
-unfolding respond-to
+pub always-full : (t : Table) (y : Tally) (card slip : List ℕ) (rooms : Rooms) → T (is-full y) → answer-to t y card slip rooms ≡ refused 32 0
+unfolding answer-to
 always-full t y card slip rooms h = rw (is-true (is-full y) h)
 
 pub fresh-not-full : is-full fresh ≡ false
 unfolding is-full _∨ᵇ_
 fresh-not-full = refl
 
-pub fresh-no-32 : (t : Table) (card slip : List ℕ) (rooms : Rooms) (s : ℕ) → ¬ (respond-to t fresh card slip rooms ≡ refused 32 s)
+pub fresh-no-32 : (t : Table) (card slip : List ℕ) (rooms : Rooms) (s : ℕ) → ¬ (answer-to t fresh card slip rooms ≡ refused 32 s)
 fresh-no-32 t card slip rooms s e = rw fresh-not-full at (only-full t fresh card slip rooms s e)
 
 -- A table that the reading hands out gets no 31.
-pub reading-no-31 : (text : List ℕ) (y : Tally) (card slip : List ℕ) (rooms : Rooms) (s : ℕ) → ¬ (respond-to (reading text .table) y card slip rooms ≡ refused 31 s)
-unfolding respond-to worked
-reading-no-31 text y card slip rooms s e = only-e (Other 31) (respond-to (reading text .table) y card slip rooms) 31 s (made (sound (reading text .table)) (reading-passes text)) e refl
+pub reading-no-31 : (text : List ℕ) (y : Tally) (card slip : List ℕ) (rooms : Rooms) (s : ℕ) → ¬ (answer-to (reading text .table) y card slip rooms ≡ refused 31 s)
+unfolding answer-to answer-by-table
+reading-no-31 text y card slip rooms s e = only-e (Other 31) (answer-to (reading text .table) y card slip rooms) 31 s (made (sound (reading text .table)) (reading-passes text)) e refl
   where
-    answer : Taking Answer
-    answer = responded (value-counts (reading text .table)) (rules-of (reading text .table)) card slip rooms
+    answer : OrRefused Answer
+    answer = answer-by-rules (value-counts (reading text .table)) (rules-of (reading text .table)) card slip rooms
 
     made : (b : Bool) → T b → Only (Other 31) (cond (is-full y) (refused 32 0) (cond b answer (refused 31 0)))
     made true h =
         only-cond (Other 31) (is-full y) (refused 32 0) answer (λ q. omega arith)
-        (responded-other 31 (omega arith) (omega arith) (value-counts (reading text .table)) (rules-of (reading text .table)) card slip rooms)
+        (by-rules-other 31 (omega arith) (omega arith) (value-counts (reading text .table)) (rules-of (reading text .table)) card slip rooms)
     made false h = absurd h

@@ -8,7 +8,7 @@ use mathlib.Core.List.{List}
 use mathlib.Core.Logic.{⊎-elim}
 use lib.Dec.{T}
 use lib.ListN.{getD, List·getD-eq-default}
-use Rattle.laws.specs.Numbers.{Numbered, tally}
+use Rattle.laws.specs.Numbers.{Numbered, how-many}
 use Rattle.laws.specs.Tabulated.{tabulate}
 use Rattle.laws.specs.Packed.{pack}
 use Rattle.laws.proofs.Truth.{le-or-lt}
@@ -35,7 +35,7 @@ record-bit count ns only (suc i) =
         ∙ sym (is-false (names ns (suc i)) (λ t. omega (arith, only (suc i) t .last)))
 
 -- How many rules fired is how many are named.
-pub record-ones : (count : ℕ) (ns : List ℕ) → ones-in (fired-record count ns) ≡ tally (names ns) count
+pub record-ones : (count : ℕ) (ns : List ℕ) → ones-in (fired-record count ns) ≡ how-many (names ns) count
 unfolding fired-record firing.flag-record fired-bits
 record-ones count ns =
     ap (λ (bs : List Bool). ones-in (pack bs))

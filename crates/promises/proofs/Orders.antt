@@ -8,17 +8,17 @@ use mathlib.Core.List.{List}
 use mathlib.Core.Logic.{⊎-elim}
 use lib.Dec.{T}
 use lib.ListN.{length, getD, List·getD-eq-default}
-use Rattle.laws.specs.Numbers.{tally}
+use Rattle.laws.specs.Numbers.{how-many}
 use Rattle.laws.proofs.Truth.{le-or-lt}
 use Rattle.model.specs.Rules.{Pair, Pairs}
-use Rattle.model.specs.Orders.{names, changes, outcome, firing-order}
+use Rattle.model.specs.Orders.{names, changes, whole-order, firing-order}
 use Rattle.model.specs.Strata.{strict}
 use Rattle.model.specs.Circles.{circle-of}
 use Rattle.model.specs.Response.{response}
 use Rattle.model.specs.Result.{pair, conflict-slot, new-card, changes-slip, Bounded}
-use Rattle.model.proofs.Orders.{outcome-e, rules-of}
+use Rattle.model.proofs.Orders.{whole-e, rules-of}
 use Rattle.model.proofs.Lengths.{order-length}
-use Rattle.model.proofs.Demand3.{response-is-outcome, demand-3}
+use Rattle.model.proofs.Demand3.{response-is-whole, demand-3}
 use Rattle.model.proofs.Results.{conflict-e, conflict-i, conflict-slot-right, conflict-slot-lowest, slip-length, no-conflict-e, slip-exact, new-card-length, new-card-at, new-value-kept, new-value-is}
 use Rattle.table.specs.Limits.{row}
 use Rattle.grammar.specs.Files.{File, slot-counts}
@@ -47,7 +47,7 @@ module _ (f : File) (declared : Declared f) (no-circle : circle-of strict (f .ru
   width = length (slot-counts (f .slots))
 
   order : T (firing-order (f .rules) S I ours)
-  order = outcome-e (f .rules) S I ours (response-is-outcome strict (f .rules) S I no-circle) .order
+  order = whole-e (f .rules) S I ours (response-is-whole strict (f .rules) S I no-circle) .order
 
   has : (p : Pair) → T (C p) → Has (slot-counts (f .slots)) p
   has = changes-has f declared S I slip ours order
@@ -55,23 +55,23 @@ module _ (f : File) (declared : Declared f) (no-circle : circle-of strict (f .ru
   bounded : Bounded width row C
   bounded = changes-bounded f declared S I slip ours order
 
-  same-C : (ns : List ℕ) → T (outcome (f .rules) S I ns) → changes (f .rules) I ns ≡ C
+  same-C : (ns : List ℕ) → T (whole-order (f .rules) S I ns) → changes (f .rules) I ns ≡ C
   same-C ns A = demand-3 strict (f .rules) S I no-circle .1 ns A .1
 
-  same-names : (ns : List ℕ) → T (outcome (f .rules) S I ns) → names ns ≡ names ours
+  same-names : (ns : List ℕ) → T (whole-order (f .rules) S I ns) → names ns ≡ names ours
   same-names ns A = demand-3 strict (f .rules) S I no-circle .1 ns A .0
 
   -- All complete and consistent firing orders agree; where each is as `Shown` says, this is agreed of the card and the slip.
   pub agreed : (card-bytes slip-bytes : List ℕ) → read-card (slot-counts (f .slots)) card-bytes ≡ taken S → read-slip (slot-counts (f .slots)) slip-bytes ≡ taken I
-      → (Shown : List ℕ → List Pair → List ℕ → Type 0) → ((ns : List ℕ) → T (outcome (f .rules) S I ns) → Shown S I ns) → Agreed f card-bytes slip-bytes Shown
+      → (Shown : List ℕ → List Pair → List ℕ → Type 0) → ((ns : List ℕ) → T (whole-order (f .rules) S I ns) → Shown S I ns) → Agreed f card-bytes slip-bytes Shown
   agreed card-bytes slip-bytes c i Shown each = record {
     S = S;
     I = I;
     card-is = c;
     slip-is = i;
-    some-order = (ours, response-is-outcome strict (f .rules) S I no-circle);
-    one-outcome = λ a b A B. (same-C a A ∙ sym (same-C b B), same-names a A ∙ sym (same-names b B));
-    ours = response-is-outcome strict (f .rules) S I no-circle;
+    some-order = (ours, response-is-whole strict (f .rules) S I no-circle);
+    all-agree = λ a b A B. (same-C a A ∙ sym (same-C b B), same-names a A ∙ sym (same-names b B));
+    ours = response-is-whole strict (f .rules) S I no-circle;
     each-order = each;
   }
 
@@ -98,19 +98,19 @@ module _ (f : File) (declared : Declared f) (no-circle : circle-of strict (f .ru
         (λ (l : s < width). new-card-at row C width s S l ∙ new-value-kept row C S s (λ v h. lacks v)) (le-or-lt width s)
 
     -- Where no slot is in conflict the answer shows every such order.
-    pub shows-order : (ns : List ℕ) → T (outcome (f .rules) S I ns) → Shows f S I (answer-of width (length (f .rules)) S C ours) ns
+    pub shows-order : (ns : List ℕ) → T (whole-order (f .rules) S I ns) → Shows f S I (answer-of width (length (f .rules)) S C ours) ns
     unfolding answer-of InConflict
     shows-order ns A =
         let e = same-C ns A in
         let g = same-names ns A in
-        let n : ones-in (fired-record (length (f .rules)) ours) ≡ tally (names ns) (length (f .rules)) =
-        record-ones (length (f .rules)) ours ∙ ap (λ (h : ℕ → Bool). tally h (length (f .rules))) (sym g) in
+        let n : ones-in (fired-record (length (f .rules)) ours) ≡ how-many (names ns) (length (f .rules)) =
+        record-ones (length (f .rules)) ours ∙ ap (λ (h : ℕ → Bool). how-many h (length (f .rules))) (sym g) in
         record {
           pairs = changes-slip width row C;
           changes-are = slip-unpacks;
           same-changes = λ p. ap (λ (D : Pairs). D p) (e ∙ sym (slip-exact row C width bounded none));
-          same-fired = λ m. ap (λ (h : ℕ → Bool). h m) g ∙ record-bit (length (f .rules)) ours (rules-of (f .rules) S I ours (outcome-e (f .rules) S I ours (response-is-outcome strict (f .rules) S I no-circle))) m;
-          how-many = (n, n ∙ order-length (f .rules) S I ns (outcome-e (f .rules) S I ns A .order));
+          same-fired = λ m. ap (λ (h : ℕ → Bool). h m) g ∙ record-bit (length (f .rules)) ours (rules-of (f .rules) S I ours (whole-e (f .rules) S I ours (response-is-whole strict (f .rules) S I no-circle))) m;
+          how-many-fired = (n, n ∙ order-length (f .rules) S I ns (whole-e (f .rules) S I ns A .order));
           no-conflict = λ s w. omega (arith, w .2, no-conflict-e row C width bounded none s (w .0) (w .1) (subst (λ (D : Pairs). T (D (pair s (w .0)))) e (w .3)) (subst (λ (D : Pairs). T (D (pair s (w .1)))) e (w .4)));
           values = new-card width row C S;
           card-is = card-unpacks;
@@ -119,7 +119,7 @@ module _ (f : File) (declared : Declared f) (no-circle : circle-of strict (f .ru
         }
 
   -- Where a slot is in conflict, the lowest is that of every such order.
-  pub lowest-conflict : conflict-slot width row C < width → (ns : List ℕ) → T (outcome (f .rules) S I ns) → LowestConflict (changes (f .rules) I ns) (conflict-slot width row C)
+  pub lowest-conflict : conflict-slot width row C < width → (ns : List ℕ) → T (whole-order (f .rules) S I ns) → LowestConflict (changes (f .rules) I ns) (conflict-slot width row C)
   unfolding InConflict
   lowest-conflict l ns A = subst (λ (D : Pairs). LowestConflict D (conflict-slot width row C)) (sym (same-C ns A)) (record {
     conflict = (let w = conflict-e row C (conflict-slot width row C) (conflict-slot-right row C width l) in (w .0, w .1, w .2, w .4, w .5));

@@ -6,11 +6,11 @@ use mathlib.Core.Bool.{Bool, false}
 use mathlib.Core.List.{List, _∷_}
 use lib.Dec.{T}
 use lib.ListN.{length, getD}
-use Rattle.laws.specs.Numbers.{tally}
+use Rattle.laws.specs.Numbers.{how-many}
 use Rattle.laws.specs.Rearranged.{under, goes}
 use Rattle.laws.specs.Packed.{byte-bits}
 use Rattle.model.specs.Rules.{Pair, Pairs, among}
-use Rattle.model.specs.Orders.{rule-at, names, changes, outcome}
+use Rattle.model.specs.Orders.{rule-at, names, changes, whole-order}
 use Rattle.model.specs.Result.{pair}
 use Rattle.model.specs.Strata.{strict}
 use Rattle.model.specs.Response.{response}
@@ -19,20 +19,20 @@ use Rattle.grammar.specs.Meaning.{Is-file}
 use Rattle.grammar.specs.Pieces.{Rearranges}
 use Rattle.reader.specs.declared.Outcome.the-variants.{Accepted}
 use Rattle.rule_file.specs.Whole.{reading}
-use Rattle.cards.specs.Answers.{Taking, taken, refused}
+use Rattle.cards.specs.Answers.{OrRefused, taken, refused}
 use Rattle.cards.specs.Forms.{read-card, read-slip}
 use Rattle.tally.specs.declared.Tally.{Tally}
 use Rattle.results.specs.Record.{ones-in}
 use Rattle.response.specs.Ending.{Answer}
-use Rattle.response.specs.Respond.{Rooms, respond-to, response-to}
+use Rattle.response.specs.Respond.{Rooms, answer-to, response-to}
 
 -- The bit of rule n in the bytes of a fired record, rule 1 first.
 unfoldable pub bit-of : List ℕ → ℕ → Bool
 bit-of ys n = getD (false ∷ byte-bits ys) n false
 
 -- The response by the table that a text is read to: the bytes of an answer, or a refusal with both its numbers.
-abbrev pub responds : List ℕ → Tally → List ℕ → List ℕ → Rooms → Taking Answer
-responds text y card slip rooms = respond-to (reading text .table) y card slip rooms
+abbrev pub responds : List ℕ → Tally → List ℕ → List ℕ → Rooms → OrRefused Answer
+responds text y card slip rooms = answer-to (reading text .table) y card slip rooms
 
 -- A slot is in conflict: it has two or more values in C.
 unfoldable pub InConflict : Pairs → ℕ → Type 0
@@ -50,7 +50,7 @@ pub record Shows (f : File) (S : List ℕ) (I : List Pair) (a : Answer) (ns : Li
   pub changes-are : read-slip (slot-counts (f .slots)) (a .changes) ≡ taken pairs
   pub same-changes : (p : Pair) → changes (f .rules) I ns p ≡ among p pairs
   pub same-fired : (n : ℕ) → names ns n ≡ bit-of (a .fired) n
-  pub how-many : (ones-in (a .fired) ≡ tally (names ns) (length (f .rules))) × (ones-in (a .fired) ≡ length ns)
+  pub how-many-fired : (ones-in (a .fired) ≡ how-many (names ns) (length (f .rules))) × (ones-in (a .fired) ≡ length ns)
   pub no-conflict : (s : ℕ) → ¬ InConflict (changes (f .rules) I ns) s
   pub values : List ℕ
   pub card-is : read-card (slot-counts (f .slots)) (a .new-card) ≡ taken values
@@ -64,13 +64,13 @@ pub record Agreed (f : File) (card slip : List ℕ) (Shown : List ℕ → List P
   pub I : List Pair
   pub card-is : read-card (slot-counts (f .slots)) card ≡ taken S
   pub slip-is : read-slip (slot-counts (f .slots)) slip ≡ taken I
-  pub some-order : (ns : List ℕ) × T (outcome (f .rules) S I ns)
-  pub one-outcome : (a b : List ℕ) → T (outcome (f .rules) S I a) → T (outcome (f .rules) S I b) → (changes (f .rules) I a ≡ changes (f .rules) I b) × (names a ≡ names b)
-  pub ours : T (outcome (f .rules) S I (response strict (f .rules) S I))
-  pub each-order : (ns : List ℕ) → T (outcome (f .rules) S I ns) → Shown S I ns
+  pub some-order : (ns : List ℕ) × T (whole-order (f .rules) S I ns)
+  pub all-agree : (a b : List ℕ) → T (whole-order (f .rules) S I a) → T (whole-order (f .rules) S I b) → (changes (f .rules) I a ≡ changes (f .rules) I b) × (names a ≡ names b)
+  pub ours : T (whole-order (f .rules) S I (response strict (f .rules) S I))
+  pub each-order : (ns : List ℕ) → T (whole-order (f .rules) S I ns) → Shown S I ns
 
 -- The same refusal with both its numbers, or the same changes and new card, as many rules fired, and a rule's bit is one in its new place exactly when it is in its old one.
-pub data SameResponse (place : ℕ → ℕ) : Taking Answer → Taking Answer → Type 0 where
+pub data SameResponse (place : ℕ → ℕ) : OrRefused Answer → OrRefused Answer → Type 0 where
   same-refusal : {k s : ℕ} → SameResponse place (refused k s) (refused k s)
   same-answer : {a b : Answer} → a .changes ≡ b .changes → a .new-card ≡ b .new-card → ones-in (a .fired) ≡ ones-in (b .fired)
       → ((n : ℕ) → bit-of (a .fired) n ≡ bit-of (b .fired) (place n)) → SameResponse place (taken a) (taken b)

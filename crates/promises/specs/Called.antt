@@ -12,7 +12,7 @@ use Rattle.tally.specs.declared.Tally.{Tally}
 use Rattle.response.specs.declared.Response.{Response}
 use Rattle.response.specs.declared.Outcome.the-variants.{Answered}
 use Rattle.response.specs.Ending.{Answer}
-use Rattle.response.specs.Respond.{Outputs, outputs, rooms-of, written, refusal-number, second-number, respond-to, response-to, outputs-after}
+use Rattle.response.specs.Respond.{Outputs, outputs, rooms-of, written, refusal-number, second-number, answer-to, response-to, outputs-after}
 use Rattle.promises.specs.Agreement.{Agreed, Shows, LowestConflict}
 
 -- A file is accepted when its reading gives no refusal.
@@ -24,7 +24,7 @@ abbrev pub answered : List ℕ → Tally → List ℕ → List ℕ → Outputs �
 answered text y card slip o = response-to (reading text .table) y card slip (rooms-of (o .card) (o .changes) (o .fired))
 
 abbrev pub left : List ℕ → Tally → List ℕ → List ℕ → Outputs → Outputs
-left text y card slip o = outputs-after (respond-to (reading text .table) y card slip (rooms-of (o .card) (o .changes) (o .fired))) o
+left text y card slip o = outputs-after (answer-to (reading text .table) y card slip (rooms-of (o .card) (o .changes) (o .fired))) o
 
 -- No refusal: the outputs hold, at their front, the bytes of an answer of which the lengths and counts are told, and every complete and consistent firing order is as that answer shows.
 pub record CalledAnswer (text : List ℕ) (f : File) (y : Tally) (card slip : List ℕ) (o : Outputs) : Type 0 where

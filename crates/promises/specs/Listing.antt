@@ -10,11 +10,11 @@ use Rattle.table.specs.Names.{show-slot, show-value}
 use Rattle.reader.specs.declared.Outcome as reader
 use Rattle.reader.specs.declared.Outcome.the-variants.{Accepted, Refused}
 use Rattle.rule_file.specs.Whole.{reading}
-use Rattle.cards.specs.Answers.{Taking, taken, refused}
+use Rattle.cards.specs.Answers.{OrRefused, taken, refused}
 use Rattle.cards.specs.Forms.{changes-in}
 use Rattle.tally.specs.declared.Tally.{Tally}
 use Rattle.response.specs.Ending.{Answer}
-use Rattle.response.specs.Respond.{Rooms, respond-to, tally-after}
+use Rattle.response.specs.Respond.{Rooms, answer-to, tally-after}
 use Rattle.promises.specs.Agreement.{bit-of}
 use Rattle.promises.specs.Day.{fresh}
 
@@ -46,14 +46,14 @@ abbrev pub change-line : List ℕ → Table → Pair → ChangeLine
 change-line text t p = record { slot = show-slot text t (p .slot) .part; value = show-value text t (p .slot) (p .value) .part }
 
 -- The listing of a response.
-unfoldable pub list-response : List ℕ → Table → Taking Answer → Listing
+unfoldable pub list-response : List ℕ → Table → OrRefused Answer → Listing
 list-response text t (taken a) =
     listed (tabulate (λ i. rule-line t a (suc i)) (t .count)) (map (change-line text t) (changes-in (a .changes))) (a .new-card) (tally-after fresh (taken a))
 list-response text t (refused k s) = refusal k s
 
 -- The listing of what a reading comes to.
 unfoldable pub list-reading : List ℕ → reader.Outcome → Table → List ℕ → List ℕ → Listing
-list-reading text Accepted t card slip = list-response text t (respond-to t fresh card slip program-rooms)
+list-reading text Accepted t card slip = list-response text t (answer-to t fresh card slip program-rooms)
 list-reading text (Refused k n) t card slip = refusal k n
 
 -- The listing of a rule text, a card and a slip.

@@ -36,7 +36,7 @@ use Rattle.table.proofs.Link.{rules-length}
 use Rattle.cards.specs.declared.Card.{Card}
 use Rattle.cards.specs.declared.Slip.{Slip}
 use Rattle.cards.specs.Answers.{taken, refused}
-use Rattle.cards.specs.Forms.{card-width, slip-width, card-bytes, slip-bytes}
+use Rattle.cards.specs.Forms.{card-bits, slip-bits, card-bytes, slip-bytes}
 use Rattle.cards.specs.Cards.{CardFits, SlipFits, no-change, pair-of, change-of, values-of, changes-of, card-of, slip-of}
 use Rattle.cards.proofs.Formed.{slip-length}
 use Rattle.cards.proofs.EntryTrips.{card-of-values, slip-of-changes}
@@ -46,7 +46,7 @@ use Rattle.firing.specs.Firing.{firing-of}
 use Rattle.results.specs.Record.{fired-bits, ones-in}
 use Rattle.results.specs.Record as firing
 use Rattle.results.specs.Ending.{new-places}
-use Rattle.response.specs.Ending.{fired-record, answer-of, settled, ending}
+use Rattle.response.specs.Ending.{fired-record, answer-of, unless-conflict, answer-by-firing}
 use Rattle.response.specs.declared.Outcome.the-variants.{Answered, Refused}
 use Rattle.response.specs.Respond.{Outputs, outputs, written, outcome-of, outputs-after, Ends}
 use Rattle.response.specs.InOrder.{InOrder}
@@ -80,13 +80,13 @@ module _ (rs : List Rule) (width : ℕ) (S : List ℕ) (I : List Pair) where
   C = changes rs I ours
 
   -- A conflict, or the answer.
-  pub ending-conflict : conflict-slot width row C < width → ending rs width S I ≡ refused 40 (conflict-slot width row C)
-  unfolding ending settled
-  ending-conflict h = rw (lt-ltb (conflict-slot width row C) width h) refl
+  pub by-firing-conflict : conflict-slot width row C < width → answer-by-firing rs width S I ≡ refused 40 (conflict-slot width row C)
+  unfolding answer-by-firing unless-conflict
+  by-firing-conflict h = rw (lt-ltb (conflict-slot width row C) width h) refl
 
-  pub ending-answer : width ≤ conflict-slot width row C → ending rs width S I ≡ taken (answer-of width (length rs) S C ours)
-  unfolding ending settled
-  ending-answer h = rw (le-ltb (conflict-slot width row C) width h) refl
+  pub by-firing-answer : width ≤ conflict-slot width row C → answer-by-firing rs width S I ≡ taken (answer-of width (length rs) S C ours)
+  unfolding answer-by-firing unless-conflict
+  by-firing-answer h = rw (le-ltb (conflict-slot width row C) width h) refl
 
 -- The card of so many values in their places has them.
 pub card-values : (width : ℕ) (xs : List ℕ) → length xs ≡ width → values-of (record { values = filled slot-limit 0 xs; count = width }) ≡ xs
@@ -160,7 +160,7 @@ module _ (D : Pairs) (width : ℕ) (few : width ≤ slot-limit) where
     values-fit = λ j h. let k : j < length ps = omega (arith, h, slip-count) in rw (change-at j k) (bound j k .1);
   }
 
-  pub listed-room : byte-count (slip-width (slip-of ps .count)) ≤ 37
+  pub listed-room : byte-count (slip-bits (slip-of ps .count)) ≤ 37
   listed-room = omega (arith, slip-count, slip-few D width, few)
 
 -- The record of the flags is that of the rules fired.
@@ -207,11 +207,11 @@ module _ (t : Table) (card : Card) (slip : Slip) (O : InOrder t card slip) (sh :
 
   -- 40 leaves the outputs.
   pub conflict-ends : (slot : ℕ) (o : Outputs) → slot ≡ conflict-slot (t .width) row (set-of (g .changes)) → slot < t .width
-      → Ends (ending (rules-of t) (t .width) (values-of card) (changes-of slip)) (Refused 40 slot) o o
+      → Ends (answer-by-firing (rules-of t) (t .width) (values-of card) (changes-of slip)) (Refused 40 slot) o o
   unfolding outcome-of outputs-after
   conflict-ends slot o e h =
       let w : slot ≡ conflict-slot (t .width) row ends-with = e ∙ ap (conflict-slot (t .width) row) same-changes in
-      rw (ending-conflict (rules-of t) (t .width) (values-of card) (changes-of slip) (omega (arith, w, h)), w) (refl, refl)
+      rw (by-firing-conflict (rules-of t) (t .width) (values-of card) (changes-of slip) (omega (arith, w, h)), w) (refl, refl)
 
   -- The new card in its places, and its values.
   pub next-values : values-of (record { values = new-places (t .width) (g .changes) (card .values); count = t .width }) ≡ new-card (t .width) row ends-with (values-of card)
@@ -228,15 +228,15 @@ module _ (t : Table) (card : Card) (slip : Slip) (O : InOrder t card slip) (sh :
 
   -- The answer is written.
   pub answer-ends : (slot n m : ℕ) (a b c a′ b′ c′ : List ℕ) → slot ≡ conflict-slot (t .width) row (set-of (g .changes)) → t .width ≤ slot
-      → a′ ≡ card-bytes (values-of (record { values = new-places (t .width) (g .changes) (card .values); count = t .width })) ++ drop (byte-count (card-width (t .width))) a
+      → a′ ≡ card-bytes (values-of (record { values = new-places (t .width) (g .changes) (card .values); count = t .width })) ++ drop (byte-count (card-bits (t .width))) a
       → (s : Slip) → s ≡ slip-of (changes-slip (t .width) row (set-of (g .changes)))
-      → n ≡ byte-count (slip-width (s .count)) → b′ ≡ slip-bytes (changes-of s) ++ drop (byte-count (slip-width (s .count))) b
+      → n ≡ byte-count (slip-bits (s .count)) → b′ ≡ slip-bytes (changes-of s) ++ drop (byte-count (slip-bits (s .count))) b
       → c′ ≡ firing.flag-record (g .fired) (t .count) ++ drop (byte-count (t .count)) c → m ≡ ones-in (take (byte-count (t .count)) c′)
-      → Ends (ending (rules-of t) (t .width) (values-of card) (changes-of slip)) (Answered n m) (outputs a b c) (outputs a′ b′ c′)
+      → Ends (answer-by-firing (rules-of t) (t .width) (values-of card) (changes-of slip)) (Answered n m) (outputs a b c) (outputs a′ b′ c′)
   unfolding outcome-of outputs-after answer-of
   answer-ends slot n m a b c a′ b′ c′ e h ea s es en eb ec em =
       let w : slot ≡ conflict-slot (t .width) row ends-with = e ∙ ap (conflict-slot (t .width) row) same-changes in
-      let x = ending-answer (rules-of t) (t .width) (values-of card) (changes-of slip) (omega (arith, w, h)) in
+      let x = by-firing-answer (rules-of t) (t .width) (values-of card) (changes-of slip) (omega (arith, w, h)) in
       rw x (ap₂ (λ (i j : ℕ). Answered i j) (en ∙ changes-size) (em ∙ ap ones-in fired-front), λ i. outputs (card-part i) (changes-part i) (fired-part i))
     where
       listed : changes-of s ≡ changes-slip (t .width) row ends-with
@@ -245,8 +245,8 @@ module _ (t : Table) (card : Card) (slip : Slip) (O : InOrder t card slip) (sh :
       size : s .count ≡ length (changes-slip (t .width) row ends-with)
       size = sym (slip-length s) ∙ ap length listed
 
-      changes-size : byte-count (slip-width (s .count)) ≡ length (slip-bytes (changes-slip (t .width) row ends-with))
-      changes-size = ap (λ (k : ℕ). byte-count (slip-width k)) size ∙ sym (slip-bytes-length (changes-slip (t .width) row ends-with))
+      changes-size : byte-count (slip-bits (s .count)) ≡ length (slip-bytes (changes-slip (t .width) row ends-with))
+      changes-size = ap (λ (k : ℕ). byte-count (slip-bits k)) size ∙ sym (slip-bytes-length (changes-slip (t .width) row ends-with))
 
       record-is : firing.flag-record (g .fired) (t .count) ≡ fired-record (length (rules-of t)) fired-in-order
       record-is = record-same fired-in-order (g .fired) (t .count) same-rules few-rules ∙ ap (λ (k : ℕ). fired-record k fired-in-order) (sym counted-rules)
@@ -261,14 +261,14 @@ module _ (t : Table) (card : Card) (slip : Slip) (O : InOrder t card slip) (sh :
 
       card-part : a′ ≡ written (card-bytes (new-card (t .width) row ends-with (values-of card))) a
       card-part =
-          ea ∙ ap (λ (vs : List ℕ). card-bytes vs ++ drop (byte-count (card-width (t .width))) a) next-values
-          ∙ front-is (card-bytes (new-card (t .width) row ends-with (values-of card))) a (byte-count (card-width (t .width)))
-          (card-bytes-length (new-card (t .width) row ends-with (values-of card)) ∙ ap (λ (k : ℕ). byte-count (card-width k)) (new-card-length (t .width) ends-with (values-of card)))
+          ea ∙ ap (λ (vs : List ℕ). card-bytes vs ++ drop (byte-count (card-bits (t .width))) a) next-values
+          ∙ front-is (card-bytes (new-card (t .width) row ends-with (values-of card))) a (byte-count (card-bits (t .width)))
+          (card-bytes-length (new-card (t .width) row ends-with (values-of card)) ∙ ap (λ (k : ℕ). byte-count (card-bits k)) (new-card-length (t .width) ends-with (values-of card)))
 
       changes-part : b′ ≡ written (slip-bytes (changes-slip (t .width) row ends-with)) b
       changes-part =
-          eb ∙ ap (λ (ps : List Pair). slip-bytes ps ++ drop (byte-count (slip-width (s .count))) b) listed
-          ∙ front-is (slip-bytes (changes-slip (t .width) row ends-with)) b (byte-count (slip-width (s .count))) (sym changes-size)
+          eb ∙ ap (λ (ps : List Pair). slip-bytes ps ++ drop (byte-count (slip-bits (s .count))) b) listed
+          ∙ front-is (slip-bytes (changes-slip (t .width) row ends-with)) b (byte-count (slip-bits (s .count))) (sym changes-size)
 
       fired-part : c′ ≡ written (fired-record (length (rules-of t)) fired-in-order) c
       fired-part =

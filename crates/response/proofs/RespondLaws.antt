@@ -21,8 +21,8 @@ use Rattle.cards.specs.declared.Card.{Card}
 use Rattle.cards.specs.declared.Slip.{Slip}
 use Rattle.cards.specs.declared.CardRead.{CardRead}
 use Rattle.cards.specs.declared.SlipRead.{SlipRead}
-use Rattle.cards.specs.Answers.{Taking, taken, refused}
-use Rattle.cards.specs.Forms.{card-width, card-test, slip-test, read-card, read-slip}
+use Rattle.cards.specs.Answers.{OrRefused, taken, refused}
+use Rattle.cards.specs.Forms.{card-bits, card-test, slip-test, read-card, read-slip}
 use Rattle.cards.specs.Cards.{CardFits, SlipFits, card-of, slip-of, card-read, slip-read}
 use Rattle.cards.proofs.Passed.{slots-length, sound-slots, card-pass, card-fits, slip-fits}
 use Rattle.cards.proofs.EntryTrips.{card-of-values, slip-of-changes}
@@ -31,79 +31,79 @@ use Rattle.firing.proofs.Responses.{sound-fireable}
 use Rattle.tally.specs.declared.Tally.{Tally}
 use Rattle.response.specs.declared.Outcome.{Outcome}
 use Rattle.response.specs.declared.Outcome.the-variants as response
-use Rattle.response.specs.Ending.{Answer, ending}
-use Rattle.response.specs.Respond.{Rooms, Outputs, changes-room, _then_, if-room, responded, worked, counted, tally-after, outcome-of, outputs-after, respond-to, response-to, Ends}
+use Rattle.response.specs.Ending.{Answer, answer-by-firing}
+use Rattle.response.specs.Respond.{Rooms, Outputs, changes-room, _then_, if-room, answer-by-rules, answer-by-table, counted, tally-after, outcome-of, outputs-after, answer-to, response-to, Ends}
 use Rattle.tally.specs.Counting.{is-full, one-answered, one-refused}
 use Rattle.response.specs.InOrder.{InOrder}
 
 -- What the code says of a card is what was taken or refused.
-pub card-taken : (u : Taking (List ℕ)) (q : CardRead) → q ≡ card-read u → q .outcome ≡ Accepted → (S : List ℕ) × (u ≡ taken S) × (q .card ≡ card-of S)
+pub card-taken : (u : OrRefused (List ℕ)) (q : CardRead) → q ≡ card-read u → q .outcome ≡ Accepted → (S : List ℕ) × (u ≡ taken S) × (q .card ≡ card-of S)
 unfolding card-read
 card-taken (taken S) q e o = (S, refl, ap (λ (x : CardRead). x .card) e)
 card-taken (refused k s) q e o = absurd (let c : Accepted ≡ Refused k s = sym o ∙ ap (λ (x : CardRead). x .outcome) e in let z : _≡_ {A = ℕ} 0 1 = cc in omega arith)
 
-pub card-refused : (u : Taking (List ℕ)) (q : CardRead) (k s : ℕ) → q ≡ card-read u → q .outcome ≡ Refused k s → u ≡ refused k s
+pub card-refused : (u : OrRefused (List ℕ)) (q : CardRead) (k s : ℕ) → q ≡ card-read u → q .outcome ≡ Refused k s → u ≡ refused k s
 unfolding card-read
 card-refused (taken S) q k s e o = absurd (let c : Accepted ≡ Refused k s = sym (ap (λ (x : CardRead). x .outcome) e) ∙ o in let z : _≡_ {A = ℕ} 0 1 = cc in omega arith)
 card-refused (refused j r) q k s e o = let c : Refused j r ≡ Refused k s = sym (ap (λ (x : CardRead). x .outcome) e) ∙ o in let a : j ≡ k = cc in let b : r ≡ s = cc in rw (a, b)
 
 -- The same of a slip.
-pub slip-taken : (u : Taking (List Pair)) (q : SlipRead) → q ≡ slip-read u → q .outcome ≡ Accepted → (I : List Pair) × (u ≡ taken I) × (q .slip ≡ slip-of I)
+pub slip-taken : (u : OrRefused (List Pair)) (q : SlipRead) → q ≡ slip-read u → q .outcome ≡ Accepted → (I : List Pair) × (u ≡ taken I) × (q .slip ≡ slip-of I)
 unfolding slip-read
 slip-taken (taken I) q e o = (I, refl, ap (λ (x : SlipRead). x .slip) e)
 slip-taken (refused k s) q e o = absurd (let c : Accepted ≡ Refused k s = sym o ∙ ap (λ (x : SlipRead). x .outcome) e in let z : _≡_ {A = ℕ} 0 1 = cc in omega arith)
 
-pub slip-refused : (u : Taking (List Pair)) (q : SlipRead) (k s : ℕ) → q ≡ slip-read u → q .outcome ≡ Refused k s → u ≡ refused k s
+pub slip-refused : (u : OrRefused (List Pair)) (q : SlipRead) (k s : ℕ) → q ≡ slip-read u → q .outcome ≡ Refused k s → u ≡ refused k s
 unfolding slip-read
 slip-refused (taken I) q k s e o = absurd (let c : Accepted ≡ Refused k s = sym (ap (λ (x : SlipRead). x .outcome) e) ∙ o in let z : _≡_ {A = ℕ} 0 1 = cc in omega arith)
 slip-refused (refused j r) q k s e o = let c : Refused j r ≡ Refused k s = sym (ap (λ (x : SlipRead). x .outcome) e) ∙ o in let a : j ≡ k = cc in let b : r ≡ s = cc in rw (a, b)
 
 -- A refusal leaves all outputs.
-pub ends-refused : (u : Taking Answer) (k s : ℕ) (o : Outputs) → u ≡ refused k s → Ends u (response.Refused k s) o o
+pub ends-refused : (u : OrRefused Answer) (k s : ℕ) (o : Outputs) → u ≡ refused k s → Ends u (response.Refused k s) o o
 unfolding outcome-of outputs-after
 ends-refused u k s o e = rw e (refl, refl)
 
 -- 31, or what comes after it.
-pub worked-31 : (t : Table) (card slip : List ℕ) (rooms : Rooms) → sound t ≡ false → worked t card slip rooms ≡ refused 31 0
-unfolding worked
-worked-31 t card slip rooms e = rw e refl
+pub by-table-31 : (t : Table) (card slip : List ℕ) (rooms : Rooms) → sound t ≡ false → answer-by-table t card slip rooms ≡ refused 31 0
+unfolding answer-by-table
+by-table-31 t card slip rooms e = rw e refl
 
-pub worked-on : (t : Table) (card slip : List ℕ) (rooms : Rooms) → sound t ≡ true → worked t card slip rooms ≡ responded (value-counts t) (rules-of t) card slip rooms
-unfolding worked
-worked-on t card slip rooms e = rw e refl
+pub by-table-on : (t : Table) (card slip : List ℕ) (rooms : Rooms) → sound t ≡ true → answer-by-table t card slip rooms ≡ answer-by-rules (value-counts t) (rules-of t) card slip rooms
+unfolding answer-by-table
+by-table-on t card slip rooms e = rw e refl
 
 module _ (counts : List ℕ) (rs : List Rule) (card slip : List ℕ) (rooms : Rooms) where
   -- 20 to 23, 24 to 28, or what comes after them.
-  pub responded-card : (k s : ℕ) → read-card counts card ≡ refused k s → responded counts rs card slip rooms ≡ refused k s
-  unfolding responded _then_
-  responded-card k s e = rw e refl
+  pub by-rules-card : (k s : ℕ) → read-card counts card ≡ refused k s → answer-by-rules counts rs card slip rooms ≡ refused k s
+  unfolding answer-by-rules _then_
+  by-rules-card k s e = rw e refl
 
-  pub responded-slip : (S : List ℕ) (k s : ℕ) → read-card counts card ≡ taken S → read-slip counts slip ≡ refused k s → responded counts rs card slip rooms ≡ refused k s
-  unfolding responded _then_
-  responded-slip S k s e f = rw (e, f) refl
+  pub by-rules-slip : (S : List ℕ) (k s : ℕ) → read-card counts card ≡ taken S → read-slip counts slip ≡ refused k s → answer-by-rules counts rs card slip rooms ≡ refused k s
+  unfolding answer-by-rules _then_
+  by-rules-slip S k s e f = rw (e, f) refl
 
-  pub responded-on : (S : List ℕ) (I : List Pair) → read-card counts card ≡ taken S → read-slip counts slip ≡ taken I
-      → responded counts rs card slip rooms ≡ if-room (length counts) (length rs) rooms (ending rs (length counts) S I)
-  unfolding responded _then_
-  responded-on S I e f = rw (e, f) refl
+  pub by-rules-on : (S : List ℕ) (I : List Pair) → read-card counts card ≡ taken S → read-slip counts slip ≡ taken I
+      → answer-by-rules counts rs card slip rooms ≡ if-room (length counts) (length rs) rooms (answer-by-firing rs (length counts) S I)
+  unfolding answer-by-rules _then_
+  by-rules-on S I e f = rw (e, f) refl
 
 -- 30, the first output that is too short, or what comes after it.
-module _ (width count : ℕ) (rooms : Rooms) (u : Taking Answer) where
-  pub short-card : rooms .for-card < byte-count (card-width width) → if-room width count rooms u ≡ refused 30 1
+module _ (width count : ℕ) (rooms : Rooms) (u : OrRefused Answer) where
+  pub short-card : rooms .for-card < byte-count (card-bits width) → if-room width count rooms u ≡ refused 30 1
   unfolding if-room
-  short-card a = rw (lt-ltb (rooms .for-card) (byte-count (card-width width)) a) refl
+  short-card a = rw (lt-ltb (rooms .for-card) (byte-count (card-bits width)) a) refl
 
-  pub short-changes : byte-count (card-width width) ≤ rooms .for-card → rooms .for-changes < changes-room → if-room width count rooms u ≡ refused 30 2
+  pub short-changes : byte-count (card-bits width) ≤ rooms .for-card → rooms .for-changes < changes-room → if-room width count rooms u ≡ refused 30 2
   unfolding if-room
-  short-changes a b = rw (le-ltb (rooms .for-card) (byte-count (card-width width)) a, lt-ltb (rooms .for-changes) changes-room b) refl
+  short-changes a b = rw (le-ltb (rooms .for-card) (byte-count (card-bits width)) a, lt-ltb (rooms .for-changes) changes-room b) refl
 
-  pub short-fired : byte-count (card-width width) ≤ rooms .for-card → changes-room ≤ rooms .for-changes → rooms .for-fired < byte-count count → if-room width count rooms u ≡ refused 30 3
+  pub short-fired : byte-count (card-bits width) ≤ rooms .for-card → changes-room ≤ rooms .for-changes → rooms .for-fired < byte-count count → if-room width count rooms u ≡ refused 30 3
   unfolding if-room
-  short-fired a b c = rw (le-ltb (rooms .for-card) (byte-count (card-width width)) a, le-ltb (rooms .for-changes) changes-room b, lt-ltb (rooms .for-fired) (byte-count count) c) refl
+  short-fired a b c = rw (le-ltb (rooms .for-card) (byte-count (card-bits width)) a, le-ltb (rooms .for-changes) changes-room b, lt-ltb (rooms .for-fired) (byte-count count) c) refl
 
-  pub room-enough : byte-count (card-width width) ≤ rooms .for-card → changes-room ≤ rooms .for-changes → byte-count count ≤ rooms .for-fired → if-room width count rooms u ≡ u
+  pub room-enough : byte-count (card-bits width) ≤ rooms .for-card → changes-room ≤ rooms .for-changes → byte-count count ≤ rooms .for-fired → if-room width count rooms u ≡ u
   unfolding if-room
-  room-enough a b c = rw (le-ltb (rooms .for-card) (byte-count (card-width width)) a, le-ltb (rooms .for-changes) changes-room b, le-ltb (rooms .for-fired) (byte-count count) c) refl
+  room-enough a b c = rw (le-ltb (rooms .for-card) (byte-count (card-bits width)) a, le-ltb (rooms .for-changes) changes-room b, le-ltb (rooms .for-fired) (byte-count count) c) refl
 
 module _ (t : Table) (sh : Shaped t) (e : sound t ≡ true) where
   -- A card that is taken, in its places.
@@ -134,39 +134,39 @@ module _ (t : Table) (sh : Shaped t) (e : sound t ≡ true) where
   in-order card slip S I c s r q e f = rw (e, f) (both-in-order card slip S I r q)
 
 -- What ends as one response ends as another that is the same.
-pub ends-same : (u v : Taking Answer) (r : Outcome) (o o′ : Outputs) → u ≡ v → Ends v r o o′ → Ends u r o o′
+pub ends-same : (u v : OrRefused Answer) (r : Outcome) (o o′ : Outputs) → u ≡ v → Ends v r o o′ → Ends u r o o′
 ends-same u v r o o′ e w = rw e w
 
 -- 32 leaves the tally and the outputs.
 pub full-response : (t : Table) (y : Tally) (card slip : List ℕ) (rooms : Rooms) (o : Outputs) → is-full y ≡ true
-    → (record { outcome = response.Refused 32 0; tally = y } ≡ response-to t y card slip rooms) × (o ≡ outputs-after (respond-to t y card slip rooms) o)
-unfolding response-to respond-to tally-after outcome-of outputs-after
+    → (record { outcome = response.Refused 32 0; tally = y } ≡ response-to t y card slip rooms) × (o ≡ outputs-after (answer-to t y card slip rooms) o)
+unfolding response-to answer-to tally-after outcome-of outputs-after
 full-response t y card slip rooms o e = rw e (refl, refl)
 
 -- Otherwise an answer adds one to slips answered, a refusal one to slips refused.
-answer-counted : (y : Tally) (u : Taking Answer) (n f : ℕ) → outcome-of u ≡ response.Answered n f → counted y u ≡ one-answered y
+answer-counted : (y : Tally) (u : OrRefused Answer) (n f : ℕ) → outcome-of u ≡ response.Answered n f → counted y u ≡ one-answered y
 unfolding outcome-of counted
 answer-counted y (taken a) n f e = refl
 answer-counted y (refused k s) n f e = absurd (let z : _≡_ {A = ℕ} 0 1 = cc in omega arith)
 
-refusal-counted : (y : Tally) (u : Taking Answer) (k s : ℕ) → outcome-of u ≡ response.Refused k s → counted y u ≡ one-refused y
+refusal-counted : (y : Tally) (u : OrRefused Answer) (k s : ℕ) → outcome-of u ≡ response.Refused k s → counted y u ≡ one-refused y
 unfolding outcome-of counted
 refusal-counted y (taken a) k s e = absurd (let z : _≡_ {A = ℕ} 0 1 = cc in omega arith)
 refusal-counted y (refused j r) k s e = refl
 
-counted-response : (t : Table) (y z : Tally) (card slip : List ℕ) (rooms : Rooms) (r : Outcome) (o o′ : Outputs) → is-full y ≡ false → Ends (worked t card slip rooms) r o o′ → z ≡ counted y (worked t card slip rooms)
-    → (record { outcome = r; tally = z } ≡ response-to t y card slip rooms) × (o′ ≡ outputs-after (respond-to t y card slip rooms) o)
-unfolding response-to respond-to tally-after
+counted-response : (t : Table) (y z : Tally) (card slip : List ℕ) (rooms : Rooms) (r : Outcome) (o o′ : Outputs) → is-full y ≡ false → Ends (answer-by-table t card slip rooms) r o o′ → z ≡ counted y (answer-by-table t card slip rooms)
+    → (record { outcome = r; tally = z } ≡ response-to t y card slip rooms) × (o′ ≡ outputs-after (answer-to t y card slip rooms) o)
+unfolding response-to answer-to tally-after
 counted-response t y z card slip rooms r o o′ e w q = rw e (λ i. record { outcome = w .0 i; tally = q i }, w .1)
 
-pub counted-answer : (t : Table) (y z : Tally) (card slip : List ℕ) (rooms : Rooms) (r : Outcome) (n f : ℕ) (o o′ : Outputs) → is-full y ≡ false → Ends (worked t card slip rooms) r o o′
+pub counted-answer : (t : Table) (y z : Tally) (card slip : List ℕ) (rooms : Rooms) (r : Outcome) (n f : ℕ) (o o′ : Outputs) → is-full y ≡ false → Ends (answer-by-table t card slip rooms) r o o′
     → r ≡ response.Answered n f → z ≡ one-answered y
-    → (record { outcome = response.Answered n f; tally = z } ≡ response-to t y card slip rooms) × (o′ ≡ outputs-after (respond-to t y card slip rooms) o)
+    → (record { outcome = response.Answered n f; tally = z } ≡ response-to t y card slip rooms) × (o′ ≡ outputs-after (answer-to t y card slip rooms) o)
 counted-answer t y z card slip rooms r n f o o′ e w a q =
-    counted-response t y z card slip rooms (response.Answered n f) o o′ e (sym a ∙ w .0, w .1) (q ∙ sym (answer-counted y (worked t card slip rooms) n f (sym (w .0) ∙ a)))
+    counted-response t y z card slip rooms (response.Answered n f) o o′ e (sym a ∙ w .0, w .1) (q ∙ sym (answer-counted y (answer-by-table t card slip rooms) n f (sym (w .0) ∙ a)))
 
-pub counted-refusal : (t : Table) (y z : Tally) (card slip : List ℕ) (rooms : Rooms) (r : Outcome) (k s : ℕ) (o o′ : Outputs) → is-full y ≡ false → Ends (worked t card slip rooms) r o o′
+pub counted-refusal : (t : Table) (y z : Tally) (card slip : List ℕ) (rooms : Rooms) (r : Outcome) (k s : ℕ) (o o′ : Outputs) → is-full y ≡ false → Ends (answer-by-table t card slip rooms) r o o′
     → r ≡ response.Refused k s → z ≡ one-refused y
-    → (record { outcome = response.Refused k s; tally = z } ≡ response-to t y card slip rooms) × (o′ ≡ outputs-after (respond-to t y card slip rooms) o)
+    → (record { outcome = response.Refused k s; tally = z } ≡ response-to t y card slip rooms) × (o′ ≡ outputs-after (answer-to t y card slip rooms) o)
 counted-refusal t y z card slip rooms r k s o o′ e w a q =
-    counted-response t y z card slip rooms (response.Refused k s) o o′ e (sym a ∙ w .0, w .1) (q ∙ sym (refusal-counted y (worked t card slip rooms) k s (sym (w .0) ∙ a)))
+    counted-response t y z card slip rooms (response.Refused k s) o o′ e (sym a ∙ w .0, w .1) (q ∙ sym (refusal-counted y (answer-by-table t card slip rooms) k s (sym (w .0) ∙ a)))

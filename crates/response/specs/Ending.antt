@@ -12,7 +12,7 @@ use Rattle.model.specs.Strata.{strict}
 use Rattle.model.specs.Response.{response}
 use Rattle.model.specs.Result.{conflict-slot, new-card, changes-slip}
 use Rattle.table.specs.Limits.{row}
-use Rattle.cards.specs.Answers.{Taking, taken, refused}
+use Rattle.cards.specs.Answers.{OrRefused, taken, refused}
 use Rattle.cards.specs.Forms.{card-bytes, slip-bytes}
 
 -- The bytes of an answer: the new card, the changes and the fired record.
@@ -30,10 +30,10 @@ unfoldable pub answer-of : ℕ → ℕ → List ℕ → Pairs → List ℕ → A
 answer-of width count S C ns = record { new-card = card-bytes (new-card width row C S); changes = slip-bytes (changes-slip width row C); fired = fired-record count ns }
 
 -- 40 with the lowest slot that has two values in C, else the answer.
-unfoldable pub settled : ℕ → ℕ → List ℕ → Pairs → List ℕ → Taking Answer
-settled width count S C ns =
+unfoldable pub unless-conflict : ℕ → ℕ → List ℕ → Pairs → List ℕ → OrRefused Answer
+unless-conflict width count S C ns =
     cond (ltb (conflict-slot width row C) width) (refused 40 (conflict-slot width row C)) (taken (answer-of width count S C ns))
 
 -- All firing ends before conflicts are looked for.
-unfoldable pub ending : List Rule → ℕ → List ℕ → List Pair → Taking Answer
-ending rs width S I = settled width (length rs) S (changes rs I (response strict rs S I)) (response strict rs S I)
+unfoldable pub answer-by-firing : List Rule → ℕ → List ℕ → List Pair → OrRefused Answer
+answer-by-firing rs width S I = unless-conflict width (length rs) S (changes rs I (response strict rs S I)) (response strict rs S I)

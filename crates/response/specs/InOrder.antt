@@ -7,7 +7,7 @@ use Rattle.table.specs.declared.Table.{Table}
 use Rattle.table.specs.Limits.{slot-limit}
 use Rattle.cards.specs.declared.Card.{Card}
 use Rattle.cards.specs.declared.Slip.{Slip}
-use Rattle.cards.specs.Forms.{card-width}
+use Rattle.cards.specs.Forms.{card-bits}
 use Rattle.cards.specs.Cards.{CardFits, SlipFits}
 use Rattle.firing.specs.Firing.{Fireable}
 use Rattle.response.specs.Respond.{Rooms, changes-room}
@@ -23,6 +23,6 @@ pub record InOrder (t : Table) (card : Card) (slip : Slip) : Type 0 where
 
 -- The outputs have room for so many slots and rules.
 pub record HasRoom (width count : ℕ) (rooms : Rooms) : Type 0 where
-  pub card-room : byte-count (card-width width) ≤ rooms .for-card
+  pub card-room : byte-count (card-bits width) ≤ rooms .for-card
   pub changes-there : changes-room ≤ rooms .for-changes
   pub fired-room : byte-count count ≤ rooms .for-fired

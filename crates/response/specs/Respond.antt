@@ -11,19 +11,19 @@ use Rattle.model.specs.Rules.{Rule}
 use Rattle.table.specs.declared.Table.{Table}
 use Rattle.table.specs.Link.{rules-of, value-counts}
 use Rattle.soundness.specs.Sound.{sound}
-use Rattle.cards.specs.Answers.{Taking, taken, refused}
-use Rattle.cards.specs.Forms.{card-width, read-card, read-slip}
+use Rattle.cards.specs.Answers.{OrRefused, taken, refused}
+use Rattle.cards.specs.Forms.{card-bits, read-card, read-slip}
 use Rattle.tally.specs.declared.Tally.{Tally}
 use Rattle.tally.specs.Counting.{is-full, one-answered, one-refused}
 use Rattle.response.specs.declared.Outcome.{Outcome}
 use Rattle.response.specs.declared.Outcome.the-variants.{Answered, Refused}
 use Rattle.response.specs.declared.Response.{Response}
 use Rattle.results.specs.Record.{ones-in}
-use Rattle.response.specs.Ending.{Answer, ending}
+use Rattle.response.specs.Ending.{Answer, answer-by-firing}
 
 -- First one thing is taken, then another by it; a refusal stays.
 infixl 20 _then_
-unfoldable pub _then_ : {A B : Type 0} → Taking A → (A → Taking B) → Taking B
+unfoldable pub _then_ : {A B : Type 0} → OrRefused A → (A → OrRefused B) → OrRefused B
 taken a then f = f a
 refused k s then f = refused k s
 
@@ -38,43 +38,43 @@ abbrev pub changes-room : ℕ
 changes-room = 37
 
 -- 30: an output too short for so many slots and rules, 1 the card, 2 the changes, 3 the fired record; the first short one is named.
-unfoldable pub if-room : {A : Type 0} → ℕ → ℕ → Rooms → Taking A → Taking A
+unfoldable pub if-room : {A : Type 0} → ℕ → ℕ → Rooms → OrRefused A → OrRefused A
 if-room width count rooms u =
-    cond (ltb (rooms .for-card) (byte-count (card-width width))) (refused 30 1)
+    cond (ltb (rooms .for-card) (byte-count (card-bits width))) (refused 30 1)
     (cond (ltb (rooms .for-changes) changes-room) (refused 30 2) (cond (ltb (rooms .for-fired) (byte-count count)) (refused 30 3) u))
 
 -- By rules over slots of so many values each: 20 to 28, 30, then the response.
-unfoldable pub responded : List ℕ → List Rule → List ℕ → List ℕ → Rooms → Taking Answer
-responded counts rs card slip rooms =
+unfoldable pub answer-by-rules : List ℕ → List Rule → List ℕ → List ℕ → Rooms → OrRefused Answer
+answer-by-rules counts rs card slip rooms =
     read-card counts card then λ S.
     read-slip counts slip then λ I.
-    if-room (length counts) (length rs) rooms (ending rs (length counts) S I)
+    if-room (length counts) (length rs) rooms (answer-by-firing rs (length counts) S I)
 
 -- 31 before them.
-unfoldable pub worked : Table → List ℕ → List ℕ → Rooms → Taking Answer
-worked t card slip rooms = cond (sound t) (responded (value-counts t) (rules-of t) card slip rooms) (refused 31 0)
+unfoldable pub answer-by-table : Table → List ℕ → List ℕ → Rooms → OrRefused Answer
+answer-by-table t card slip rooms = cond (sound t) (answer-by-rules (value-counts t) (rules-of t) card slip rooms) (refused 31 0)
 
 -- 32 before all.
-unfoldable pub respond-to : Table → Tally → List ℕ → List ℕ → Rooms → Taking Answer
-respond-to t y card slip rooms = cond (is-full y) (refused 32 0) (worked t card slip rooms)
+unfoldable pub answer-to : Table → Tally → List ℕ → List ℕ → Rooms → OrRefused Answer
+answer-to t y card slip rooms = cond (is-full y) (refused 32 0) (answer-by-table t card slip rooms)
 
 -- The outcome: an answer says the length of the changes and how many rules fired.
-unfoldable pub outcome-of : Taking Answer → Outcome
+unfoldable pub outcome-of : OrRefused Answer → Outcome
 outcome-of (taken a) = Answered (length (a .changes)) (ones-in (a .fired))
 outcome-of (refused k s) = Refused k s
 
 -- A response that is counted.
-unfoldable pub counted : Tally → Taking Answer → Tally
+unfoldable pub counted : Tally → OrRefused Answer → Tally
 counted y (taken a) = one-answered y
 counted y (refused k s) = one-refused y
 
 -- The tally after a response: 32 is not counted.
-unfoldable pub tally-after : Tally → Taking Answer → Tally
+unfoldable pub tally-after : Tally → OrRefused Answer → Tally
 tally-after y u = cond (is-full y) y (counted y u)
 
 -- The response.
 unfoldable pub response-to : Table → Tally → List ℕ → List ℕ → Rooms → Response
-response-to t y card slip rooms = record { outcome = outcome-of (respond-to t y card slip rooms); tally = tally-after y (respond-to t y card slip rooms) }
+response-to t y card slip rooms = record { outcome = outcome-of (answer-to t y card slip rooms); tally = tally-after y (answer-to t y card slip rooms) }
 
 -- The contents of the three outputs, and their lengths.
 pub record Outputs : Type 0 where
@@ -93,12 +93,12 @@ abbrev pub written : List ℕ → List ℕ → List ℕ
 written ys out = ys ++ drop (length ys) out
 
 -- The outputs after a response: an answer is written, a refusal leaves all.
-unfoldable pub outputs-after : Taking Answer → Outputs → Outputs
+unfoldable pub outputs-after : OrRefused Answer → Outputs → Outputs
 outputs-after (taken a) o = outputs (written (a .new-card) (o .card)) (written (a .changes) (o .changes)) (written (a .fired) (o .fired))
 outputs-after (refused k s) o = o
 
 -- What a function that works out a response leaves: its outcome, and the outputs.
-abbrev pub Ends : Taking Answer → Outcome → Outputs → Outputs → Type 0
+abbrev pub Ends : OrRefused Answer → Outcome → Outputs → Outputs → Type 0
 Ends u r before after = (r ≡ outcome-of u) × (after ≡ outputs-after u before)
 
 -- The number of a refusal, 0 for none, and its second number.

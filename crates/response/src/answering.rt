@@ -2,7 +2,7 @@
 ghost use lib.ListN.{length};
 ghost use Rattle.table.specs.Link.{rules-of};
 ghost use Rattle.cards.specs.Cards.{values-of, changes-of};
-ghost use Rattle.response.specs.Ending.{ending};
+ghost use Rattle.response.specs.Ending.{answer-by-firing};
 ghost use Rattle.response.specs.Respond.{outputs, rooms-of, if-room, Ends};
 ghost use Rattle.response.specs.InOrder.{InOrder, HasRoom};
 use crate::Outcome;
@@ -30,7 +30,7 @@ fn settle(
     fired: &mut [u8],
 ) -> Outcome
     requires { ⌜ InOrder t card slip × HasRoom (t .width) (t .count) (rooms-of (now renewed) (now changes) (now fired)) ⌝ }
-    ensures { λ r. ⌜ Ends (ending (rules-of t) (t .width) (values-of card) (changes-of slip)) r
+    ensures { λ r. ⌜ Ends (answer-by-firing (rules-of t) (t .width) (values-of card) (changes-of slip)) r
         (outputs (now (renewed .entry)) (now (changes .entry)) (now (fired .entry))) (outputs (now (renewed .exit)) (now (changes .exit)) (now (fired .exit))) ⌝ }
 {
     let width = t.width;
@@ -70,7 +70,7 @@ pub fn finish(
     fired: &mut [u8],
 ) -> Outcome
     requires { ⌜ InOrder t card slip ⌝ }
-    ensures { λ r. ⌜ Ends (if-room (t .width) (length (rules-of t)) (rooms-of (now (renewed .entry)) (now (changes .entry)) (now (fired .entry))) (ending (rules-of t) (t .width) (values-of card) (changes-of slip))) r
+    ensures { λ r. ⌜ Ends (if-room (t .width) (length (rules-of t)) (rooms-of (now (renewed .entry)) (now (changes .entry)) (now (fired .entry))) (answer-by-firing (rules-of t) (t .width) (values-of card) (changes-of slip))) r
         (outputs (now (renewed .entry)) (now (changes .entry)) (now (fired .entry))) (outputs (now (renewed .exit)) (now (changes .exit)) (now (fired .exit))) ⌝ }
 {
     let width = t.width;

@@ -3,7 +3,7 @@ pub mod answering;
 pub mod slips;
 
 ghost use mathlib.Core.Path.{_≡_};
-ghost use Rattle.response.specs.Respond.{rooms-of, outputs, outputs-after, worked, respond-to, response-to, Ends};
+ghost use Rattle.response.specs.Respond.{rooms-of, outputs, outputs-after, answer-by-table, answer-to, response-to, Ends};
 use answering::finish;
 use cards::CardRead;
 use cards::SlipRead;
@@ -36,7 +36,7 @@ fn work(
     changes: &mut [u8],
     fired: &mut [u8],
 ) -> Outcome
-    ensures { λ r. ⌜ Ends (worked t (now (card .entry)) (now (slip .entry)) (rooms-of (now (renewed .entry)) (now (changes .entry)) (now (fired .entry)))) r
+    ensures { λ r. ⌜ Ends (answer-by-table t (now (card .entry)) (now (slip .entry)) (rooms-of (now (renewed .entry)) (now (changes .entry)) (now (fired .entry)))) r
         (outputs (now (renewed .entry)) (now (changes .entry)) (now (fired .entry))) (outputs (now (renewed .exit)) (now (changes .exit)) (now (fired .exit))) ⌝ }
 {
     if !soundness::is_sound(t) {
@@ -71,7 +71,7 @@ pub fn respond(
 ) -> Response
     ensures { λ r. ⌜ (r ≡ response-to t tally (now (card .entry)) (now (slip .entry)) (rooms-of (now (renewed .entry)) (now (changes .entry)) (now (fired .entry))))
         × (outputs (now (renewed .exit)) (now (changes .exit)) (now (fired .exit))
-        ≡ outputs-after (respond-to t tally (now (card .entry)) (now (slip .entry)) (rooms-of (now (renewed .entry)) (now (changes .entry)) (now (fired .entry)))) (outputs (now (renewed .entry)) (now (changes .entry)) (now (fired .entry)))) ⌝ }
+        ≡ outputs-after (answer-to t tally (now (card .entry)) (now (slip .entry)) (rooms-of (now (renewed .entry)) (now (changes .entry)) (now (fired .entry)))) (outputs (now (renewed .entry)) (now (changes .entry)) (now (fired .entry)))) ⌝ }
 {
     if is_full(tally) {
         return Response {

@@ -11,7 +11,7 @@ use lib.Count.{ones, ones-step, ones-le, ones-cat}
 use lib.ListN.{length, getD, drop, length-append, drop-of-length-le, List·getD-eq-default}
 use lib.Seq.{drop-cons}
 use Rattle.laws.specs.Below.{count-below}
-use Rattle.laws.specs.Numbers.{tally}
+use Rattle.laws.specs.Numbers.{how-many}
 use Rattle.laws.specs.Tabulated.{tabulate}
 use Rattle.laws.specs.Packed.{number-of, byte-count, byte-at, pack}
 use Rattle.laws.proofs.Packed.{number-lt}
@@ -129,13 +129,13 @@ pack-ones bs =
     bytes-ones bs (byte-count (length bs)) ∙ rw z (count-cut bs (8 * byte-count (length bs) - length bs))
 
 -- A count over numbers from 1 that agrees with one over numbers from 0.
-count-tally : (f : ℕ → Bool) (g : ℕ → Bool) (k : ℕ) → ((i : ℕ) → i < k → f i ≡ g (suc i)) → count-below f k ≡ tally g k
-unfolding count-below tally
-count-tally f g zero h = refl
-count-tally f g (suc k) h = rw (h k (omega arith), count-tally f g k (λ i l. h i (omega arith)))
+count-how-many : (f : ℕ → Bool) (g : ℕ → Bool) (k : ℕ) → ((i : ℕ) → i < k → f i ≡ g (suc i)) → count-below f k ≡ how-many g k
+unfolding count-below how-many
+count-how-many f g zero h = refl
+count-how-many f g (suc k) h = rw (h k (omega arith), count-how-many f g k (λ i l. h i (omega arith)))
 
 -- The one bits of a record are the rules that it flags.
-pub record-ones : (fired : List Bool) (count : ℕ) (g : ℕ → Bool) → ((i : ℕ) → i < count → getD fired i false ≡ g (suc i)) → ones-in (flag-record fired count) ≡ tally g count
+pub record-ones : (fired : List Bool) (count : ℕ) (g : ℕ → Bool) → ((i : ℕ) → i < count → getD fired i false ≡ g (suc i)) → ones-in (flag-record fired count) ≡ how-many g count
 unfolding flag-record
 record-ones fired count g h =
-    pack-ones (fired-bits fired count) ∙ rw (bits-size fired count) (count-tally _ g count (λ i l. bit-inside fired count i l ∙ h i l))
+    pack-ones (fired-bits fired count) ∙ rw (bits-size fired count) (count-how-many _ g count (λ i l. bit-inside fired count i l ∙ h i l))

@@ -1,4 +1,4 @@
--- `strata::circle::is_circled` meets its contract.
+-- `circles::is_circled` meets its contract.
 -- Assumes nothing.
 use mathlib.Core.Path.{_≡_, sym, _∙_}
 use Prim.Native.Nat.{_+_, _-_, _≤_}

@@ -1,4 +1,4 @@
--- `strata::circle::join` meets its contract.
+-- `circles::join` meets its contract.
 -- Assumes nothing.
 use native.Mathlib.Numerals.{add-one}
 use mathlib.Core.Path.{_≡_, refl}

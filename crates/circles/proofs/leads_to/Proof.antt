@@ -1,4 +1,4 @@
--- `strata::circle::leads_to` meets its contract.
+-- `circles::leads_to` meets its contract.
 -- Assumes nothing.
 use mathlib.Core.List.{_∷_}
 use lib.ListN.{getD}

@@ -1,4 +1,4 @@
--- `strata::circle::link` meets its contract.
+-- `circles::link` meets its contract.
 -- Assumes nothing.
 use Prim.Native.Nat.{_%_}
 use native.Mathlib.Nat.{one-mul}

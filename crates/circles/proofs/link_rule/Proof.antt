@@ -1,4 +1,4 @@
--- `strata::circle::link_rule` meets its contract.
+-- `circles::link_rule` meets its contract.
 -- Assumes nothing.
 use mathlib.Core.Path.{_≡_, refl, _∙_, ap}
 use Prim.Native.Nat.{_-_, _≤_}

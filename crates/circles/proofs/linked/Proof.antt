@@ -1,4 +1,4 @@
--- `strata::circle::linked` meets its contract.
+-- `circles::linked` meets its contract.
 -- Assumes nothing.
 use mathlib.Core.Path.{refl}
 use Rattle.laws.specs.Words.{bit}

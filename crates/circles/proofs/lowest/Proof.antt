@@ -1,4 +1,4 @@
--- `strata::circle::lowest` meets its contract.
+-- `circles::lowest` meets its contract.
 -- Assumes nothing.
 use mathlib.Core.Path.{_≡_, sym, _∙_}
 use mathlib.Core.Bool.{Bool}

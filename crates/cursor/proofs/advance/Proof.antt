@@ -1,4 +1,4 @@
--- `advance` meets its contract.
+-- `cursor::advance` meets its contract.
 -- Assumes nothing.
 use mathlib.Core.Path.{_≡_, refl, ap}
 use Prim.Native.Nat.{_<_, _^_}

@@ -1,4 +1,4 @@
--- `after` meets its contract.
+-- `cursor::after` meets its contract.
 -- Assumes nothing.
 use mathlib.Core.Path.{_≡_, refl, ap, _∙_}
 use Prim.Native.Nat.{ℕ, _<_, _^_}

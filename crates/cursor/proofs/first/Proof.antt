@@ -1,4 +1,4 @@
--- `first` meets its contract.
+-- `cursor::first` meets its contract.
 -- Assumes nothing.
 use mathlib.Core.Path.{_≡_, refl, ap, _∙_}
 use Prim.Native.Nat.{ℕ}

@@ -1,4 +1,4 @@
--- `new` meets its contract.
+-- `cursor::new` meets its contract.
 -- Assumes nothing.
 use mathlib.Core.Path.{refl}
 use Prim.Native.Nat.{ℕ}

@@ -1,4 +1,4 @@
--- `peek` meets its contract.
+-- `cursor::peek` meets its contract.
 -- Assumes nothing.
 use mathlib.Core.Path.{_≡_, refl}
 use mathlib.Core.List.{[], _∷_}

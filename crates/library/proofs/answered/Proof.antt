@@ -1,4 +1,4 @@
--- `answered` meets its contract.
+-- `library::answered` meets its contract.
 -- Assumes nothing.
 use mathlib.Core.Path.{ap, sym}
 use Rattle.response.specs.declared.Outcome.{Outcome}

@@ -1,4 +1,4 @@
--- `packed` meets its contract.
+-- `library::packed` meets its contract.
 -- Assumes nothing.
 use mathlib.Core.Path.{ap, sym}
 use Rattle.library.specs.Results.{packing-result}

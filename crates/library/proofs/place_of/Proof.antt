@@ -1,4 +1,4 @@
--- `place_of` meets its contract.
+-- `library::place_of` meets its contract.
 -- Assumes nothing.
 use Rattle.library.proofs.Places.{place-inside, place-outside}
 use native.Mathlib.Omega.{arith}

@@ -1,4 +1,4 @@
--- `rl_pack_slip` meets its contract.
+-- `library::rl_pack_slip` meets its contract.
 -- Assumes nothing.
 use mathlib.Core.Path.{ap, _∙_}
 use Rattle.library.specs.Results.{packing-result}

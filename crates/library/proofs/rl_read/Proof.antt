@@ -1,4 +1,4 @@
--- `rl_read` meets its contract.
+-- `library::rl_read` meets its contract.
 -- Assumes nothing.
 use Rattle.reader.specs.declared.Outcome.the-variants.{Accepted, Refused}
 use Rattle.library.proofs.Results.{read-known}

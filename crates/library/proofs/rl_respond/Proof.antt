@@ -1,4 +1,4 @@
--- `rl_respond` meets its contract.
+-- `library::rl_respond` meets its contract.
 -- Assumes nothing.
 use mathlib.Core.Path.{ap, _∙_}
 use Rattle.library.specs.Results.{response-result}

@@ -1,4 +1,4 @@
--- `rl_value_name` meets its contract.
+-- `library::rl_value_name` meets its contract.
 -- Assumes nothing.
 use mathlib.Core.Path.{_≡_, sym, _∙_}
 use mathlib.Core.Bool.{true}

@@ -1,4 +1,4 @@
--- `enter` meets its contract.
+-- `lines::enter` meets its contract.
 -- Assumes nothing.
 use Prim.Native.Nat.{suc, _+_, _*_, _-_, _≤_, _<_}
 use native.Mathlib.Omega.{arith}

@@ -1,4 +1,4 @@
--- `head_next` meets its contract.
+-- `lines::head_next` meets its contract.
 -- Assumes nothing.
 use native.Mathlib.Omega.{arith}
 use mathlib.Core.Path.{_≡_, ap, subst, _∙_}

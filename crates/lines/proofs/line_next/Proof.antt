@@ -1,4 +1,4 @@
--- `line_next` meets its contract.
+-- `lines::line_next` meets its contract.
 -- Assumes nothing.
 use native.Mathlib.Omega.{arith}
 use mathlib.Core.Path.{_≡_, ap, subst, _∙_}

@@ -1,4 +1,4 @@
--- `new_next` meets its contract.
+-- `lines::new_next` meets its contract.
 -- Assumes nothing.
 use Prim.Native.Nat.{ℕ, _+_, _-_, _≤_}
 use native.Mathlib.Omega.{arith}

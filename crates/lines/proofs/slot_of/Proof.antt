@@ -1,4 +1,4 @@
--- `slot_of` meets its contract.
+-- `lines::slot_of` meets its contract.
 -- Assumes nothing.
 use Prim.Native.Nat.{_-_, _≤_, _<_}
 use native.Mathlib.Omega.{arith}

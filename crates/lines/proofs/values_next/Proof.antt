@@ -1,4 +1,4 @@
--- `values_next` meets its contract.
+-- `lines::values_next` meets its contract.
 -- Assumes nothing.
 use Prim.Native.Nat.{_+_, _-_, _≤_}
 use native.Mathlib.Omega.{arith}

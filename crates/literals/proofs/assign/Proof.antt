@@ -1,4 +1,4 @@
--- `firing::literals::assign` meets its contract.
+-- `literals::assign` meets its contract.
 -- Assumes nothing.
 use mathlib.Core.Path.{_≡_, refl}
 use Prim.Native.Nat.{_-_, _≤_}

@@ -1,4 +1,4 @@
--- `firing::literals::became` meets its contract.
+-- `literals::became` meets its contract.
 -- Assumes nothing.
 use mathlib.Core.Path.{sym, _∙_}
 use Rattle.model.specs.Result.{pair}

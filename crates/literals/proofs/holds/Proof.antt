@@ -1,4 +1,4 @@
--- `firing::literals::holds` meets its contract.
+-- `literals::holds` meets its contract.
 -- Assumes nothing.
 use mathlib.Core.Path.{_≡_, sym, _∙_}
 use mathlib.Core.Logic.{⊎-elim}

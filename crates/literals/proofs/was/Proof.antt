@@ -1,4 +1,4 @@
--- `firing::literals::was` meets its contract.
+-- `literals::was` meets its contract.
 -- Assumes nothing.
 use Rattle.model.specs.Rules.{was}
 use borrow.Author.Needs.{needs}

@@ -1,4 +1,4 @@
--- `cards::pack_card` meets its contract.
+-- `packing::pack_card` meets its contract.
 -- Assumes nothing.
 use mathlib.Core.Path.{_≡_, sym, ap, _∙_}
 use mathlib.Core.Bool.{true}
@@ -13,7 +13,7 @@ use Rattle.table.proofs.Shape.{shaped}
 use Rattle.soundness.specs.Sound.{sound}
 use Rattle.soundness.proofs.Sound.{sound-width}
 use Rattle.cards.specs.Answers.{passed}
-use Rattle.cards.specs.Forms.{card-width, card-test, card-bytes}
+use Rattle.cards.specs.Forms.{card-bits, card-test, card-bytes}
 use Rattle.cards.specs.Cards.{counts-in, values-of, outcome-of}
 use Rattle.cards.proofs.Formed.{card-length}
 use Rattle.cards.proofs.Written.{card-bytes-length}
@@ -95,8 +95,8 @@ bytes-for-requires : tie.Need-bytes-for-requires
 bytes-for-requires c κs = (let e = c .before .before .before .before .before in omega (arith, sound-width (e .before .before .before .args .t) (right e)))
 
 -- The packed length.
-size : (c : tie.After-bytes-for) → c .bytes-for .result ≡ byte-count (card-width (c .before .before .before .before .before .before .before .before .before .args .c .count))
-size b = let p = b .before in b .bytes-for .ensures ∙ ap (λ (n : ℕ). byte-count (card-width n)) (sym (counts p))
+size : (c : tie.After-bytes-for) → c .bytes-for .result ≡ byte-count (card-bits (c .before .before .before .before .before .before .before .before .before .args .c .count))
+size b = let p = b .before in b .bytes-for .ensures ∙ ap (λ (n : ℕ). byte-count (card-bits n)) (sym (counts p))
 
 returns-3 : tie.Need-returns-3
 returns-3 c =
@@ -127,7 +127,7 @@ returns-4 c =
     let a = e .before .before .before in
     let vs = values-of (a .args .c) in
     let r = card-with-room (a .args .t) (right e) (a .args .c) (length (a .args .out .now)) (passes p) (omega (arith, size b, g .before .before .if2 .left)) in
-    let l : g .write-card .result ≡ length (card-bytes vs) = g .write-card .ensures .0 ∙ sym (card-bytes-length vs ∙ ap (λ (n : ℕ). byte-count (card-width n)) (card-length (a .args .c))) in
+    let l : g .write-card .result ≡ length (card-bytes vs) = g .write-card .ensures .0 ∙ sym (card-bytes-length vs ∙ ap (λ (n : ℕ). byte-count (card-bits n)) (card-length (a .args .c))) in
     answer-taken _ (card-bytes vs) (a .args .out .now) _ (g .write-card .result) r l (g .write-card .ensures .1 ∙ ap (λ (n : ℕ). card-bytes vs ++ drop n (a .args .out .now)) (sym (g .write-card .ensures .0)))
 
 pub pack-card-spec : {M : Type 1} → statement M

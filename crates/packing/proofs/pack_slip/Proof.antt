@@ -1,4 +1,4 @@
--- `cards::pack_slip` meets its contract.
+-- `packing::pack_slip` meets its contract.
 -- Assumes nothing.
 use mathlib.Core.Path.{_≡_, sym, ap, _∙_}
 use mathlib.Core.Bool.{true}
@@ -13,7 +13,7 @@ use Rattle.table.proofs.Shape.{shaped}
 use Rattle.soundness.specs.Sound.{sound}
 use Rattle.soundness.proofs.Sound.{sound-width}
 use Rattle.cards.specs.Answers.{passed}
-use Rattle.cards.specs.Forms.{slip-width, slip-test, slip-bytes}
+use Rattle.cards.specs.Forms.{slip-bits, slip-test, slip-bytes}
 use Rattle.cards.specs.Cards.{counts-in, changes-of, outcome-of}
 use Rattle.cards.proofs.Formed.{slip-length}
 use Rattle.cards.proofs.Written.{slip-bytes-length}
@@ -94,7 +94,7 @@ bytes-for-requires : tie.Need-bytes-for-requires
 bytes-for-requires c κs = omega (arith, c .before .before .before .before .before .if2 .left)
 
 -- The packed length.
-size : (c : tie.After-bytes-for) → c .bytes-for .result ≡ byte-count (slip-width (c .before .before .before .before .before .before .before .before .before .before .args .s .count))
+size : (c : tie.After-bytes-for) → c .bytes-for .result ≡ byte-count (slip-bits (c .before .before .before .before .before .before .before .before .before .before .args .s .count))
 size b = let p = b .before in b .bytes-for .ensures
 
 returns-4 : tie.Need-returns-4
@@ -129,7 +129,7 @@ returns-5 c =
     let a = e .before .before .before in
     let vs = changes-of (a .args .s) in
     let r = slip-with-room (a .args .t) (right e) (a .args .s) (length (a .args .out .now)) (x .if2 .left) (passes p) (omega (arith, size b, g .before .before .if3 .left)) in
-    let l : g .write-slip .result ≡ length (slip-bytes vs) = g .write-slip .ensures .0 ∙ sym (slip-bytes-length vs ∙ ap (λ (n : ℕ). byte-count (slip-width n)) (slip-length (a .args .s))) in
+    let l : g .write-slip .result ≡ length (slip-bytes vs) = g .write-slip .ensures .0 ∙ sym (slip-bytes-length vs ∙ ap (λ (n : ℕ). byte-count (slip-bits n)) (slip-length (a .args .s))) in
     answer-taken _ (slip-bytes vs) (a .args .out .now) _ (g .write-slip .result) r l (g .write-slip .ensures .1 ∙ ap (λ (n : ℕ). slip-bytes vs ++ drop n (a .args .out .now)) (sym (g .write-slip .ensures .0)))
 
 pub pack-slip-spec : {M : Type 1} → statement M

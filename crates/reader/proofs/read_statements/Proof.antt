@@ -1,4 +1,4 @@
--- `read_statements` meets its contract: from one statement to the next the remainder comes to what the whole text comes to.
+-- `reader::read_statements` meets its contract: from one statement to the next the remainder comes to what the whole text comes to.
 -- Assumes nothing.
 use Prim.Native.Nat.{_-_}
 use native.Mathlib.Omega.{arith}

@@ -1,4 +1,4 @@
--- `read_text` meets its contract.
+-- `reader::read_text` meets its contract.
 -- Assumes nothing.
 use mathlib.Core.Path.{refl, sym, ap, _∙_}
 use Rattle.grammar.specs.Limits.{max-text}

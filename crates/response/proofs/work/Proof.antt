@@ -17,9 +17,9 @@ use Rattle.cards.specs.Forms.{read-card, read-slip}
 use Rattle.cards.specs.Cards.{counts-in, values-of, changes-of, card-of, slip-of, card-read, slip-read}
 use Rattle.cards.proofs.Passed.{counts-all, slots-length}
 use Rattle.cards.proofs.EntryTrips.{card-of-values, slip-of-changes}
-use Rattle.response.specs.Ending.{ending}
+use Rattle.response.specs.Ending.{answer-by-firing}
 use Rattle.response.specs.Respond.{rooms-of, if-room}
-use Rattle.response.proofs.RespondLaws.{card-taken, card-refused, slip-taken, slip-refused, ends-refused, ends-same, worked-31, worked-on, responded-card, responded-slip, responded-on, in-order}
+use Rattle.response.proofs.RespondLaws.{card-taken, card-refused, slip-taken, slip-refused, ends-refused, ends-same, by-table-31, by-table-on, by-rules-card, by-rules-slip, by-rules-on, in-order}
 use borrow.Author.Needs.{needs}
 use Rattle.response.proofs.work.Statement.{statement}
 use Rattle.response.proofs.work.Tie as tie
@@ -65,7 +65,7 @@ is-sound-requires c κs = search needs
 returns : tie.Need-returns
 returns c =
     let s = start (c .before) in
-    ends-refused _ _ _ _ (worked-31 (s .args .t) (s .args .card .now) (s .args .slip .now) _ (sym (c .before .is-sound .ensures) ∙ not-true (c .before .is-sound .result) (c .if1 .taken)))
+    ends-refused _ _ _ _ (by-table-31 (s .args .t) (s .args .card .now) (s .args .slip .now) _ (sym (c .before .is-sound .ensures) ∙ not-true (c .before .is-sound .result) (c .if1 .taken)))
 
 counts-of-requires : tie.Need-counts-of-requires
 counts-of-requires c κs = sound-width (start (c .before) .args .t) (right c)
@@ -81,7 +81,7 @@ returns-2 c =
     let k = c .before .before .before in
     let e = k .before .before .before in
     let s = start (e .before) in
-    ends-refused _ _ _ _ (worked-on (s .args .t) (s .args .card .now) (s .args .slip .now) _ (right e) ∙ responded-card _ _ _ _ _ _ _ (card-refused _ _ _ _ (card-says k) (c .before .of-card .given .1)))
+    ends-refused _ _ _ _ (by-table-on (s .args .t) (s .args .card .now) (s .args .slip .now) _ (right e) ∙ by-rules-card _ _ _ _ _ _ _ (card-refused _ _ _ _ (card-says k) (c .before .of-card .given .1)))
 
 enum-told : tie.Need-enum-told
 enum-told c = search needs
@@ -100,7 +100,7 @@ returns-3 c =
     let e = k .before .before .before in
     let s = start (e .before) in
     let S = card-by q in
-    ends-refused _ _ _ _ (worked-on (s .args .t) (s .args .card .now) (s .args .slip .now) _ (right e) ∙ responded-slip _ _ _ _ _ (S .0) _ _ (S .1) (slip-refused _ _ _ _ (slip-says q) (c .before .of-slip .given .1)))
+    ends-refused _ _ _ _ (by-table-on (s .args .t) (s .args .card .now) (s .args .slip .now) _ (right e) ∙ by-rules-slip _ _ _ _ _ (S .0) _ _ (S .1) (slip-refused _ _ _ _ (slip-says q) (c .before .of-slip .given .1)))
 
 enum-told-2 : tie.Need-enum-told-2
 enum-told-2 c = search needs
@@ -132,10 +132,10 @@ returns-4 c =
     let I = slip-by (f .before) in
     let rooms = rooms-of (s .args .renewed .now) (s .args .changes .now) (s .args .fired .now) in
     ends-same _ _ _ _ _
-    (worked-on t (s .args .card .now) (s .args .slip .now) rooms (right (by-slip q .before))
-    ∙ responded-on (value-counts t) (rules-of t) (s .args .card .now) (s .args .slip .now) rooms (S .0) (I .0) (S .1) (I .1)
-    ∙ ap (λ (n : ℕ). if-room n (length (rules-of t)) rooms (ending (rules-of t) n (S .0) (I .0))) (slots-length t (shape s) (right (by-slip q .before)))
-    ∙ ap₂ (λ (vs : List ℕ) (ps : List Pair). if-room (t .width) (length (rules-of t)) rooms (ending (rules-of t) (t .width) vs ps)) (sym (ap values-of (S .2) ∙ card-of-values (S .0))) (sym (ap changes-of (I .2) ∙ slip-of-changes (I .0))))
+    (by-table-on t (s .args .card .now) (s .args .slip .now) rooms (right (by-slip q .before))
+    ∙ by-rules-on (value-counts t) (rules-of t) (s .args .card .now) (s .args .slip .now) rooms (S .0) (I .0) (S .1) (I .1)
+    ∙ ap (λ (n : ℕ). if-room n (length (rules-of t)) rooms (answer-by-firing (rules-of t) n (S .0) (I .0))) (slots-length t (shape s) (right (by-slip q .before)))
+    ∙ ap₂ (λ (vs : List ℕ) (ps : List Pair). if-room (t .width) (length (rules-of t)) rooms (answer-by-firing (rules-of t) (t .width) vs ps)) (sym (ap values-of (S .2) ∙ card-of-values (S .0))) (sym (ap changes-of (I .2) ∙ slip-of-changes (I .0))))
     (f .finish .ensures)
 
 pub work-spec : {M : Type 1} → statement M

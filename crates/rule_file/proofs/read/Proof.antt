@@ -1,4 +1,4 @@
--- `read` meets its contract.
+-- `rule_file::read` meets its contract.
 -- Assumes nothing.
 use Rattle.strata.specs.declared.Outcome.the-variants.{Layered, Circle}
 use Rattle.rule_file.proofs.Answers.{file-fits, whole-layered, whole-refused}

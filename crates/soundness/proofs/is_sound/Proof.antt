@@ -1,4 +1,4 @@
--- `strata::is_sound` meets its contract.
+-- `soundness::is_sound` meets its contract.
 -- Assumes nothing.
 use mathlib.Core.Bool.{true}
 use Rattle.laws.proofs.Equations.{from-true}

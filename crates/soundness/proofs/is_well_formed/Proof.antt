@@ -1,4 +1,4 @@
--- `strata::is_well_formed` meets its contract.
+-- `soundness::is_well_formed` meets its contract.
 -- Assumes nothing.
 use mathlib.Core.Path.{_≡_, refl, sym, _∙_}
 use Prim.Native.Nat.{_-_, _≤_}

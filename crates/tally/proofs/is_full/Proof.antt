@@ -1,4 +1,4 @@
--- `response::counting::is_full` meets its contract.
+-- `tally::is_full` meets its contract.
 -- Assumes nothing.
 use mathlib.Core.Path.{sym}
 use Rattle.tally.proofs.TallyLaws.{full-answered, full-refused, not-full}

@@ -1,4 +1,4 @@
--- `response::counting::one_answered` meets its contract.
+-- `tally::one_answered` meets its contract.
 -- Assumes nothing.
 use Rattle.tally.proofs.TallyLaws.{room-left}
 use native.Mathlib.Omega.{arith}

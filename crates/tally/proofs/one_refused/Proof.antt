@@ -1,4 +1,4 @@
--- `response::counting::one_refused` meets its contract.
+-- `tally::one_refused` meets its contract.
 -- Assumes nothing.
 use Rattle.tally.proofs.TallyLaws.{room-left}
 use native.Mathlib.Omega.{arith}

@@ -1,4 +1,4 @@
--- `mark_of` meets its contract, arm by arm.
+-- `text::mark_of` meets its contract, arm by arm.
 -- Assumes nothing.
 use borrow.Author.Tests.{ne-eqb}
 use Rattle.text.specs.Tokens.{mark-of}

@@ -1,4 +1,4 @@
--- `reserved_number` meets its contract: the words are tried from the last to the first, each with its number.
+-- `text::reserved_number` meets its contract: the words are tried from the last to the first, each with its number.
 -- Assumes nothing.
 use Rattle.text.specs.Tokens.{reserved}
 use Rattle.text.proofs.Steps as steps

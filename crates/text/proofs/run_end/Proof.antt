@@ -1,4 +1,4 @@
--- `run_end` meets its contract: the name bytes passed and those that follow are the whole run.
+-- `text::run_end` meets its contract: the name bytes passed and those that follow are the whole run.
 -- Assumes nothing.
 use Prim.Native.Nat.{suc, _+_, _-_, _≤_, _<_}
 use native.Mathlib.Omega.{arith}

@@ -1,4 +1,4 @@
--- `run_token` meets its contract.
+-- `text::run_token` meets its contract.
 -- Assumes nothing.
 use mathlib.Core.Path.{sym}
 use borrow.Author.Needs.{needs}

@@ -1,4 +1,4 @@
--- `same_bytes` meets its contract: names of one length differ at the first place where a byte does.
+-- `text::same_bytes` meets its contract: names of one length differ at the first place where a byte does.
 -- Assumes nothing.
 use Prim.Native.Nat.{_-_, _≤_, _<_}
 use native.Mathlib.Omega.{arith}

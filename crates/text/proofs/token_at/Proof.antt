@@ -1,4 +1,4 @@
--- `token_at` meets its contract, return by return.
+-- `text::token_at` meets its contract, return by return.
 -- Assumes nothing.
 use Prim.Native.Nat.{ℕ, _+_, _<_}
 use native.Mathlib.Omega.{arith}

@@ -1,4 +1,4 @@
--- `white_end` meets its contract: the white bytes passed and those that follow are all that stand there.
+-- `text::white_end` meets its contract: the white bytes passed and those that follow are all that stand there.
 -- Assumes nothing.
 use Prim.Native.Nat.{_+_, _-_, _≤_, _<_}
 use native.Mathlib.Omega.{arith}

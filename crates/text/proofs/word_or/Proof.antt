@@ -1,4 +1,4 @@
--- `word_or` meets its contract.
+-- `text::word_or` meets its contract.
 -- Assumes nothing.
 use mathlib.Core.Path.{sym, _∙_}
 use borrow.Author.Needs.{needs}

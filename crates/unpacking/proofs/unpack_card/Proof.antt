@@ -1,4 +1,4 @@
--- `cards::unpack_card` meets its contract.
+-- `unpacking::unpack_card` meets its contract.
 -- Assumes nothing.
 use mathlib.Core.Path.{_≡_, sym, ap, _∙_}
 use mathlib.Core.Bool.{true}

@@ -1,4 +1,4 @@
--- `assign_next` meets its contract.
+-- `clauses::assignments::assign_next` meets its contract.
 -- Assumes nothing.
 use native.Mathlib.Omega.{arith}
 use mathlib.Core.Path.{ap, subst, _∙_}

@@ -1,4 +1,4 @@
--- `assignments_next` meets its contract.
+-- `clauses::assignments::assignments_next` meets its contract.
 -- Assumes nothing.
 use Prim.Native.Nat.{ℕ, suc, _-_, _≤_}
 use native.Mathlib.Omega.{arith}

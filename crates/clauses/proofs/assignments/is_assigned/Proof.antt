@@ -1,4 +1,4 @@
--- `is_assigned` meets its contract.
+-- `clauses::assignments::is_assigned` meets its contract.
 -- Assumes nothing.
 use Prim.Native.Nat.{_+_, _-_, _≤_}
 use native.Mathlib.Omega.{arith}

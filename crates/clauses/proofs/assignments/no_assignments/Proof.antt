@@ -1,4 +1,4 @@
--- `no_assignments` meets its contract.
+-- `clauses::assignments::no_assignments` meets its contract.
 -- Assumes nothing.
 use mathlib.Core.Path.{refl}
 use Rattle.laws.specs.Filled.{filled}

@@ -1,4 +1,4 @@
--- `single_assignment` meets its contract.
+-- `clauses::assignments::single_assignment` meets its contract.
 -- Assumes nothing.
 use native.Mathlib.Omega.{arith}
 use mathlib.Core.Path.{sym, ap, subst, _∙_}

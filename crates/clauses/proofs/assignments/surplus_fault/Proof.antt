@@ -1,4 +1,4 @@
--- `surplus_fault` meets its contract.
+-- `clauses::assignments::surplus_fault` meets its contract.
 -- Assumes nothing.
 use mathlib.Core.Path.{ap, _∙_}
 use Rattle.steps.specs.Places.{named-part}

@@ -1,4 +1,4 @@
--- `target_next` meets its contract.
+-- `clauses::assignments::target_next` meets its contract.
 -- Assumes nothing.
 use mathlib.Core.Path.{sym, ap, subst, _∙_}
 use lib.ListN.{length}

@@ -1,4 +1,4 @@
--- `with_assignment` meets its contract.
+-- `clauses::assignments::with_assignment` meets its contract.
 -- Assumes nothing.
 use mathlib.Core.Path.{refl}
 use Rattle.laws.proofs.Filled.{filled-add}

@@ -1,4 +1,4 @@
--- `condition_next` meets its contract.
+-- `clauses::conditions::condition_next` meets its contract.
 -- Assumes nothing.
 use Prim.Native.Nat.{ℕ, _-_}
 use native.Mathlib.Omega.{arith}

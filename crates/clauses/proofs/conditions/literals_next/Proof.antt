@@ -1,4 +1,4 @@
--- `literals_next` meets its contract.
+-- `clauses::conditions::literals_next` meets its contract.
 -- Assumes nothing.
 use Prim.Native.Nat.{ℕ, _-_, _≤_, _<_}
 use native.Mathlib.Omega.{arith}

@@ -1,4 +1,4 @@
--- `no_more` meets its contract.
+-- `clauses::conditions::no_more` meets its contract.
 -- Assumes nothing.
 use Prim.Native.Nat.{_-_}
 use mathlib.Core.Path.{refl, sym, ap, _∙_}

@@ -1,4 +1,4 @@
--- `literal_next` meets its contract.
+-- `clauses::literals::literal_next` meets its contract.
 -- Assumes nothing.
 use Prim.Native.Nat.{_-_}
 use mathlib.Core.Path.{_∙_}

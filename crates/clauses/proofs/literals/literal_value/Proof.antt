@@ -1,4 +1,4 @@
--- `literal_value` meets its contract.
+-- `clauses::literals::literal_value` meets its contract.
 -- Assumes nothing.
 use Prim.Native.Nat.{_-_}
 use native.Mathlib.Omega.{arith}

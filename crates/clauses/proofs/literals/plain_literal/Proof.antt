@@ -1,4 +1,4 @@
--- `plain_literal` meets its contract.
+-- `clauses::literals::plain_literal` meets its contract.
 -- Assumes nothing.
 use Prim.Native.Nat.{ℕ, _-_}
 use native.Mathlib.Omega.{arith}

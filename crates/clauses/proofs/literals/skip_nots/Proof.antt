@@ -1,4 +1,4 @@
--- `skip_nots` meets its contract.
+-- `clauses::literals::skip_nots` meets its contract.
 -- Assumes nothing.
 use Prim.Native.Nat.{ℕ, _-_, _≤_}
 use native.Mathlib.Omega.{arith}

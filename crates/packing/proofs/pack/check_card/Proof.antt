@@ -1,4 +1,4 @@
--- `cards::pack::check_card` meets its contract.
+-- `packing::pack::check_card` meets its contract.
 -- Assumes nothing.
 use mathlib.Core.Path.{_≡_, sym, ap, _∙_}
 use Prim.Native.Nat.{_-_, _≤_, _<_}

@@ -1,4 +1,4 @@
--- `cards::pack::check_slip` meets its contract.
+-- `packing::pack::check_slip` meets its contract.
 -- Assumes nothing.
 use mathlib.Core.Path.{_≡_, sym, ap, ap₂, _∙_}
 use Prim.Native.Nat.{ℕ, _-_, _≤_, _<_}

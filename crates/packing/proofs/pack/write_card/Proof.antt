@@ -1,11 +1,11 @@
--- `cards::pack::write_card` meets its contract.
+-- `packing::pack::write_card` meets its contract.
 -- Assumes nothing.
 use mathlib.Core.Path.{_≡_, sym, ap, _∙_}
 use mathlib.Core.List.{List, _++_}
 use Prim.Native.Nat.{ℕ, _-_, _*_, _≤_, _<_}
 use lib.ListN.{length, getD, drop}
 use Rattle.laws.specs.Packed.{byte-count}
-use Rattle.cards.specs.Forms.{card-width, card-bytes}
+use Rattle.cards.specs.Forms.{card-bits, card-bytes}
 use Rattle.cards.specs.Cards.{values-of}
 use Rattle.cards.proofs.Formed.{card-length, card-at}
 use Rattle.cards.proofs.Written.{Written, written-start, written-more, written-length, written-after, written-self, card-upto, card-bits, card-next, card-all}
@@ -21,7 +21,7 @@ abbrev μ-loop : tie.MeasureT-loop
 μ-loop out₀ c n i₀ out i = n - i
 
 -- The output has room.
-room : (c : tie.Start Inv-loop μ-loop) → card-width (c .args .t1 .count) ≤ 8 * length (c .args .out .now)
+room : (c : tie.Start Inv-loop μ-loop) → card-bits (c .args .t1 .count) ≤ 8 * length (c .args .out .now)
 room c = omega (arith, c .pre .1)
 
 -- The count is put first.
@@ -100,7 +100,7 @@ loop-again c =
     let h : i < length vs = omega arith in
     let v : getD vs i 0 ≡ w .wide .result = card-at (a .args .t1) i (omega arith) ∙ sym (w .wide .ensures) in
     let b = card-bits vs i (omega arith) in
-    let m = written-more (card-upto vs i) (f .put-field .last .0) (o .loop .out) (card-width i) 4 (getD vs i 0) b (omega (arith, first-length f, room a)) (o .loop .inv .1) in
+    let m = written-more (card-upto vs i) (f .put-field .last .0) (o .loop .out) (card-bits i) 4 (getD vs i 0) b (omega (arith, first-length f, room a)) (o .loop .inv .1) in
     (omega arith, rw (card-next vs i h) (g .put-field2 .ensures ∙ rw (← v) m))
 
 mul-bytes-for : tie.Need-mul-bytes-for Inv-loop μ-loop
@@ -123,9 +123,9 @@ returns c =
     let vs = values-of (a .args .t1) in
     let n = card-length (a .args .t1) in
     let e = card-all vs (f .put-field .last .0) (o .loop .out) (o .loop .i) (omega arith) (o .loop .inv .1) in
-    let k = byte-count (card-width (length vs)) in
+    let k = byte-count (card-bits (length vs)) in
     let d = written-after (card-upto vs 0) (a .args .out .now) (f .put-field .last .0) k (omega (arith, card-bits vs 0 (omega arith))) (first f) in
-    (c .bytes-for .ensures, e ∙ ap (λ (zs : List ℕ). card-bytes vs ++ zs) d ∙ ap (λ (m : ℕ). card-bytes vs ++ drop (byte-count (card-width m)) (a .args .out .now)) n)
+    (c .bytes-for .ensures, e ∙ ap (λ (zs : List ℕ). card-bytes vs ++ zs) d ∙ ap (λ (m : ℕ). card-bytes vs ++ drop (byte-count (card-bits m)) (a .args .out .now)) n)
 
 pub write-card-spec : {M : Type 1} → statement M
 write-card-spec =

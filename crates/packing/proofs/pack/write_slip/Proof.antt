@@ -1,4 +1,4 @@
--- `cards::pack::write_slip` meets its contract.
+-- `packing::pack::write_slip` meets its contract.
 -- Assumes nothing.
 use mathlib.Core.Path.{_≡_, sym, ap, _∙_}
 use mathlib.Core.List.{List, [], _∷_, _++_}
@@ -6,7 +6,7 @@ use Prim.Native.Nat.{ℕ, _+_, _-_, _*_, _≤_, _<_}
 use lib.ListN.{length, getD, drop}
 use Rattle.laws.specs.Packed.{field, byte-count, field-bits}
 use Rattle.model.specs.Rules.{Pair}
-use Rattle.cards.specs.Forms.{change-fields, slip-width, slip-bytes}
+use Rattle.cards.specs.Forms.{change-fields, slip-bits, slip-bytes}
 use Rattle.cards.specs.Cards.{changes-of}
 use Rattle.cards.proofs.Tested.{no-pair}
 use Rattle.cards.proofs.Formed.{slip-length, slip-at}
@@ -23,7 +23,7 @@ abbrev μ-loop : tie.MeasureT-loop
 μ-loop out₀ s m i₀ out i = m - i
 
 -- The output has room.
-room : (c : tie.Start Inv-loop μ-loop) → slip-width (c .args .t1 .count) ≤ 8 * length (c .args .out .now)
+room : (c : tie.Start Inv-loop μ-loop) → slip-bits (c .args .t1 .count) ≤ 8 * length (c .args .out .now)
 room c = omega (arith, c .pre .1)
 
 -- The count is put first.
@@ -101,7 +101,7 @@ slot-put c =
     let n = slip-length (a .args .t1) in
     let p : getD ps i no-pair .slot ≡ w .wide .result = ap (λ (q : Pair). q .slot) (slip-at (a .args .t1) i (omega arith)) ∙ sym (w .wide .ensures) in
     let b = slip-bits ps i (omega arith) in
-    let m = written-more (slip-upto ps i) (f .put-field .last .0) (o .loop .out) (slip-width i) 5 (getD ps i no-pair .slot) b (omega (arith, first-length f, room a)) (o .loop .inv .1) in
+    let m = written-more (slip-upto ps i) (f .put-field .last .0) (o .loop .out) (slip-bits i) 5 (getD ps i no-pair .slot) b (omega (arith, first-length f, room a)) (o .loop .inv .1) in
     c .put-field2 .ensures ∙ rw (← p) m
 
 -- which leaves the length,
@@ -179,9 +179,9 @@ returns c =
     let vs = changes-of (a .args .t1) in
     let n = slip-length (a .args .t1) in
     let e = slip-all vs (f .put-field .last .0) (o .loop .out) (o .loop .i) (omega arith) (o .loop .inv .1) in
-    let k = byte-count (slip-width (length vs)) in
+    let k = byte-count (slip-bits (length vs)) in
     let d = written-after (slip-upto vs 0) (a .args .out .now) (f .put-field .last .0) k (omega (arith, slip-bits vs 0 (omega arith))) (first f) in
-    (c .bytes-for .ensures, e ∙ ap (λ (zs : List ℕ). slip-bytes vs ++ zs) d ∙ ap (λ (m : ℕ). slip-bytes vs ++ drop (byte-count (slip-width m)) (a .args .out .now)) n)
+    (c .bytes-for .ensures, e ∙ ap (λ (zs : List ℕ). slip-bytes vs ++ zs) d ∙ ap (λ (m : ℕ). slip-bytes vs ++ drop (byte-count (slip-bits m)) (a .args .out .now)) n)
 
 pub write-slip-spec : {M : Type 1} → statement M
 write-slip-spec =

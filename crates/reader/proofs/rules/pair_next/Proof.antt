@@ -1,4 +1,4 @@
--- `pair_next` meets its contract.
+-- `reader::rules::pair_next` meets its contract.
 -- Assumes nothing.
 use Prim.Native.Nat.{ℕ, _-_}
 use native.Mathlib.Omega.{arith}

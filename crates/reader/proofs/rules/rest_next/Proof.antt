@@ -1,4 +1,4 @@
--- `rest_next` meets its contract.
+-- `reader::rules::rest_next` meets its contract.
 -- Assumes nothing.
 use Prim.Native.Nat.{_-_}
 use native.Mathlib.Omega.{arith}

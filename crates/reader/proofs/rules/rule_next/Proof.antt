@@ -1,4 +1,4 @@
--- `rule_next` meets its contract.
+-- `reader::rules::rule_next` meets its contract.
 -- Assumes nothing.
 use Prim.Native.Nat.{_-_}
 use native.Mathlib.Omega.{arith}

@@ -1,4 +1,4 @@
--- `rule_of` meets its contract.
+-- `reader::rules::rule_of` meets its contract.
 -- Assumes nothing.
 use Prim.Native.Nat.{_-_}
 use mathlib.Core.Path.{refl}

@@ -1,4 +1,4 @@
--- `trigger_next` meets its contract.
+-- `reader::rules::trigger_next` meets its contract.
 -- Assumes nothing.
 use Prim.Native.Nat.{_-_}
 use native.Mathlib.Omega.{arith}

@@ -1,4 +1,4 @@
--- `rule_statement` meets its contract.
+-- `reader::statements::rule_statement` meets its contract.
 -- Assumes nothing.
 use Prim.Native.Nat.{_-_}
 use native.Mathlib.Omega.{arith}

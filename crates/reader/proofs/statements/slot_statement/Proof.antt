@@ -1,4 +1,4 @@
--- `slot_statement` meets its contract.
+-- `reader::statements::slot_statement` meets its contract.
 -- Assumes nothing.
 use Prim.Native.Nat.{_-_}
 use native.Mathlib.Omega.{arith}

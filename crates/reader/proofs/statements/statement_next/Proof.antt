@@ -1,4 +1,4 @@
--- `statement_next` meets its contract.
+-- `reader::statements::statement_next` meets its contract.
 -- Assumes nothing.
 use Prim.Native.Nat.{ℕ, _-_}
 use mathlib.Core.Path.{_≡_, refl, sym, ap, subst, _∙_}

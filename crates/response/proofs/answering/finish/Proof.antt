@@ -7,7 +7,7 @@ use Rattle.laws.specs.Packed.{byte-count}
 use Rattle.table.specs.Link.{rules-of}
 use Rattle.table.proofs.Link.{rules-length}
 use Rattle.table.proofs.Shape.{shaped}
-use Rattle.cards.specs.Forms.{card-width}
+use Rattle.cards.specs.Forms.{card-bits}
 use Rattle.response.proofs.RespondLaws.{ends-refused, ends-same, short-card, short-changes, short-fired, room-enough}
 use native.Mathlib.Omega.{arith}
 use borrow.Author.Needs.{needs}
@@ -22,7 +22,7 @@ counted : (s : tie.Start) → length (rules-of (s .args .t)) ≡ s .args .t .cou
 counted s = rules-length (s .args .t) (omega (arith, s .pre .fireable .fits .rules-fit, shaped (s .args .t) _ (s .good .0) .rule-places))
 
 -- The first output has room for the card.
-card-room : (c : tie.Else1) → byte-count (card-width (start (c .before) .args .t .width)) ≤ length (start (c .before) .args .renewed .now)
+card-room : (c : tie.Else1) → byte-count (card-bits (start (c .before) .args .t .width)) ≤ length (start (c .before) .args .renewed .now)
 card-room c = omega (arith, c .if1 .left, c .before .bytes-for .ensures)
 
 mul-bytes-for : tie.Need-mul-bytes-for

@@ -11,7 +11,7 @@ use Rattle.table.specs.Limits.{pair-places}
 use Rattle.laws.specs.Packed.{byte-count}
 use Rattle.table.specs.Flat.{set-of, add-pairs}
 use Rattle.table.proofs.Shape.{shaped}
-use Rattle.cards.specs.Forms.{card-width, card-bytes}
+use Rattle.cards.specs.Forms.{card-bits, card-bytes}
 use Rattle.cards.specs.Cards.{values-of, changes-of}
 use Rattle.results.specs.Record.{ones-in}
 use Rattle.firing.specs.Firing.{firing-of}
@@ -115,7 +115,7 @@ returns-2 c =
     let s = start f in
     answer-ends (s .args .t) (s .args .card) (s .args .slip) (s .pre .0) (shape s) (f .fire .result) (fires f) _ _ _ _ _ _ _ _ _ (a .before .before .before .before .before .before .conflict-slot .ensures) (a .before .before .before .before .before .if1 .left)
     (l .before .before .before .before .before .write-card .ensures .1
-    ∙ ap (λ (vs : List ℕ). card-bytes (values-of (record { values = vs; count = s .args .t .width })) ++ drop (byte-count (card-width (s .args .t .width))) (s .args .renewed .now)) (a .before .new-values .ensures))
+    ∙ ap (λ (vs : List ℕ). card-bytes (values-of (record { values = vs; count = s .args .t .width })) ++ drop (byte-count (card-bits (s .args .t .width))) (s .args .renewed .now)) (a .before .new-values .ensures))
     (l .before .slip-of .result) (l .before .slip-of .ensures) (r .before .before .before .before .write-slip .ensures .0) (r .before .before .before .before .write-slip .ensures .1) (k .before .before .record-of .ensures)
     (c .count-fired .ensures ∙ ap (λ (n : ℕ). ones-in (take n (k .before .before .record-of .last .1 .1 .0))) (c .before .before .bytes-for .ensures))
 

@@ -1,4 +1,4 @@
--- `firing::ending::changed_value` meets its contract.
+-- `results::ending::changed_value` meets its contract.
 -- Assumes nothing.
 use Prim.Native.Nat.{_-_, _≤_}
 use Rattle.table.specs.Limits.{row}

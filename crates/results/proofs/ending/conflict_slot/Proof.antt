@@ -1,4 +1,4 @@
--- `firing::ending::conflict_slot` meets its contract.
+-- `results::ending::conflict_slot` meets its contract.
 -- Assumes nothing.
 use mathlib.Core.Path.{_≡_}
 use mathlib.Core.Logic.{⊎-elim}

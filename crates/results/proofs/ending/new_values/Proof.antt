@@ -1,4 +1,4 @@
--- `firing::ending::new_values` meets its contract.
+-- `results::ending::new_values` meets its contract.
 -- Assumes nothing.
 use mathlib.Core.Path.{_≡_, refl, _∙_}
 use mathlib.Core.Logic.{⊎-elim}

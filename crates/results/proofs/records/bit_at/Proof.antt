@@ -1,4 +1,4 @@
--- `firing::records::bit_at` meets its contract.
+-- `results::records::bit_at` meets its contract.
 -- Assumes nothing.
 use Rattle.results.proofs.Bits.{bits-size, bit-inside, bit-past}
 use Rattle.results.specs.Record.{fired-bits}

@@ -1,4 +1,4 @@
--- `firing::records::byte_at` meets its contract.
+-- `results::records::byte_at` meets its contract.
 -- Assumes nothing.
 use mathlib.Core.Path.{_≡_, _∙_}
 use mathlib.Core.Bool.{false}

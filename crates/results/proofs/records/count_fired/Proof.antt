@@ -1,4 +1,4 @@
--- `firing::records::count_fired` meets its contract.
+-- `results::records::count_fired` meets its contract.
 -- Assumes nothing.
 use mathlib.Core.Path.{_≡_}
 use Prim.Native.Nat.{_+_, _*_, _-_, _≤_}

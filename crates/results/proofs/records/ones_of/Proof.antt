@@ -1,4 +1,4 @@
--- `firing::records::ones_of` meets its contract.
+-- `results::records::ones_of` meets its contract.
 -- Assumes nothing.
 use mathlib.Core.Path.{refl}
 use lib.Count.{ones-le}

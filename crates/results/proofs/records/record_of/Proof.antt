@@ -1,4 +1,4 @@
--- `firing::records::record_of` meets its contract.
+-- `results::records::record_of` meets its contract.
 -- Assumes nothing.
 use mathlib.Core.Path.{_≡_, ap, _∙_}
 use mathlib.Core.List.{_++_}

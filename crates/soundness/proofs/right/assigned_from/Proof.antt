@@ -1,4 +1,4 @@
--- `strata::right::assigned_from` meets its contract.
+-- `soundness::right::assigned_from` meets its contract.
 -- Assumes nothing.
 use mathlib.Core.Path.{_≡_, refl, sym, _∙_}
 use Prim.Native.Nat.{_+_, _-_, _≤_}

@@ -1,4 +1,4 @@
--- `strata::right::has_pair` meets its contract.
+-- `soundness::right::has_pair` meets its contract.
 -- Assumes nothing.
 use mathlib.Core.Path.{_≡_, sym, _∙_}
 use Rattle.model.specs.Result.{pair}

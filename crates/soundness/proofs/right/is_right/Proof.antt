@@ -1,4 +1,4 @@
--- `strata::right::is_right` meets its contract.
+-- `soundness::right::is_right` meets its contract.
 -- Assumes nothing.
 use mathlib.Core.Path.{sym, _∙_}
 use borrow.Author.Tests.{not-true, not-false}

@@ -1,4 +1,4 @@
--- `strata::right::literals_right` meets its contract.
+-- `soundness::right::literals_right` meets its contract.
 -- Assumes nothing.
 use mathlib.Core.Path.{_≡_, refl, sym, _∙_}
 use Prim.Native.Nat.{_+_, _-_, _≤_}

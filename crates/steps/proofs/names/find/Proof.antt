@@ -1,4 +1,4 @@
--- `find` meets its contract.
+-- `steps::names::find` meets its contract.
 -- Assumes nothing.
 use Prim.Native.Nat.{ℕ, _-_, _≤_, _<_}
 use native.Mathlib.Omega.{arith}

@@ -1,4 +1,4 @@
--- `is_at` meets its contract.
+-- `steps::names::is_at` meets its contract.
 -- Assumes nothing.
 use Prim.Native.Nat.{_-_}
 use native.Mathlib.Omega.{arith}

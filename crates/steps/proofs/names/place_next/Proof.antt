@@ -1,4 +1,4 @@
--- `place_next` meets its contract.
+-- `steps::names::place_next` meets its contract.
 -- Assumes nothing.
 use Prim.Native.Nat.{ℕ, _-_, _<_}
 use native.Mathlib.Omega.{arith}

@@ -1,4 +1,4 @@
--- `slot_next` meets its contract.
+-- `steps::names::slot_next` meets its contract.
 -- Assumes nothing.
 use Prim.Native.Nat.{_-_}
 use native.Mathlib.Omega.{arith}

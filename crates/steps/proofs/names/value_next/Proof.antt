@@ -1,4 +1,4 @@
--- `value_next` meets its contract.
+-- `steps::names::value_next` meets its contract.
 -- Assumes nothing.
 use Prim.Native.Nat.{ℕ, _+_, _*_, _-_, _≤_}
 use native.Mathlib.Omega.{arith}

@@ -1,4 +1,4 @@
--- `fault_of` meets its contract.
+-- `steps::step::fault_of` meets its contract.
 -- Assumes nothing.
 use Rattle.steps.proofs.Places as places
 use borrow.Author.Needs.{needs}

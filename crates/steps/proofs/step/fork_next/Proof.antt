@@ -1,4 +1,4 @@
--- `fork_next` meets its contract.
+-- `steps::step::fork_next` meets its contract.
 -- Assumes nothing.
 use mathlib.Core.Path.{refl, sym, ap, _∙_}
 use Rattle.steps.specs.Places.{which, neither}

@@ -1,4 +1,4 @@
--- `name_next` meets its contract.
+-- `steps::step::name_next` meets its contract.
 -- Assumes nothing.
 use mathlib.Core.Path.{refl, sym, ap, _∙_}
 use native.Mathlib.Omega.{arith}

@@ -1,4 +1,4 @@
--- `word_next` meets its contract.
+-- `steps::step::word_next` meets its contract.
 -- Assumes nothing.
 use mathlib.Core.Path.{refl, sym, ap, _∙_}
 use Rattle.grammar.specs.Reading.{stop, expects}

@@ -1,4 +1,4 @@
--- `classes::class_of` meets its contract.
+-- `text::classes::class_of` meets its contract.
 -- Assumes nothing.
 use Prim.Native.Nat.{_<_}
 use borrow.Author.Needs.{needs}

@@ -1,4 +1,4 @@
--- `classes::table` meets its contract: the class table passes the rule's test at each of its 256 places, computed once.
+-- `text::classes::table` meets its contract: the class table passes the rule's test at each of its 256 places, computed once.
 -- Assumes nothing.
 use mathlib.Core.Path.{_≡_, refl}
 use mathlib.Core.List.{List, [], _∷_}

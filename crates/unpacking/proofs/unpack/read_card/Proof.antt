@@ -1,4 +1,4 @@
--- `cards::unpack::read_card` meets its contract.
+-- `unpacking::unpack::read_card` meets its contract.
 -- Assumes nothing.
 use mathlib.Core.Path.{_≡_, sym, ap, _∙_}
 use Prim.Native.Nat.{ℕ, _-_, _≤_, _<_}
@@ -7,7 +7,7 @@ use Rattle.laws.specs.Filled.{filled}
 use Rattle.laws.specs.Packed.{byte-count}
 use Rattle.table.specs.Limits.{slot-limit}
 use Rattle.cards.specs.Answers.{passed, fault}
-use Rattle.cards.specs.Forms.{card-width, count-in, values-in, padding, card-test}
+use Rattle.cards.specs.Forms.{card-bits, count-in, values-in, padding, card-test}
 use Rattle.cards.specs.Cards.{counts-in, card-read, card-of}
 use Rattle.cards.proofs.Tested.{ValuesLeft, values-start, values-next, values-fault, values-end, other-count, same-count, counts-length, count-at}
 use Rattle.cards.proofs.Taken.{values-length, value-at, card-short, card-fault, card-padded, card-taken, map-same, Gathered, gathered-start, gathered-next, gathered-all}
@@ -24,8 +24,8 @@ abbrev μ-loop : tie.MeasureT-loop
 μ-loop bytes width counts size n bits values₀ i₀ values i = n - i
 
 -- The length is that of the count,
-long : (c : tie.Else2 Inv-loop μ-loop) → length (c .before .before .before .before .before .args .bytes .now) ≡ byte-count (card-width (count-in (c .before .before .before .before .before .args .bytes .now)))
-long c = c .if2 .left ∙ c .before .bytes-for .ensures ∙ ap (λ (n : ℕ). byte-count (card-width n)) (c .before .before .read-field .ensures .0)
+long : (c : tie.Else2 Inv-loop μ-loop) → length (c .before .before .before .before .before .args .bytes .now) ≡ byte-count (card-bits (count-in (c .before .before .before .before .before .args .bytes .now)))
+long c = c .if2 .left ∙ c .before .bytes-for .ensures ∙ ap (λ (n : ℕ). byte-count (card-bits n)) (c .before .before .read-field .ensures .0)
 
 -- and the count is that of the slots.
 same : (c : tie.Else3 Inv-loop μ-loop) → count-in (c .before .before .before .before .before .before .args .bytes .now) ≡ c .before .before .before .before .before .before .args .width
@@ -62,7 +62,7 @@ returns-2 c =
     let g = c .before .before in
     let a = g .before .before .before .before in
     c .refused-card2 .ensures ∙ ap card-read (sym (card-short (counts-in (a .args .width) (a .args .counts .now)) (a .args .bytes .now)
-    (λ e. c .before .if2 .taken (e ∙ sym (g .bytes-for .ensures ∙ ap (λ (n : ℕ). byte-count (card-width n)) (g .before .read-field .ensures .0))))))
+    (λ e. c .before .if2 .taken (e ∙ sym (g .bytes-for .ensures ∙ ap (λ (n : ℕ). byte-count (card-bits n)) (g .before .read-field .ensures .0))))))
 
 refused-card-requires-3 : tie.Need-refused-card-requires-3 Inv-loop μ-loop
 refused-card-requires-3 c κs = search needs
@@ -207,11 +207,11 @@ passes c =
     same-count ns vs passed (alike e) (values-end ns vs (c .before .loop .i) (omega (arith, l, e .if3 .left)) (c .before .loop .inv .2))
 
 padded : (c : tie.After-read-field3 Inv-loop μ-loop) → c .read-field3 .result ≡ padding (c .before .before .before .before .before .before .before .before .before .args .bytes .now)
-    (card-width (count-in (c .before .before .before .before .before .before .before .before .before .args .bytes .now)))
+    (card-bits (count-in (c .before .before .before .before .before .before .before .before .before .args .bytes .now)))
 padded c =
     let g = c .before .before .before .before .before .before in
     let ys = g .before .before .before .args .bytes .now in
-    c .read-field3 .ensures .0 ∙ ap (λ (n : ℕ). padding ys (card-width n)) (g .read-field .ensures .0)
+    c .read-field3 .ensures .0 ∙ ap (λ (n : ℕ). padding ys (card-bits n)) (g .read-field .ensures .0)
 
 refused-card-requires-5 : tie.Need-refused-card-requires-5 Inv-loop μ-loop
 refused-card-requires-5 c κs = search needs

@@ -1,4 +1,4 @@
--- `cards::unpack::read_slip` meets its contract.
+-- `unpacking::unpack::read_slip` meets its contract.
 -- Assumes nothing.
 use mathlib.Core.Path.{_≡_, sym, ap, ap₂, _∙_}
 use Prim.Native.Nat.{ℕ, _-_, _≤_, _<_}
@@ -7,7 +7,7 @@ use Rattle.laws.specs.Packed.{byte-count}
 use Rattle.model.specs.Result.{pair}
 use Rattle.table.specs.Limits.{slot-limit}
 use Rattle.cards.specs.Answers.{passed}
-use Rattle.cards.specs.Forms.{slip-width, count-in, changes-in, padding, change-fault, slip-test}
+use Rattle.cards.specs.Forms.{slip-bits, count-in, changes-in, padding, change-fault, slip-test}
 use Rattle.cards.specs.Cards.{counts-in, no-change, change-of, slip-read, slip-of}
 use Rattle.cards.proofs.Tested.{no-pair, ChangesLeft, changes-start, changes-next, changes-fault, changes-end, Right, change-right, counts-length}
 use Rattle.cards.proofs.Taken.{changes-length, change-at, slip-short, slip-fault, slip-padded, slip-taken, Gathered, gathered-start, gathered-next, gathered-all}
@@ -24,8 +24,8 @@ abbrev μ-loop : tie.MeasureT-loop
 μ-loop bytes width counts size m end changes₀ low₀ i₀ changes low i = m - i
 
 -- The length is that of the count.
-long : (c : tie.Else2 Inv-loop μ-loop) → length (c .before .before .before .before .before .args .bytes .now) ≡ byte-count (slip-width (count-in (c .before .before .before .before .before .args .bytes .now)))
-long c = c .if2 .left ∙ c .before .bytes-for .ensures ∙ ap (λ (n : ℕ). byte-count (slip-width n)) (c .before .before .read-field .ensures .0)
+long : (c : tie.Else2 Inv-loop μ-loop) → length (c .before .before .before .before .before .args .bytes .now) ≡ byte-count (slip-bits (count-in (c .before .before .before .before .before .args .bytes .now)))
+long c = c .if2 .left ∙ c .before .bytes-for .ensures ∙ ap (λ (n : ℕ). byte-count (slip-bits n)) (c .before .before .read-field .ensures .0)
 
 few : (c : tie.After-read-field Inv-loop μ-loop) → c .read-field .result < 64
 few c = c .read-field .ensures .1
@@ -58,7 +58,7 @@ returns-2 c =
     let g = c .before .before in
     let a = g .before .before .before .before in
     c .refused-slip2 .ensures ∙ ap slip-read (sym (slip-short (counts-in (a .args .width) (a .args .counts .now)) (a .args .bytes .now)
-    (λ e. c .before .if2 .taken (e ∙ sym (g .bytes-for .ensures ∙ ap (λ (n : ℕ). byte-count (slip-width n)) (g .before .read-field .ensures .0))))))
+    (λ e. c .before .if2 .taken (e ∙ sym (g .bytes-for .ensures ∙ ap (λ (n : ℕ). byte-count (slip-bits n)) (g .before .read-field .ensures .0))))))
 
 loop-holds : tie.Need-loop-holds Inv-loop μ-loop
 loop-holds c = (omega arith, gathered-start change-of no-change (changes-in (c .before .before .before .before .before .args .bytes .now)), changes-start _ _, omega arith, omega arith)
@@ -203,11 +203,11 @@ passes c =
     changes-end (counts-in (a .args .width) (a .args .counts .now)) (changes-in ys) (c .before .loop .low) (c .before .loop .i) (omega (arith, changes-length ys, r)) (c .before .loop .inv .2)
 
 padded : (c : tie.After-read-field4 Inv-loop μ-loop) → c .read-field4 .result ≡ padding (c .before .before .before .before .before .before .before .before .args .bytes .now)
-    (slip-width (count-in (c .before .before .before .before .before .before .before .before .args .bytes .now)))
+    (slip-bits (count-in (c .before .before .before .before .before .before .before .before .args .bytes .now)))
 padded c =
     let g = c .before .before .before .before .before in
     let ys = g .before .before .before .args .bytes .now in
-    c .read-field4 .ensures .0 ∙ ap (λ (n : ℕ). padding ys (slip-width n)) (g .read-field .ensures .0)
+    c .read-field4 .ensures .0 ∙ ap (λ (n : ℕ). padding ys (slip-bits n)) (g .read-field .ensures .0)
 
 refused-slip-requires-4 : tie.Need-refused-slip-requires-4 Inv-loop μ-loop
 refused-slip-requires-4 c κs = search needs

@@ -1,4 +1,4 @@
--- `cards::unpack::refused_card` meets its contract.
+-- `unpacking::unpack::refused_card` meets its contract.
 -- Assumes nothing.
 use Rattle.cards.specs.Cards.{card-read}
 use borrow.Author.Needs.{needs}

@@ -1,4 +1,4 @@
--- `cards::unpack::refused_slip` meets its contract.
+-- `unpacking::unpack::refused_slip` meets its contract.
 -- Assumes nothing.
 use Rattle.cards.specs.Cards.{slip-read}
 use borrow.Author.Needs.{needs}
