@@ -74,9 +74,9 @@ unfolding field-bits
 values-bits [] = refl
 values-bits (v ∷ vs) = length-append (bits 4 v) _ ∙ rw (bits-length 4 v, values-bits vs) (omega arith)
 
-pub card-bits : (vs : List ℕ) (i : ℕ) → i ≤ length vs → length (field-bits (card-upto vs i)) ≡ card-bits i
+pub card-bits-upto : (vs : List ℕ) (i : ℕ) → i ≤ length vs → length (field-bits (card-upto vs i)) ≡ card-bits i
 unfolding field-bits
-card-bits vs i h = length-append (bits 6 (length vs)) _ ∙ rw (bits-length 6 (length vs), values-bits (take i vs), length-take-le i vs h)
+card-bits-upto vs i h = length-append (bits 6 (length vs)) _ ∙ rw (bits-length 6 (length vs), values-bits (take i vs), length-take-le i vs h)
 
 pub card-bytes-length : (vs : List ℕ) → length (card-bytes vs) ≡ byte-count (card-bits (length vs))
 unfolding card-bytes card-fields field-bits
@@ -90,7 +90,7 @@ unfolding card-bytes card-fields
 card-all vs first out i h e =
     let t = take-all i vs h in
     let f : card-upto vs i ≡ card-upto vs (length vs) = ap (λ zs. field 6 (length vs) ∷ map (field 4) zs) (t ∙ sym (take-all (length vs) vs (omega arith))) in
-    (rw f at e) ∙ rw (card-bits vs (length vs) (omega arith), take-all (length vs) vs (omega arith))
+    (rw f at e) ∙ rw (card-bits-upto vs (length vs) (omega arith), take-all (length vs) vs (omega arith))
 
 -- and of a slip up to change i.
 abbrev pub slip-upto : List Pair → ℕ → List Field
@@ -102,9 +102,9 @@ changes-bits [] = refl
 changes-bits (p ∷ ps) =
     length-append (bits 5 (p .slot)) _ ∙ rw (bits-length 5 (p .slot), length-append (bits 4 (p .value)) (field-bits (change-fields ps)), bits-length 4 (p .value), changes-bits ps) (omega arith)
 
-pub slip-bits : (ps : List Pair) (i : ℕ) → i ≤ length ps → length (field-bits (slip-upto ps i)) ≡ slip-bits i
+pub slip-bits-upto : (ps : List Pair) (i : ℕ) → i ≤ length ps → length (field-bits (slip-upto ps i)) ≡ slip-bits i
 unfolding field-bits
-slip-bits ps i h = length-append (bits 6 (length ps)) _ ∙ rw (bits-length 6 (length ps), changes-bits (take i ps), length-take-le i ps h)
+slip-bits-upto ps i h = length-append (bits 6 (length ps)) _ ∙ rw (bits-length 6 (length ps), changes-bits (take i ps), length-take-le i ps h)
 
 pub slip-bytes-length : (ps : List Pair) → length (slip-bytes ps) ≡ byte-count (slip-bits (length ps))
 unfolding slip-bytes slip-fields field-bits
@@ -123,4 +123,4 @@ unfolding slip-bytes slip-fields
 slip-all ps first out i h e =
     let t = take-all i ps h in
     let f : slip-upto ps i ≡ slip-upto ps (length ps) = ap (λ zs. field 6 (length ps) ∷ change-fields zs) (t ∙ sym (take-all (length ps) ps (omega arith))) in
-    (rw f at e) ∙ rw (slip-bits ps (length ps) (omega arith), take-all (length ps) ps (omega arith))
+    (rw f at e) ∙ rw (slip-bits-upto ps (length ps) (omega arith), take-all (length ps) ps (omega arith))

@@ -19,7 +19,7 @@ use Rattle.model.specs.Strata.{strict}
 use Rattle.model.specs.Circles.{circle-of}
 use Rattle.model.specs.Response.{response}
 use Rattle.model.proofs.Alike.{SameCard, SamePairs, response-alike, response-changes-alike}
-use Rattle.model.proofs.Demand3.{any-strata, response-is-whole, demand-3}
+use Rattle.model.proofs.Demand3.{any-strata, response-is-whole}
 use Rattle.model.proofs.Strata.{no-circle}
 use Rattle.table.specs.declared.Table.{Table}
 use Rattle.table.specs.Limits.{rule-limit, pair-places}

@@ -9,7 +9,7 @@ use lib.Dec.{eqb}
 use lib.ListN.{drop}
 use borrow.Author.Tests.{eqb-true, eq-eqb, ne-eqb}
 use Rattle.text.specs.Tokens.{Token, word, name, long, bad}
-use Rattle.grammar.specs.Reading.{Part, took, stop, _then_, fork, begins-with, if-next, read-list}
+use Rattle.grammar.specs.Reading.{Part, took, stop, fork, begins-with, if-next, read-list}
 use Rattle.grammar.proofs.Steps.{fork-back, begins-back}
 use Rattle.grammar.proofs.Leftmost.{spell-more}
 use Rattle.grammar.proofs.Stopping.{Written, Language, Begins, bad-token, wrong-token, the-end, stop-behind, stop-where, nothing-next, Fits, Reader, nothing, reader-took, both, reader-then, Stops-at, stop-here, follows-same, follows-long}

@@ -1,7 +1,7 @@
 -- What a rule file declares and says: slots with their names, and rules over slot and value numbers (document 01, 'Rule text').
 use Prim.Native.Nat.{ℕ}
 use mathlib.Core.List.{List, [], map}
-use lib.ListN.{getD}
+use lib.ListN.{length, getD}
 use Rattle.text.specs.Tokens.{Name, place}
 use Rattle.model.specs.Rules.{Rule}
 

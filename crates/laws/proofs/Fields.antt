@@ -11,7 +11,7 @@ use lib.Seq.{take-all, take-add, drop-drop, take-at, drop-at}
 use Rattle.laws.specs.Listed.{all-of}
 use Rattle.laws.specs.Packed.{Field, field, bits, number-of, field-bits, byte-bits, byte-count, pack, pack-fields, field-at, fields-at, bits-in, field-fits}
 use Rattle.laws.proofs.Truth.{and-l, and-r}
-use Rattle.laws.proofs.Packed.{bits-length, bits-number, bits-zero, number-exact, byte-bits-length, pack-length, pack-same, pack-bits, pack-bytes, pad-bit}
+use Rattle.laws.proofs.Packed.{bits-length, bits-number, bits-zero, number-exact, byte-bits-length, pack-same, pack-bits, pack-bytes, pad-bit}
 
 -- The bits of a field read are the bits there.
 pub field-back : (ys : List ℕ) (p w : ℕ) → p + w ≤ 8 * length ys → bits w (field-at ys p w) ≡ take w (drop p (byte-bits ys))

@@ -3,7 +3,7 @@
 use Prim.Native.Nat.{ℕ, zero, suc, _<_}
 use native.Mathlib.Omega.{arith}
 use mathlib.Core.Path.{_≡_, refl, ap, ap₂, _∙_}
-use mathlib.Core.List.{List, _∷_, map}
+use mathlib.Core.List.{List, _∷_}
 use lib.ListN.{getD, length}
 use Rattle.laws.specs.Rearranged.{Perm, p-nil, p-skip, p-swap, p-trans, under, swap01, goes, p-sym}
 

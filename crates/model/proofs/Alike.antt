@@ -5,11 +5,8 @@ use mathlib.Core.Path.{_≡_, refl, ap, fun-ext, _∙_}
 use mathlib.Core.List.{List, [], _∷_}
 use lib.ListN.{length, getD}
 use Rattle.laws.specs.Truth.{_∨ᵇ_}
-use Rattle.laws.specs.Numbers.{some-of}
-use Rattle.laws.specs.Filled.{filled}
-use Rattle.laws.proofs.Fronts.{filled-at}
 use Rattle.model.specs.Rules.{Pair, Pairs, Literal, Rule, among, was, became, test, holds, all-hold, enabled}
-use Rattle.model.specs.Orders.{rule-at, each, changes, ready, can-fire, firing-order, complete, consistent, whole-order}
+use Rattle.model.specs.Orders.{rule-at, each, changes, ready}
 use Rattle.model.specs.Strata.{Grading}
 use Rattle.model.specs.Least.{strata-of}
 use Rattle.model.specs.Response.{next-of, fire-then, fire-on, response-by, response}

@@ -4,14 +4,14 @@ use Prim.Native.Nat.{ℕ, _≤_, _<_}
 use native.Mathlib.Omega.{arith}
 use mathlib.Core.Path.{_≡_, refl}
 use mathlib.Core.List.{List}
-use mathlib.Core.Logic.{_⊎_, inl, inr, ⊎-elim}
+use mathlib.Core.Logic.{inl}
 use lib.Dec.{T}
 use lib.ListN.{length}
 use Rattle.laws.specs.Numbers.{Numbered}
 use Rattle.model.specs.Rules.{Pair, Rule, among}
 use Rattle.model.specs.Orders.{rule-at}
 use Rattle.model.specs.Strata.{tested, needed, barred, depends, depends-plainly, depends-under-not, Grading, strict, weak, may-stay-level, must-fall, Strata}
-use Rattle.model.proofs.Pairs.{tested-e, needed-tested, barred-tested, meet-i, meet-e}
+use Rattle.model.proofs.Pairs.{needed-tested, barred-tested, meet-i, meet-e}
 
 -- Rule n depends on rule m where m assigns a pair that n tests.
 pub depends-i : (rs : List Rule) (n m : ℕ) (p : Pair) → T (among p (tested (rule-at rs n))) → T (among p (rule-at rs m .assignments)) → T (depends rs n m)

@@ -8,7 +8,7 @@ use lib.Dec.{T, leb→le, le→leb}
 use lib.ListN.{length}
 use Rattle.laws.specs.Truth.{notᵇ}
 use Rattle.laws.specs.Numbers.{Numbered, how-many}
-use Rattle.laws.proofs.Truth.{and-l, and-r, and-i, not-e, not-i, stable, bool-ext}
+use Rattle.laws.proofs.Truth.{and-l, and-r, and-i, not-e, not-i, stable}
 use Rattle.laws.proofs.Numbers.{some-i, some-e, how-many-top, how-many-lt}
 use Rattle.model.specs.Rules.{Pair, Pairs, Rule, enabled}
 use Rattle.model.specs.Orders.{rule-at, names, changes, ready, can-fire, firing-order, complete, consistent, whole-order}

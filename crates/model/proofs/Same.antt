@@ -1,22 +1,19 @@
 -- What is worked out of C alone is the same wherever C is: the lowest slot in conflict, the changes as a slip, the new card.
 -- Assumes nothing.
-use Prim.Native.Nat.{ℕ, _<_}
+use Prim.Native.Nat.{ℕ}
 use mathlib.Core.Path.{_≡_, sym, ap, _∙_}
 use mathlib.Core.List.{List}
 use lib.Dec.{T}
-use lib.ListN.{length}
-use Rattle.laws.specs.Numbers.{Numbered}
 use Rattle.laws.specs.Rearranged.{Perm}
 use Rattle.model.specs.Rules.{Pair, Pairs, Rule, among}
-use Rattle.model.specs.Orders.{rule-at, changes, whole-order}
+use Rattle.model.specs.Orders.{changes, whole-order}
 use Rattle.model.specs.Strata.{Grading}
 use Rattle.model.specs.Circles.{circle-of}
 use Rattle.model.specs.Response.{response}
 use Rattle.model.specs.Result.{conflict-slot, changes-slip, new-card, Bounded}
-use Rattle.model.proofs.Orders.{whole-e}
-use Rattle.model.proofs.Demand3.{response-is-whole, demand-3}
+use Rattle.model.proofs.Demand3.{demand-3}
 use Rattle.model.proofs.Rearranged.{rearranged-response}
-use Rattle.model.proofs.Results.{changes-bounded, slip-exact}
+use Rattle.model.proofs.Results.{slip-exact}
 
 -- The three results of a card and two sets of changes are the same.
 pub record SameResults (slots values : ℕ) (S : List ℕ) (C D : Pairs) : Type 0 where

@@ -13,7 +13,7 @@ use Rattle.laws.specs.Numbers.{Numbered, how-many, total}
 use Rattle.laws.proofs.Truth.{or-l, or-r, or-e, not-i, le-or-lt}
 use Rattle.laws.proofs.Numbers.{how-many-top, how-many-le, how-many-lt, total-lt, total-top, settles}
 use Rattle.model.specs.Rules.{Rule}
-use Rattle.model.specs.Strata.{Grading, strict, may-stay-level, must-fall, Strata}
+use Rattle.model.specs.Strata.{Grading, may-stay-level, must-fall, Strata}
 use Rattle.model.specs.Circles.{Walk, here, on, step, behind, on-circle, circle-of}
 use Rattle.model.specs.Least.{least-above, round, strata-of}
 use Rattle.model.proofs.Reach.{reach-walk}

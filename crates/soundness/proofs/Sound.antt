@@ -8,7 +8,6 @@ use lib.ListN.{getD}
 use Rattle.laws.proofs.Truth.{and-l}
 use Rattle.laws.proofs.Equations.{from-true}
 use Rattle.model.specs.Strata.{strict, Strata}
-use Rattle.model.specs.Circles.{circle-of}
 use Rattle.table.specs.declared.Table.{Table}
 use Rattle.table.specs.Limits.{slot-limit, value-limit}
 use Rattle.table.specs.Shape.{no-slot, Shaped}
@@ -16,7 +15,7 @@ use Rattle.table.specs.Link.{rules-of, stratum-at}
 use Rattle.table.specs.Fits.{TableFits}
 use Rattle.soundness.specs.Sound.{within-limits, well-formed, sound}
 use Rattle.soundness.proofs.WellFormed.{well-formed-e, well-formed-fits, sound-parts}
-use Rattle.soundness.proofs.Equation.{carries-e, carries-strata}
+use Rattle.soundness.proofs.Equation.{carries-strata}
 
 -- It has at most 32 slots.
 pub sound-width : (t : Table) → sound t ≡ true → t .width ≤ slot-limit

@@ -8,7 +8,7 @@ use lib.ListN.{length, getD}
 use Rattle.laws.specs.Truth.{_∧ᵇ_, notᵇ}
 use Rattle.laws.specs.Numbers.{some-of}
 use Rattle.laws.specs.Listed.{all-of}
-use Rattle.model.specs.Rules.{Pair}
+use Rattle.model.specs.Rules.{Pair, each-once}
 use Rattle.model.specs.Strata.{strict}
 use Rattle.model.specs.Circles.{circle-of}
 use Rattle.model.specs.Least.{strata-of}

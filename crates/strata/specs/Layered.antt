@@ -14,7 +14,6 @@ use Rattle.table.specs.Limits.{rule-limit}
 use Rattle.table.specs.Shape.{no-rule}
 use Rattle.table.specs.Empty.{empty-table}
 use Rattle.table.specs.Link.{rules-of}
-use Rattle.strata.specs.declared.Outcome.{Outcome}
 use Rattle.strata.specs.declared.Outcome.the-variants.{Layered, Circle}
 use Rattle.strata.specs.declared.Layering.{Layering}
 

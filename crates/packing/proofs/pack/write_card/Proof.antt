@@ -8,7 +8,7 @@ use Rattle.laws.specs.Packed.{byte-count}
 use Rattle.cards.specs.Forms.{card-bits, card-bytes}
 use Rattle.cards.specs.Cards.{values-of}
 use Rattle.cards.proofs.Formed.{card-length, card-at}
-use Rattle.cards.proofs.Written.{Written, written-start, written-more, written-length, written-after, written-self, card-upto, card-bits, card-next, card-all}
+use Rattle.cards.proofs.Written.{Written, written-start, written-more, written-length, written-after, written-self, card-upto, card-bits-upto, card-next, card-all}
 use native.Mathlib.Omega.{arith}
 use borrow.Author.Needs.{needs}
 use Rattle.packing.proofs.pack.write_card.Statement.{statement}
@@ -34,7 +34,7 @@ first-length : (c : tie.After-put-field Inv-loop μ-loop) → length (c .put-fie
 first-length c =
     let a = c .before .before .before in
     let vs = values-of (a .args .t1) in
-    written-length (card-upto vs 0) (a .args .out .now) (c .put-field .last .0) (omega (arith, card-bits vs 0 (omega arith), room a)) (first c)
+    written-length (card-upto vs 0) (a .args .out .now) (c .put-field .last .0) (omega (arith, card-bits-upto vs 0 (omega arith), room a)) (first c)
 
 -- In the loop the length stays.
 held : (c : tie.At-loop Inv-loop μ-loop) → length (c .loop .out) ≡ length (c .before .before .before .before .before .before .args .out .now)
@@ -44,7 +44,7 @@ held c =
     let vs = values-of (a .args .t1) in
     let l = card-length (a .args .t1) in
     let f = first-length g in
-    let b = card-bits vs (c .loop .i) (omega arith) in
+    let b = card-bits-upto vs (c .loop .i) (omega arith) in
     written-length (card-upto vs (c .loop .i)) (g .put-field .last .0) (c .loop .out) (omega (arith, b, f, room a)) (c .loop .inv .1) ∙ f
 
 inside : (c : tie.In-loop Inv-loop μ-loop) → c .before .loop .i < 32
@@ -99,7 +99,7 @@ loop-again c =
     let n = card-length (a .args .t1) in
     let h : i < length vs = omega arith in
     let v : getD vs i 0 ≡ w .wide .result = card-at (a .args .t1) i (omega arith) ∙ sym (w .wide .ensures) in
-    let b = card-bits vs i (omega arith) in
+    let b = card-bits-upto vs i (omega arith) in
     let m = written-more (card-upto vs i) (f .put-field .last .0) (o .loop .out) (card-bits i) 4 (getD vs i 0) b (omega (arith, first-length f, room a)) (o .loop .inv .1) in
     (omega arith, rw (card-next vs i h) (g .put-field2 .ensures ∙ rw (← v) m))
 
@@ -124,7 +124,7 @@ returns c =
     let n = card-length (a .args .t1) in
     let e = card-all vs (f .put-field .last .0) (o .loop .out) (o .loop .i) (omega arith) (o .loop .inv .1) in
     let k = byte-count (card-bits (length vs)) in
-    let d = written-after (card-upto vs 0) (a .args .out .now) (f .put-field .last .0) k (omega (arith, card-bits vs 0 (omega arith))) (first f) in
+    let d = written-after (card-upto vs 0) (a .args .out .now) (f .put-field .last .0) k (omega (arith, card-bits-upto vs 0 (omega arith))) (first f) in
     (c .bytes-for .ensures, e ∙ ap (λ (zs : List ℕ). card-bytes vs ++ zs) d ∙ ap (λ (m : ℕ). card-bytes vs ++ drop (byte-count (card-bits m)) (a .args .out .now)) n)
 
 pub write-card-spec : {M : Type 1} → statement M

@@ -10,7 +10,7 @@ use Rattle.cards.specs.Forms.{change-fields, slip-bits, slip-bytes}
 use Rattle.cards.specs.Cards.{changes-of}
 use Rattle.cards.proofs.Tested.{no-pair}
 use Rattle.cards.proofs.Formed.{slip-length, slip-at}
-use Rattle.cards.proofs.Written.{Written, written-start, written-more, more-length, written-length, written-after, written-self, slip-upto, slip-bits, slip-next, slip-all}
+use Rattle.cards.proofs.Written.{Written, written-start, written-more, more-length, written-length, written-after, written-self, slip-upto, slip-bits-upto, slip-next, slip-all}
 use native.Mathlib.Omega.{arith}
 use borrow.Author.Needs.{needs}
 use Rattle.packing.proofs.pack.write_slip.Statement.{statement}
@@ -37,7 +37,7 @@ first-length : (c : tie.After-put-field Inv-loop μ-loop) → length (c .put-fie
 first-length c =
     let a = c .before .before .before in
     let vs = changes-of (a .args .t1) in
-    written-length (slip-upto vs 0) (a .args .out .now) (c .put-field .last .0) (omega (arith, slip-bits vs 0 (omega arith), room a)) (first c)
+    written-length (slip-upto vs 0) (a .args .out .now) (c .put-field .last .0) (omega (arith, slip-bits-upto vs 0 (omega arith), room a)) (first c)
 
 -- In the loop the length stays.
 held : (c : tie.At-loop Inv-loop μ-loop) → length (c .loop .out) ≡ length (c .before .before .before .before .before .before .args .out .now)
@@ -47,7 +47,7 @@ held c =
     let vs = changes-of (a .args .t1) in
     let l = slip-length (a .args .t1) in
     let f = first-length g in
-    let b = slip-bits vs (c .loop .i) (omega arith) in
+    let b = slip-bits-upto vs (c .loop .i) (omega arith) in
     written-length (slip-upto vs (c .loop .i)) (g .put-field .last .0) (c .loop .out) (omega (arith, b, f, room a)) (c .loop .inv .1) ∙ f
 
 inside : (c : tie.In-loop Inv-loop μ-loop) → c .before .loop .i < 32
@@ -100,7 +100,7 @@ slot-put c =
     let i = o .loop .i in
     let n = slip-length (a .args .t1) in
     let p : getD ps i no-pair .slot ≡ w .wide .result = ap (λ (q : Pair). q .slot) (slip-at (a .args .t1) i (omega arith)) ∙ sym (w .wide .ensures) in
-    let b = slip-bits ps i (omega arith) in
+    let b = slip-bits-upto ps i (omega arith) in
     let m = written-more (slip-upto ps i) (f .put-field .last .0) (o .loop .out) (slip-bits i) 5 (getD ps i no-pair .slot) b (omega (arith, first-length f, room a)) (o .loop .inv .1) in
     c .put-field2 .ensures ∙ rw (← p) m
 
@@ -112,7 +112,7 @@ slot-held c =
     let a = f .before .before .before in
     let ps = changes-of (a .args .t1) in
     let n = slip-length (a .args .t1) in
-    let b = slip-bits ps (o .loop .i) (omega arith) in
+    let b = slip-bits-upto ps (o .loop .i) (omega arith) in
     let l = first-length f in
     let x = more-length (slip-upto ps (o .loop .i)) 5 (getD ps (o .loop .i) no-pair .slot) in
     written-length _ (f .put-field .last .0) (c .put-field2 .last .0) (omega (arith, x, b, l, room a)) (slot-put c) ∙ l
@@ -154,7 +154,7 @@ loop-again c =
     let n = slip-length (a .args .t1) in
     let h : i < length ps = omega arith in
     let p : getD ps i no-pair .value ≡ w .wide2 .result = ap (λ (q : Pair). q .value) (slip-at (a .args .t1) i (omega arith)) ∙ sym (w .wide2 .ensures) in
-    let b = slip-bits ps i (omega arith) in
+    let b = slip-bits-upto ps i (omega arith) in
     let x : length (field-bits (slip-upto ps i ++ field 5 (getD ps i no-pair .slot) ∷ [])) ≡ 11 + 9 * i = more-length (slip-upto ps i) 5 (getD ps i no-pair .slot) ∙ omega (arith, b) in
     let m = written-more _ (f .put-field .last .0) (d .put-field2 .last .0) (11 + 9 * i) 4 (getD ps i no-pair .value) x (omega (arith, first-length f, room a)) (slot-put d) in
     (omega arith, rw (slip-next ps i h) (g .put-field3 .ensures ∙ rw (← p) m))
@@ -180,7 +180,7 @@ returns c =
     let n = slip-length (a .args .t1) in
     let e = slip-all vs (f .put-field .last .0) (o .loop .out) (o .loop .i) (omega arith) (o .loop .inv .1) in
     let k = byte-count (slip-bits (length vs)) in
-    let d = written-after (slip-upto vs 0) (a .args .out .now) (f .put-field .last .0) k (omega (arith, slip-bits vs 0 (omega arith))) (first f) in
+    let d = written-after (slip-upto vs 0) (a .args .out .now) (f .put-field .last .0) k (omega (arith, slip-bits-upto vs 0 (omega arith))) (first f) in
     (c .bytes-for .ensures, e ∙ ap (λ (zs : List ℕ). slip-bytes vs ++ zs) d ∙ ap (λ (m : ℕ). slip-bytes vs ++ drop (byte-count (slip-bits m)) (a .args .out .now)) n)
 
 pub write-slip-spec : {M : Type 1} → statement M
