@@ -11,9 +11,10 @@ ENTRY_POINTS = {
     'text': ['token_at'],
     'cursor': ['new', 'peek', 'advance', 'first', 'after'],
     'table': ['slot_name', 'value_name'],
-    'strata': ['is_well_formed', 'is_sound'],
+    'soundness': ['is_well_formed', 'is_sound'],
     'rule_file': ['read'],
-    'cards': ['unpack_card', 'unpack_slip', 'pack_card', 'pack_slip'],
+    'unpacking': ['unpack_card', 'unpack_slip'],
+    'packing': ['pack_card', 'pack_slip'],
     'response': ['respond'],
     'library': ['rl_read', 'rl_is_sound', 'rl_slot_name', 'rl_value_name', 'rl_unpack_card', 'rl_unpack_slip', 'rl_pack_card', 'rl_pack_slip', 'rl_respond'],
 }

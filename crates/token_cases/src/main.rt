@@ -1,4 +1,6 @@
 // Writes the tokens of each text on standard input, where a text stands after its length in two bytes, the high one first.
+mod token_list;
+
 use libc::STDOUT_FILENO;
 
 // The number that two bytes make.

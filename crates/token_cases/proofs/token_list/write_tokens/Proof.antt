@@ -12,8 +12,8 @@ use Rattle.text.specs.declared.Token as code
 use Rattle.text.specs.declared.Token.the-variants as v
 use Rattle.text.proofs.Position.{next-lies}
 use borrow.Author.Needs.{needs}
-use Rattle.token_list.proofs.write_tokens.Statement.{statement}
-use Rattle.token_list.proofs.write_tokens.Tie as tie
+use Rattle.token_cases.proofs.token_list.write_tokens.Statement.{statement}
+use Rattle.token_cases.proofs.token_list.write_tokens.Tie as tie
 
 -- A token that is not the end moves the position on.
 moves : (size from : ℕ) (t : code.Token) (next : ℕ) → OneOf (1 ∷ 2 ∷ 3 ∷ 4 ∷ []) (tagOf kinds.the-type t) → Lies size from t next → from < next
