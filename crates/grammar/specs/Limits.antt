@@ -1,4 +1,4 @@
--- Document 01, 'Rule text': the limits of a rule file, each named once. They are shut: no proof depends on their numbers.
+-- Document 01, 'Rule text': the limits of a rule file, each named once. They do not unfold: no proof depends on their numbers.
 use Prim.Native.Nat.{ℕ}
 
 -- Bytes in a text.

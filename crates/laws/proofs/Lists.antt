@@ -1,11 +1,11 @@
 -- Laws of lists that the library lacks.
 -- Assumes nothing.
-use Prim.Native.Nat.{ℕ, suc, _+_, _-_}
+use Prim.Native.Nat.{ℕ, zero, suc, _+_, _-_, _<_}
 use native.Mathlib.Omega.{arith}
 use mathlib.Core.Path.{_≡_, refl, sym, ap, ap₂, _∙_}
 use mathlib.Core.List.{List, [], _∷_, _++_, map, head-eq-of-cons-eq, tail-eq-of-cons-eq}
 use mathlib.Core.Logic.{_⊎_, inl, inr, ⊎-elim}
-use lib.ListN.{drop}
+use lib.ListN.{length, getD, drop}
 use lib.Seq.{drop-drop}
 
 pub map-append : {A B : Type 0} (f : A → B) (xs ys : List A) → map f (xs ++ ys) ≡ map f xs ++ map f ys
@@ -29,3 +29,9 @@ two-cuts {A} (x ∷ xs) ys (z ∷ zs) ws e =
     (λ m. ⊎-elim (λ q. inr (inl (q .0, q .1, q .2, ap₂ (λ (a : A) (l : List A). a ∷ l) h (q .3), q .4)))
     (λ q. inr (inr (q .0, q .1, q .2, ap₂ (λ (a : A) (l : List A). a ∷ l) (sym h) (q .3), q .4))) m)
     (two-cuts xs ys zs ws (tail-eq-of-cons-eq e))
+
+-- What stands before the end of a list does not depend on what would stand past it.
+pub any-default : {A : Type 0} (xs : List A) (i : ℕ) (d e : A) → i < length xs → getD xs i d ≡ getD xs i e
+any-default [] i d e h = absurd (omega arith)
+any-default (x ∷ xs) zero d e h = refl
+any-default (x ∷ xs) (suc i) d e h = any-default xs i d e (omega arith)

@@ -1,4 +1,4 @@
--- AND, OR and NOT on tests. They are shut (no `abbrev`), so that a law finds its arguments by itself.
+-- AND, OR and NOT on tests. They do not unfold (no `abbrev`), so that a law finds its arguments by itself.
 use mathlib.Core.Bool.{Bool, true, false}
 
 infixl 35 _∧ᵇ_

@@ -3,10 +3,11 @@
 use mathlib.Core.Path.{_≡_, refl, sym, ap, ap₂, _∙_}
 use mathlib.Core.Bool.{Bool, false}
 use mathlib.Core.List.{List, [], _∷_, map}
-use Prim.Native.Nat.{ℕ, zero, suc, _≤_, _<_}
+use Prim.Native.Nat.{ℕ, _≤_, _<_}
 use native.Mathlib.Omega.{arith}
 use lib.Dec.{T, leb, leb→le, le→leb}
 use lib.ListN.{length, getD, take, length-map, List·getD-map}
+use Rattle.laws.proofs.Lists.{any-default}
 use Rattle.laws.specs.Truth.{_∧ᵇ_}
 use Rattle.laws.specs.Listed.{all-of}
 use Rattle.laws.specs.Filled.{filled}
@@ -87,12 +88,6 @@ small width counts p h =
 -- Both numbers of a pair are bytes.
 abbrev Small : model.Pair → Type 0
 Small p = (p .slot < 256) × (p .value < 256)
-
--- What stands at a place past no end does not depend on what stands past the end.
-any-default : {A : Type 0} (xs : List A) (i : ℕ) (d e : A) → i < length xs → getD xs i d ≡ getD xs i e
-any-default [] i d e h = absurd (omega arith)
-any-default (x ∷ xs) zero d e h = refl
-any-default (x ∷ xs) (suc i) d e h = any-default xs i d e (omega arith)
 
 -- What reading past the end of a condition or of assignments gives.
 abbrev no-test : model.Literal
