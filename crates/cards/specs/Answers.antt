@@ -1,5 +1,7 @@
 -- What a test, an unpacking or a packing comes to: document 01, 'Refusals by who can cause them'. A refusal has its number and its second number.
+use mathlib.Core.List.{List, _++_}
 use Prim.Native.Nat.{ℕ}
+use lib.ListN.{length, drop}
 
 -- What a test says.
 pub data Verdict : Type 0 where
@@ -15,3 +17,7 @@ pub data OrRefused (A : Type 0) : Type 0 where
 unfoldable pub after : {A : Type 0} → Verdict → OrRefused A → OrRefused A
 after passed u = u
 after (fault k s) u = refused k s
+
+-- An output once bytes are written to its front: what stands beyond them stays.
+abbrev pub written : List ℕ → List ℕ → List ℕ
+written ys out = ys ++ drop (length ys) out

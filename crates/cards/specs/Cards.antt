@@ -1,8 +1,8 @@
 -- The four entry points: 31 first, then the tests and forms by how many values each slot of the table has.
 use Prim.Native.Nat.{ℕ, _≤_, _<_}
 use mathlib.Core.Bool.{cond}
-use mathlib.Core.List.{List, _++_, map}
-use lib.ListN.{length, drop, getD, replicate}
+use mathlib.Core.List.{List, map}
+use lib.ListN.{length, getD, replicate}
 use Rattle.laws.specs.Filled.{filled}
 use Rattle.laws.specs.Tabulated.{tabulate}
 use Rattle.model.specs.Rules.{Pair}
@@ -20,7 +20,7 @@ use Rattle.cards.specs.declared.CardRead.{CardRead}
 use Rattle.cards.specs.declared.SlipRead.{SlipRead}
 use Rattle.cards.specs.declared.Packing.{Packing}
 use Rattle.cards.specs.declared.Packing.the-variants as packing
-use Rattle.cards.specs.Answers.{Verdict, passed, fault, OrRefused, taken, refused}
+use Rattle.cards.specs.Answers.{Verdict, passed, fault, OrRefused, taken, refused, written}
 use Rattle.cards.specs.Forms.{read-card, read-slip, write-card, write-slip}
 
 -- How many values each of the first n slots has, by an array.
@@ -109,9 +109,9 @@ unfoldable pub packing-of : OrRefused (List ℕ) → Packing
 packing-of (taken ys) = packing.Packed (length ys)
 packing-of (refused k s) = packing.Refused k s
 
--- The output after a packing: the packed bytes, then what was there; a refusal leaves all.
+-- The output after a packing: a refusal leaves all.
 unfoldable pub output-of : OrRefused (List ℕ) → List ℕ → List ℕ
-output-of (taken ys) out = ys ++ drop (length ys) out
+output-of (taken ys) out = written ys out
 output-of (refused k s) out = out
 
 -- The number of a refusal, 0 for none, and its second number.

@@ -14,10 +14,10 @@ use Rattle.steps.specs.Spans.{Listed}
 use Rattle.clauses.specs.declared.literals.LiteralRead.{LiteralRead}
 use Rattle.clauses.specs.declared.literals.LiteralRead.the-variants as read
 
--- The spans in `heads` are those of the slots' names, and in `bodies`, from place s * 16 + 1 on, those of slot s's values.
-pub record Looked (text : List ℕ) (slots : List Slot) (heads bodies : List ℕ) : Type 0 where
-  pub heads-listed : Listed text heads (spellings (slot-names slots))
-  pub bodies-listed : (s : ℕ) → s < length slots → Listed text (take 15 (drop (s * 16 + 1) bodies)) (spellings (values-of slots s))
+-- The spans in `slotspans` are those of the slots' names, and in `valuespans`, from place s * 16 + 1 on, those of slot s's values.
+pub record Looked (text : List ℕ) (slots : List Slot) (slotspans valuespans : List ℕ) : Type 0 where
+  pub slotspans-listed : Listed text slotspans (spellings (slot-names slots))
+  pub valuespans-listed : (s : ℕ) → s < length slots → Listed text (take 15 (drop (s * 16 + 1) valuespans)) (spellings (values-of slots s))
 
 -- The value of a literal, after its slot and its mark.
 unfoldable pub value-literal : List Slot → ℕ → Bool → Bool → List Token → Part Literal

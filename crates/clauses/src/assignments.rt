@@ -25,6 +25,7 @@ use steps::step::name_next;
 use steps::step::word_next;
 use table::ASSIGNMENTS;
 use table::Assignment;
+use table::SLOTS;
 
 // An assignment and the position after it; or a refusal.
 pub enum AssignmentRead {
@@ -91,14 +92,14 @@ fn is_assigned(list: Assignments, slot: usize) -> bool
 fn target_next(
     text: &[u8],
     rest: &[u8],
-    heads: &[usize; 32],
+    slotspans: &[usize; SLOTS],
     list: Assignments,
     at: usize,
 ) -> Number
-    ensures { λ r. ⌜ ((base : ℕ) (slots : List Slot) → Listed (now (text .entry)) (now (heads .entry)) (spellings (slot-names slots))
+    ensures { λ r. ⌜ ((base : ℕ) (slots : List Slot) → Listed (now (text .entry)) (now (slotspans .entry)) (spellings (slot-names slots))
         → read-target slots (pairs-in list) (tokens-past (now (rest .entry)) base at) ≡ number-part (now (rest .entry)) base r) × Slot-lies (length (now (rest .entry))) at r ⌝ }
 {
-    let found = slot_next(text, rest, heads, at);
+    let found = slot_next(text, rest, slotspans, at);
     match found {
         Number::Is(slot, next) => {
             if is_assigned(list, slot) {
@@ -114,18 +115,18 @@ fn target_next(
 fn assignment_value(
     text: &[u8],
     rest: &[u8],
-    bodies: &[usize],
+    valuespans: &[usize],
     slot: usize,
     at: usize,
 ) -> AssignmentRead
-    requires { ⌜ (slot ≤ 31) × (length (now bodies) ≡ 512) ⌝ }
-    ensures { λ r. ⌜ ((base : ℕ) (slots : List Slot) → Listed (now (text .entry)) (take 15 (drop (slot * 16 + 1) (now (bodies .entry)))) (spellings (values-of slots slot))
+    requires { ⌜ (slot ≤ 31) × (length (now valuespans) ≡ 512) ⌝ }
+    ensures { λ r. ⌜ ((base : ℕ) (slots : List Slot) → Listed (now (text .entry)) (take 15 (drop (slot * 16 + 1) (now (valuespans .entry)))) (spellings (values-of slots slot))
         → value-assignment slots slot (tokens-past (now (rest .entry)) base at) ≡ assignment-part (now (rest .entry)) base r) × Assignment-lies (length (now (rest .entry))) at r ⌝ }
 {
     let mark = word_next(rest, at, text::GETS);
     match mark {
         Step::At(after) => {
-            let found = value_next(text, rest, bodies, slot, after);
+            let found = value_next(text, rest, valuespans, slot, after);
             match found {
                 Number::Is(value, next) => {
                     let assignment = Assignment {
@@ -145,18 +146,18 @@ fn assignment_value(
 fn assignment_next(
     text: &[u8],
     rest: &[u8],
-    heads: &[usize; 32],
-    bodies: &[usize],
+    slotspans: &[usize; SLOTS],
+    valuespans: &[usize],
     list: Assignments,
     at: usize,
 ) -> AssignmentRead
-    requires { ⌜ length (now bodies) ≡ 512 ⌝ }
-    ensures { λ r. ⌜ ((base : ℕ) (slots : List Slot) → Looked (now (text .entry)) slots (now (heads .entry)) (now (bodies .entry))
+    requires { ⌜ length (now valuespans) ≡ 512 ⌝ }
+    ensures { λ r. ⌜ ((base : ℕ) (slots : List Slot) → Looked (now (text .entry)) slots (now (slotspans .entry)) (now (valuespans .entry))
         → read-assignment slots (pairs-in list) (tokens-past (now (rest .entry)) base at) ≡ assignment-part (now (rest .entry)) base r) × Assignment-lies (length (now (rest .entry))) at r ⌝ }
 {
-    let target = target_next(text, rest, heads, list, at);
+    let target = target_next(text, rest, slotspans, list, at);
     match target {
-        Number::Is(slot, next) => assignment_value(text, rest, bodies, slot, next),
+        Number::Is(slot, next) => assignment_value(text, rest, valuespans, slot, next),
         Number::Fault(k) => AssignmentRead::Fault(k),
     }
 }
@@ -176,18 +177,18 @@ fn surplus_fault(rest: &[u8], at: usize) -> u8
 fn assignments_next(
     text: &[u8],
     rest: &[u8],
-    heads: &[usize; 32],
-    bodies: &[usize],
+    slotspans: &[usize; SLOTS],
+    valuespans: &[usize],
     start: usize,
 ) -> AssignmentsRead
-    requires { ⌜ length (now bodies) ≡ 512 ⌝ }
-    ensures { λ r. ⌜ ((base : ℕ) (slots : List Slot) → Looked (now (text .entry)) slots (now (heads .entry)) (now (bodies .entry))
+    requires { ⌜ length (now valuespans) ≡ 512 ⌝ }
+    ensures { λ r. ⌜ ((base : ℕ) (slots : List Slot) → Looked (now (text .entry)) slots (now (slotspans .entry)) (now (valuespans .entry))
         → read-assignments slots max-assignments [] (tokens-past (now (rest .entry)) base start) ≡ assignments-part (now (rest .entry)) base r) × Assignments-lies (length (now (rest .entry))) start r ⌝ }
 {
     let mut list = no_assignments();
     let mut at = start;
     while list.count < ASSIGNMENTS {
-        let read = assignment_next(text, rest, heads, bodies, list, at);
+        let read = assignment_next(text, rest, slotspans, valuespans, list, at);
         match read {
             AssignmentRead::Took(assignment, next) => {
                 list = with_assignment(list, assignment);
@@ -228,16 +229,16 @@ fn assignments_next(
 fn single_assignment(
     text: &[u8],
     rest: &[u8],
-    heads: &[usize; 32],
-    bodies: &[usize],
+    slotspans: &[usize; SLOTS],
+    valuespans: &[usize],
     at: usize,
 ) -> AssignmentsRead
-    requires { ⌜ length (now bodies) ≡ 512 ⌝ }
-    ensures { λ r. ⌜ ((base : ℕ) (slots : List Slot) → Looked (now (text .entry)) slots (now (heads .entry)) (now (bodies .entry))
+    requires { ⌜ length (now valuespans) ≡ 512 ⌝ }
+    ensures { λ r. ⌜ ((base : ℕ) (slots : List Slot) → Looked (now (text .entry)) slots (now (slotspans .entry)) (now (valuespans .entry))
         → single-assignment slots (tokens-past (now (rest .entry)) base at) ≡ assignments-part (now (rest .entry)) base r) × Assignments-lies (length (now (rest .entry))) at r ⌝ }
 {
     let none = no_assignments();
-    let read = assignment_next(text, rest, heads, bodies, none, at);
+    let read = assignment_next(text, rest, slotspans, valuespans, none, at);
     match read {
         AssignmentRead::Took(assignment, next) => {
             let list = with_assignment(none, assignment);
@@ -259,17 +260,17 @@ fn single_assignment(
 pub fn assign_next(
     text: &[u8],
     rest: &[u8],
-    heads: &[usize; 32],
-    bodies: &[usize],
+    slotspans: &[usize; SLOTS],
+    valuespans: &[usize],
     at: usize,
 ) -> AssignmentsRead
-    requires { ⌜ length (now bodies) ≡ 512 ⌝ }
-    ensures { λ r. ⌜ ((base : ℕ) (slots : List Slot) → Looked (now (text .entry)) slots (now (heads .entry)) (now (bodies .entry))
+    requires { ⌜ length (now valuespans) ≡ 512 ⌝ }
+    ensures { λ r. ⌜ ((base : ℕ) (slots : List Slot) → Looked (now (text .entry)) slots (now (slotspans .entry)) (now (valuespans .entry))
         → read-assign slots (tokens-past (now (rest .entry)) base at) ≡ assignments-part (now (rest .entry)) base r) × Assignments-lies (length (now (rest .entry))) at r ⌝ }
 {
     let open = word_next(rest, at, text::OPEN);
     if let Step::At(inside) = open {
-        return assignments_next(text, rest, heads, bodies, inside);
+        return assignments_next(text, rest, slotspans, valuespans, inside);
     }
-    single_assignment(text, rest, heads, bodies, at)
+    single_assignment(text, rest, slotspans, valuespans, at)
 }

@@ -21,6 +21,7 @@ use steps::step::fault_of;
 use steps::step::fork_next;
 use steps::step::word_next;
 use table::Literal;
+use table::SLOTS;
 use text::Token;
 
 // The literal places of a rule and the number used.
@@ -73,12 +74,12 @@ fn no_literals() -> Literals
 fn literals_next(
     text: &[u8],
     rest: &[u8],
-    heads: &[usize; 32],
-    bodies: &[usize],
+    slotspans: &[usize; SLOTS],
+    valuespans: &[usize],
     start: usize,
 ) -> Condition
-    requires { ⌜ length (now bodies) ≡ 512 ⌝ }
-    ensures { λ r. ⌜ ((base : ℕ) (slots : List Slot) → Looked (now (text .entry)) slots (now (heads .entry)) (now (bodies .entry))
+    requires { ⌜ length (now valuespans) ≡ 512 ⌝ }
+    ensures { λ r. ⌜ ((base : ℕ) (slots : List Slot) → Looked (now (text .entry)) slots (now (slotspans .entry)) (now (valuespans .entry))
         → read-literals slots max-literals [] (tokens-past (now (rest .entry)) base start) ≡ outcome-part (now (rest .entry)) base (literals-in (r .list)) (r .outcome))
         × Step-lies (length (now (rest .entry))) start (r .outcome) × Filled 8 no-literal (r .list .places) (r .list .count) ⌝ }
 {
@@ -92,7 +93,7 @@ fn literals_next(
                 list: list,
             };
         }
-        let read = literal_next(text, rest, heads, bodies, at);
+        let read = literal_next(text, rest, slotspans, valuespans, at);
         match read {
             LiteralRead::Took(literal, after) => {
                 list.places[n] = literal;
@@ -130,12 +131,12 @@ fn literals_next(
 pub fn condition_next(
     text: &[u8],
     rest: &[u8],
-    heads: &[usize; 32],
-    bodies: &[usize],
+    slotspans: &[usize; SLOTS],
+    valuespans: &[usize],
     at: usize,
 ) -> Condition
-    requires { ⌜ length (now bodies) ≡ 512 ⌝ }
-    ensures { λ r. ⌜ ((base : ℕ) (slots : List Slot) → Looked (now (text .entry)) slots (now (heads .entry)) (now (bodies .entry))
+    requires { ⌜ length (now valuespans) ≡ 512 ⌝ }
+    ensures { λ r. ⌜ ((base : ℕ) (slots : List Slot) → Looked (now (text .entry)) slots (now (slotspans .entry)) (now (valuespans .entry))
         → read-condition slots (tokens-past (now (rest .entry)) base at) ≡ outcome-part (now (rest .entry)) base (literals-in (r .list)) (r .outcome))
         × Step-lies (length (now (rest .entry))) at (r .outcome) × Filled 8 no-literal (r .list .places) (r .list .count) ⌝ }
 {
@@ -144,7 +145,7 @@ pub fn condition_next(
         Step::At(after) => {
             let way = fork_next(rest, after, text::AND, text::THEN);
             match way {
-                Fork::First(next) => literals_next(text, rest, heads, bodies, next),
+                Fork::First(next) => literals_next(text, rest, slotspans, valuespans, next),
                 Fork::Second(next) => Condition {
                     outcome: Step::At(next),
                     list: no_literals(),
@@ -155,6 +156,6 @@ pub fn condition_next(
                 },
             }
         }
-        Step::Fault(_) => literals_next(text, rest, heads, bodies, at),
+        Step::Fault(_) => literals_next(text, rest, slotspans, valuespans, at),
     }
 }

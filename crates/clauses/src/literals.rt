@@ -15,6 +15,7 @@ use steps::names::value_next;
 use steps::step::Fork;
 use steps::step::fork_next;
 use table::Literal;
+use table::SLOTS;
 use text::Token;
 
 // A literal and the position after it; or a refusal.
@@ -69,17 +70,17 @@ pub fn skip_nots(rest: &[u8], start: usize) -> Nots
 fn literal_value(
     text: &[u8],
     rest: &[u8],
-    bodies: &[usize],
+    valuespans: &[usize],
     slot: usize,
     at: usize,
     becomes: bool,
     negated: bool,
 ) -> LiteralRead
-    requires { ⌜ (slot ≤ 31) × (length (now bodies) ≡ 512) ⌝ }
-    ensures { λ r. ⌜ ((base : ℕ) (slots : List Slot) → Listed (now (text .entry)) (take 15 (drop (slot * 16 + 1) (now (bodies .entry)))) (spellings (values-of slots slot))
+    requires { ⌜ (slot ≤ 31) × (length (now valuespans) ≡ 512) ⌝ }
+    ensures { λ r. ⌜ ((base : ℕ) (slots : List Slot) → Listed (now (text .entry)) (take 15 (drop (slot * 16 + 1) (now (valuespans .entry)))) (spellings (values-of slots slot))
         → value-literal slots slot becomes negated (tokens-past (now (rest .entry)) base at) ≡ literal-part (now (rest .entry)) base r) × Literal-lies (length (now (rest .entry))) at r ⌝ }
 {
-    let found = value_next(text, rest, bodies, slot, at);
+    let found = value_next(text, rest, valuespans, slot, at);
     match found {
         Number::Is(value, next) => {
             let literal = Literal {
@@ -98,22 +99,38 @@ fn literal_value(
 fn plain_literal(
     text: &[u8],
     rest: &[u8],
-    heads: &[usize; 32],
-    bodies: &[usize],
+    slotspans: &[usize; SLOTS],
+    valuespans: &[usize],
     at: usize,
     negated: bool,
 ) -> LiteralRead
-    requires { ⌜ length (now bodies) ≡ 512 ⌝ }
-    ensures { λ r. ⌜ ((base : ℕ) (slots : List Slot) → Looked (now (text .entry)) slots (now (heads .entry)) (now (bodies .entry))
+    requires { ⌜ length (now valuespans) ≡ 512 ⌝ }
+    ensures { λ r. ⌜ ((base : ℕ) (slots : List Slot) → Looked (now (text .entry)) slots (now (slotspans .entry)) (now (valuespans .entry))
         → plain-literal slots negated (tokens-past (now (rest .entry)) base at) ≡ literal-part (now (rest .entry)) base r) × Literal-lies (length (now (rest .entry))) at r ⌝ }
 {
-    let found = slot_next(text, rest, heads, at);
+    let found = slot_next(text, rest, slotspans, at);
     match found {
         Number::Is(slot, after) => {
             let kind = fork_next(rest, after, text::BECOMES, text::HAS);
             match kind {
-                Fork::First(next) => literal_value(text, rest, bodies, slot, next, true, negated),
-                Fork::Second(next) => literal_value(text, rest, bodies, slot, next, false, negated),
+                Fork::First(next) => literal_value(
+                    text,
+                    rest,
+                    valuespans,
+                    slot,
+                    next,
+                    true,
+                    negated,
+                ),
+                Fork::Second(next) => literal_value(
+                    text,
+                    rest,
+                    valuespans,
+                    slot,
+                    next,
+                    false,
+                    negated,
+                ),
                 Fork::Fault(k) => LiteralRead::Fault(k),
             }
         }
@@ -125,16 +142,16 @@ fn plain_literal(
 pub fn literal_next(
     text: &[u8],
     rest: &[u8],
-    heads: &[usize; 32],
-    bodies: &[usize],
+    slotspans: &[usize; SLOTS],
+    valuespans: &[usize],
     at: usize,
 ) -> LiteralRead
-    requires { ⌜ length (now bodies) ≡ 512 ⌝ }
-    ensures { λ r. ⌜ ((base : ℕ) (slots : List Slot) → Looked (now (text .entry)) slots (now (heads .entry)) (now (bodies .entry))
+    requires { ⌜ length (now valuespans) ≡ 512 ⌝ }
+    ensures { λ r. ⌜ ((base : ℕ) (slots : List Slot) → Looked (now (text .entry)) slots (now (slotspans .entry)) (now (valuespans .entry))
         → read-literal (tokens-past (now (rest .entry)) base at) slots false ≡ literal-part (now (rest .entry)) base r) × Literal-lies (length (now (rest .entry))) at r ⌝ }
 {
     let nots = skip_nots(rest, at);
     let start = nots.at;
     let negated = nots.negated;
-    plain_literal(text, rest, heads, bodies, start, negated)
+    plain_literal(text, rest, slotspans, valuespans, start, negated)
 }

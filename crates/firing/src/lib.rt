@@ -1,4 +1,4 @@
-// Firing the rules of a table, and what is worked out of the changes and of the rules fired.
+// The rules of a table fired stratum by stratum.
 pub mod order;
 
 ghost use mathlib.Core.Path.{_≡_};

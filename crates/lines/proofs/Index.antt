@@ -153,17 +153,17 @@ indexed-none text =
     }
 
 -- The slot of a line that was read, entered under its number.
-pub indexed-more : (text heads bodies spans : List ℕ) (slots : List Slot) (number name count : ℕ) → Indexed text slots heads bodies → number ≡ length slots → number < slot-limit
+pub indexed-more : (text slotspans valuespans spans : List ℕ) (slots : List Slot) (number name count : ℕ) → Indexed text slots slotspans valuespans → number ≡ length slots → number < slot-limit
     → 0 < name → Span-lies text name → Values-lie text spans count
-    → Indexed text (slots ++ span-slot text name spans count ∷ []) (set heads number name) (sets bodies (number * row + 1) spans)
-indexed-more text heads bodies spans slots number name count I e h z l L =
+    → Indexed text (slots ++ span-slot text name spans count ∷ []) (set slotspans number name) (sets valuespans (number * row + 1) spans)
+indexed-more text slotspans valuespans spans slots number name count I e h z l L =
     let hp = I .head-places in
     let n : length (slot-names slots) ≡ number = length-map slots (λ (y : Slot). y .name) ∙ sym e in
     record {
-      head-places = length-set heads number name ∙ hp;
-      body-places = length-sets bodies at spans ∙ I .body-places;
+      head-places = length-set slotspans number name ∙ hp;
+      body-places = length-sets valuespans at spans ∙ I .body-places;
       few = simp length-append (omega arith);
-      names = rw map-append (rw n at (spanned-more text heads (slot-names slots) name (I .names) (omega arith) z l));
+      names = rw map-append (rw n at (spanned-more text slotspans (slot-names slots) name (I .names) (omega arith) z l));
       values = λ s k. go s k (le-or-lt s number) (le-or-lt number s);
     }
   where
@@ -173,24 +173,24 @@ indexed-more text heads bodies spans slots number name count I e h z l L =
     at : ℕ
     at = number * row + 1
 
-    fits : at + length spans ≤ length bodies
+    fits : at + length spans ≤ length valuespans
     fits = let bp = I .body-places in let vp = L .places in omega arith
 
-    go : (s : ℕ) → s < slot-limit → (s ≤ number) ⊎ (number < s) → (number ≤ s) ⊎ (s < number) → Spanned text (row-of (sets bodies at spans) s) (values-of (slots ++ slot ∷ []) s)
+    go : (s : ℕ) → s < slot-limit → (s ≤ number) ⊎ (number < s) → (number ≤ s) ⊎ (s < number) → Spanned text (row-of (sets valuespans at spans) s) (values-of (slots ++ slot ∷ []) s)
     go s k (inl a) (inl b) =
         let f : s ≡ number = omega arith in
         let vp = L .places in
-        let w : at + value-limit ≤ length bodies = omega (arith, fits) in
-        rw (f, sets-here bodies spans at value-limit vp w, e, values-new slots slot) (L .spanned)
-    go s k (inl a) (inr b) = rw (sets-before bodies spans at (s * row + 1) value-limit fits (omega arith), values-old slots slot s (omega arith)) (I .values s k)
-    go s k (inr a) b = rw (sets-after bodies spans at (s * row + 1) fits (omega arith), values-past slots slot s (omega arith)) (I .values s k)
+        let w : at + value-limit ≤ length valuespans = omega (arith, fits) in
+        rw (f, sets-here valuespans spans at value-limit vp w, e, values-new slots slot) (L .spanned)
+    go s k (inl a) (inr b) = rw (sets-before valuespans spans at (s * row + 1) value-limit fits (omega arith), values-old slots slot s (omega arith)) (I .values s k)
+    go s k (inr a) b = rw (sets-after valuespans spans at (s * row + 1) fits (omega arith), values-past slots slot s (omega arith)) (I .values s k)
 
 -- The names that the rules look up.
-pub indexed-slots : {text : List ℕ} {slots : List Slot} {heads bodies : List ℕ} → Indexed text slots heads bodies → Listed text heads (spellings (slot-names slots))
-indexed-slots {text} {slots} {heads} I = spanned-listed text heads (slot-names slots) (I .names)
+pub indexed-slots : {text : List ℕ} {slots : List Slot} {slotspans valuespans : List ℕ} → Indexed text slots slotspans valuespans → Listed text slotspans (spellings (slot-names slots))
+indexed-slots {text} {slots} {slotspans} I = spanned-listed text slotspans (slot-names slots) (I .names)
 
-pub indexed-values : {text : List ℕ} {slots : List Slot} {heads bodies : List ℕ} (s : ℕ) → Indexed text slots heads bodies → s < slot-limit → Listed text (row-of bodies s) (spellings (values-of slots s))
-indexed-values {text} {slots} {heads} {bodies} s I h = spanned-listed text (row-of bodies s) (values-of slots s) (I .values s h)
+pub indexed-values : {text : List ℕ} {slots : List Slot} {slotspans valuespans : List ℕ} (s : ℕ) → Indexed text slots slotspans valuespans → s < slot-limit → Listed text (row-of valuespans s) (spellings (values-of slots s))
+indexed-values {text} {slots} {slotspans} {valuespans} s I h = spanned-listed text (row-of valuespans s) (values-of slots s) (I .values s h)
 
 -- Names and slots of the table, by their spans.
 place-name : (text : List ℕ) (k : ℕ) → Span-lies text k → place-of k ≡ name-for (span-name text k)

@@ -33,15 +33,15 @@ Spanned text (k ∷ ks) (n ∷ ns) = (0 < k) × Span-lies text k × (span-name t
 
 -- The spans of the values of slot `s`, among those of all slots.
 abbrev pub row-of : List ℕ → ℕ → List ℕ
-row-of bodies s = take value-limit (drop (s * row + 1) bodies)
+row-of valuespans s = take value-limit (drop (s * row + 1) valuespans)
 
--- `heads` has the spans of the slots' names, and `bodies` those of the values of slot s from s * 16 + 1 on.
-pub record Indexed (text : List ℕ) (slots : List Slot) (heads bodies : List ℕ) : Type 0 where
-  pub head-places : length heads ≡ slot-limit
-  pub body-places : length bodies ≡ pair-places
+-- `slotspans` has the spans of the slots' names, and `valuespans` those of the values of slot s from s * 16 + 1 on.
+pub record Indexed (text : List ℕ) (slots : List Slot) (slotspans valuespans : List ℕ) : Type 0 where
+  pub head-places : length slotspans ≡ slot-limit
+  pub body-places : length valuespans ≡ pair-places
   pub few : length slots ≤ slot-limit
-  pub names : Spanned text heads (slot-names slots)
-  pub values : (s : ℕ) → s < slot-limit → Spanned text (row-of bodies s) (values-of slots s)
+  pub names : Spanned text slotspans (slot-names slots)
+  pub values : (s : ℕ) → s < slot-limit → Spanned text (row-of valuespans s) (values-of slots s)
 
 -- Where a name stands, as the table has it.
 abbrev pub name-for : Name → stretch.Name

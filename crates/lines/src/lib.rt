@@ -130,17 +130,17 @@ pub fn head_next(
     text: &[u8],
     rest: &[u8],
     base: usize,
-    heads: &[usize; SLOTS],
+    slotspans: &[usize; SLOTS],
     start: usize,
 ) -> Declared
     requires { ⌜ Remainder (now text) (now rest) base ⌝ }
-    ensures { λ r. ⌜ ((slots : List Slot) → Listed (now (text .entry)) (now (heads .entry)) (spellings (slot-names slots))
+    ensures { λ r. ⌜ ((slots : List Slot) → Listed (now (text .entry)) (now (slotspans .entry)) (spellings (slot-names slots))
         → read-head slots (tokens-past (now (rest .entry)) base start) ≡ declared-part (now (text .entry)) (now (rest .entry)) base r) × Declared-lies (now (text .entry)) (length (now (rest .entry))) start r ⌝ }
 {
     let word = word_next(rest, start, SLOT);
     match word {
         Step::At(begin) => {
-            let declared = new_next(text, rest, base, heads, begin);
+            let declared = new_next(text, rest, base, slotspans, begin);
             match declared {
                 Declared::At(span, next) => {
                     let brace = word_next(rest, next, OPEN);
@@ -161,15 +161,15 @@ pub fn line_next(
     text: &[u8],
     rest: &[u8],
     base: usize,
-    heads: &[usize; SLOTS],
+    slotspans: &[usize; SLOTS],
     start: usize,
 ) -> Line
     requires { ⌜ Remainder (now text) (now rest) base ⌝ }
-    ensures { λ r. ⌜ ((slots : List Slot) → Listed (now (text .entry)) (now (heads .entry)) (spellings (slot-names slots))
+    ensures { λ r. ⌜ ((slots : List Slot) → Listed (now (text .entry)) (now (slotspans .entry)) (spellings (slot-names slots))
         → read-line slots (tokens-past (now (rest .entry)) base start) ≡ outcome-part (now (rest .entry)) base (span-slot (now (text .entry)) (r .name) (r .spans) (r .count)) (r .outcome))
         × Step-lies (length (now (rest .entry))) start (r .outcome) × Line-lies (now (text .entry)) (r .name) (r .spans) (r .count) (r .outcome) ⌝ }
 {
-    let head = head_next(text, rest, base, heads, start);
+    let head = head_next(text, rest, base, slotspans, start);
     match head {
         Declared::At(name, next) => {
             let values = values_next(text, rest, base, next);
@@ -235,20 +235,20 @@ pub fn slot_of(span: usize, spans: [usize; VALUES], count: usize) -> table::Slot
 
 // A slot's spans entered among those of all slots.
 pub fn enter(
-    heads: &mut [usize; SLOTS],
-    bodies: &mut [usize; PAIRS],
+    slotspans: &mut [usize; SLOTS],
+    valuespans: &mut [usize; PAIRS],
     number: usize,
     span: usize,
     spans: [usize; VALUES],
 )
     requires { ⌜ number < slot-limit ⌝ }
-    ensures { λ r. ⌜ (now (heads .exit) ≡ set (now (heads .entry)) number span) × (now (bodies .exit) ≡ sets (now (bodies .entry)) (number * row + 1) spans) ⌝ }
+    ensures { λ r. ⌜ (now (slotspans .exit) ≡ set (now (slotspans .entry)) number span) × (now (valuespans .exit) ≡ sets (now (valuespans .entry)) (number * row + 1) spans) ⌝ }
 {
-    heads[number] = span;
+    slotspans[number] = span;
     let first = number * ROW + 1;
     let mut i: usize = 0;
     while i < VALUES {
-        bodies[first + i] = spans[i];
+        valuespans[first + i] = spans[i];
         i += 1;
     }
 }

@@ -16,6 +16,7 @@ use Rattle.soundness.specs.Sound.{within-limits, slots-have-values, has-pair, n
 use Rattle.model.specs.Rules.{assigns, each-once}
 use Rattle.rule_file.specs.Whole.{reading}
 use Rattle.rule_file.proofs.Cases.{runs, case-text}
+use Rattle.cards.specs.Cards.{if-sound}
 use Rattle.cards.specs.Answers.{taken, refused, after}
 use Rattle.cards.specs.Forms.{card-fields, change-fields, slip-fields, card-bytes, slip-bytes, values-in, changes-in, values-test, card-test, change-fault, changes-test, read-card, read-slip}
 use Rattle.results.specs.Record.{ones-in}
@@ -38,7 +39,7 @@ runs-cards = tt
 
 -- What a response and its listing run.
 unfoldable runs-response : Unit {0}
-unfolding fired-record ones ones-in answer-of unless-conflict answer-by-firing _then_ if-room answer-by-rules answer-by-table is-full answer-to counted tally-after show-name show-slot show-value-of show-value bit-of list-response list-reading listing
+unfolding fired-record ones ones-in answer-of unless-conflict answer-by-firing _then_ if-room answer-by-rules answer-by-table if-sound is-full answer-to counted tally-after show-name show-slot show-value-of show-value bit-of list-response list-reading listing
 runs-response = tt
 
 -- `unfolding lists` opens all that a listing runs.

@@ -25,6 +25,7 @@ use Rattle.grammar.proofs.Accepts.{one-meaning}
 use Rattle.reader.specs.declared.Outcome.the-variants.{Accepted}
 use Rattle.rule_file.specs.Whole.{reading}
 use Rattle.rule_file.proofs.Answers.{reading-carries, reading-passes}
+use Rattle.cards.specs.Cards.{if-sound}
 use Rattle.cards.specs.Answers.{OrRefused, taken, refused}
 use Rattle.cards.specs.Forms.{card-bits, read-card, read-slip}
 use Rattle.tally.specs.declared.Tally.{Tally}
@@ -37,7 +38,7 @@ use Rattle.promises.proofs.Refusals.{Only, Early, Other, only-more, car
 -- An accepted text responds by its file's slots and rules.
 pub file-response : (text : List ℕ) (f : File) → Is-file text f → reading text .outcome ≡ Accepted → (y : Tally) (card slip : List ℕ) (rooms : Rooms)
     → responds text y card slip rooms ≡ cond (is-full y) (refused 32 0) (answer-by-rules (slot-counts (f .slots)) (f .rules) card slip rooms)
-unfolding answer-to answer-by-table
+unfolding answer-to answer-by-table if-sound
 file-response text f h o y card slip rooms =
     let c = reading-carries text o in
     let e : c .file ≡ f = one-meaning text (c .file) f (c .is-file) h in

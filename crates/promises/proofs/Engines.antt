@@ -17,6 +17,7 @@ use Rattle.soundness.specs.Sound.{sound}
 use Rattle.reader.specs.declared.Outcome.the-variants.{Accepted}
 use Rattle.rule_file.specs.Whole.{reading}
 use Rattle.rule_file.proofs.Answers.{reading-passes}
+use Rattle.cards.specs.Cards.{if-sound}
 use Rattle.cards.specs.Answers.{OrRefused, taken, refused}
 use Rattle.cards.specs.Forms.{read-card, read-slip}
 use Rattle.tally.specs.declared.Tally.{Tally}
@@ -84,7 +85,7 @@ fresh-no-32 t card slip rooms s e = rw fresh-not-full at (only-full t fresh card
 
 -- A table that the reading hands out gets no 31.
 pub reading-no-31 : (text : List ℕ) (y : Tally) (card slip : List ℕ) (rooms : Rooms) (s : ℕ) → ¬ (answer-to (reading text .table) y card slip rooms ≡ refused 31 s)
-unfolding answer-to answer-by-table
+unfolding answer-to answer-by-table if-sound
 reading-no-31 text y card slip rooms s e = only-e (Other 31) (answer-to (reading text .table) y card slip rooms) 31 s (made (sound (reading text .table)) (reading-passes text)) e refl
   where
     answer : OrRefused Answer

@@ -17,6 +17,7 @@ use Rattle.table.specs.declared.Table.{Table}
 use Rattle.table.specs.Limits.{row}
 use Rattle.table.specs.Link.{rules-of, value-counts}
 use Rattle.soundness.specs.Sound.{sound}
+use Rattle.cards.specs.Cards.{if-sound}
 use Rattle.cards.specs.Answers.{Verdict, passed, fault, OrRefused, taken, refused, after}
 use Rattle.cards.specs.Forms.{count-in, card-bits, slip-bits, padding, values-in, changes-in, values-test, card-test, change-fault, changes-test, slip-test, read-card, read-slip}
 use Rattle.response.specs.Ending.{answer-of, unless-conflict, answer-by-firing}
@@ -147,7 +148,7 @@ by-rules-other j low high counts rs card slip rooms =
 
 -- No refusal has the number 0.
 pub respond-numbered : (t : Table) (y : Tally) (card slip : List ℕ) (rooms : Rooms) → Only (λ k. 1 ≤ k) (answer-to t y card slip rooms)
-unfolding answer-to answer-by-table
+unfolding answer-to answer-by-table if-sound
 respond-numbered t y card slip rooms =
     only-cond (λ k. 1 ≤ k) (is-full y) (refused 32 0) _ (omega arith)
     (only-cond (λ k. 1 ≤ k) (sound t) (answer-by-rules (value-counts t) (rules-of t) card slip rooms) (refused 31 0)
@@ -156,7 +157,7 @@ respond-numbered t y card slip rooms =
 
 -- What follows the tally's test gives no 32.
 pub by-table-other : (t : Table) (card slip : List ℕ) (rooms : Rooms) → Only (Other 32) (answer-by-table t card slip rooms)
-unfolding answer-by-table
+unfolding answer-by-table if-sound
 by-table-other t card slip rooms =
     only-cond (Other 32) (sound t) (answer-by-rules (value-counts t) (rules-of t) card slip rooms) (refused 31 0)
     (by-rules-other 32 (omega arith) (omega arith) (value-counts t) (rules-of t) card slip rooms) (λ e. omega arith)

@@ -9,10 +9,11 @@ use Rattle.reader.specs.Tables as reader
 use Rattle.rule_file.specs.Whole.{reading}
 use Rattle.results.specs.Record.{ones-in}
 use Rattle.tally.specs.declared.Tally.{Tally}
+use Rattle.cards.specs.Answers.{written}
 use Rattle.response.specs.declared.Response.{Response}
 use Rattle.response.specs.declared.Outcome.the-variants.{Answered}
 use Rattle.response.specs.Ending.{Answer}
-use Rattle.response.specs.Respond.{Outputs, outputs, rooms-of, written, refusal-number, second-number, answer-to, response-to, outputs-after}
+use Rattle.response.specs.Respond.{Outputs, outputs, rooms-of, refusal-number, second-number, answer-to, response-to, outputs-after}
 use Rattle.promises.specs.Agreement.{Agreed, Shows, LowestConflict}
 
 -- A file is accepted when its reading gives no refusal.

@@ -30,11 +30,11 @@ use Rattle.lines.proofs.LineLaws.{remainder-whole, remainder-next}
 use Rattle.reader.proofs.TableLaws.{rule-kept, table-empty, table-slot, table-rule}
 
 -- Slots and rules were read; the table and the spans hold them, and the remainder comes to what the whole text comes to.
-pub record Halfway (text : List ℕ) (t : Table) (heads bodies rest : List ℕ) (base : ℕ) : Type 0 where
+pub record Halfway (text : List ℕ) (t : Table) (slotspans valuespans rest : List ℕ) (base : ℕ) : Type 0 where
   pub slots : List Slot
   pub rules : List model.Rule
   pub remainder : Remainder text rest base
-  pub indexed : Indexed text slots heads bodies
+  pub indexed : Indexed text slots slotspans valuespans
   pub tabled : t ≡ table-for (record { slots = slots; rules = rules })
   pub same : read-on slots rules (tokens-past rest base 0) ≡ read-tokens (tokens text)
 
@@ -49,11 +49,11 @@ halfway-start text h = record {
   same = ap (λ (k : ℕ). read-lines k [] (tokens-from text 0 0)) (omega arith);
 }
 
-pub halfway-width : {text heads bodies rest : List ℕ} {t : Table} {base : ℕ} (H : Halfway text t heads bodies rest base) → t .width ≡ length (H .slots)
+pub halfway-width : {text slotspans valuespans rest : List ℕ} {t : Table} {base : ℕ} (H : Halfway text t slotspans valuespans rest base) → t .width ≡ length (H .slots)
 unfolding table-for
 halfway-width H = ap (λ (u : Table). u .width) (H .tabled)
 
-pub halfway-count : {text heads bodies rest : List ℕ} {t : Table} {base : ℕ} (H : Halfway text t heads bodies rest base) → t .count ≡ length (H .rules)
+pub halfway-count : {text slotspans valuespans rest : List ℕ} {t : Table} {base : ℕ} (H : Halfway text t slotspans valuespans rest base) → t .count ≡ length (H .rules)
 unfolding table-for
 halfway-count H = ap (λ (u : Table). u .count) (H .tabled)
 
@@ -71,17 +71,17 @@ slot-table : (slots : List Slot) (rules : List model.Rule) (t : Table) (s : Slot
 unfolding table-for
 slot-table slots rules t s e h = rw e (table-slot slots rules s h)
 
-pub halfway-slot : (text heads bodies rest spans : List ℕ) (t : Table) (base name count next : ℕ) (H : Halfway text t heads bodies rest base) → t .width < slot-limit → 0 < name → Span-lies text name → Values-lie text spans count
+pub halfway-slot : (text slotspans valuespans rest spans : List ℕ) (t : Table) (base name count next : ℕ) (H : Halfway text t slotspans valuespans rest base) → t .width < slot-limit → 0 < name → Span-lies text name → Values-lie text spans count
     → read-on (H .slots) (H .rules) (tokens-past rest base 0) ≡ read-on (H .slots ++ span-slot text name spans count ∷ []) (H .rules) (tokens-past rest base next)
-    → Halfway text (record { slots = set (t .slots) (t .width) (slot-by name spans count); width = t .width + 1; rules = t .rules; count = t .count }) (set heads (t .width) name) (sets bodies (t .width * row + 1) spans)
+    → Halfway text (record { slots = set (t .slots) (t .width) (slot-by name spans count); width = t .width + 1; rules = t .rules; count = t .count }) (set slotspans (t .width) name) (sets valuespans (t .width * row + 1) spans)
     (take (length rest - next) (drop next rest)) (base + next)
-halfway-slot text heads bodies rest spans t base name count next H h z l L e =
+halfway-slot text slotspans valuespans rest spans t base name count next H h z l L e =
     let w = halfway-width H in
     record {
       slots = H .slots ++ span-slot text name spans count ∷ [];
       rules = H .rules;
       remainder = remainder-next text rest base next (H .remainder);
-      indexed = indexed-more text heads bodies spans (H .slots) (t .width) name count (H .indexed) w h z l L;
+      indexed = indexed-more text slotspans valuespans spans (H .slots) (t .width) name count (H .indexed) w h z l L;
       tabled = rw (slot-placed text spans name count l L) (slot-table (H .slots) (H .rules) t (span-slot text name spans count) (H .tabled) (omega arith));
       same = ap (read-on (H .slots ++ span-slot text name spans count ∷ []) (H .rules)) (sym (handed-on rest base next)) ∙ sym e ∙ H .same;
     }
@@ -92,10 +92,10 @@ rule-table : (slots : List Slot) (rules : List model.Rule) (t : Table) (r : mode
 unfolding table-for
 rule-table slots rules t r e h = rw e (table-rule slots rules r h)
 
-pub halfway-rule : (text heads bodies rest : List ℕ) (t : Table) (base next : ℕ) (r : Rule) (H : Halfway text t heads bodies rest base) → t .count < rule-limit → Plain-rule r
+pub halfway-rule : (text slotspans valuespans rest : List ℕ) (t : Table) (base next : ℕ) (r : Rule) (H : Halfway text t slotspans valuespans rest base) → t .count < rule-limit → Plain-rule r
     → read-on (H .slots) (H .rules) (tokens-past rest base 0) ≡ read-on (H .slots) (H .rules ++ rule-of r ∷ []) (tokens-past rest base next)
-    → Halfway text (record { slots = t .slots; width = t .width; rules = set (t .rules) (t .count) r; count = t .count + 1 }) heads bodies (take (length rest - next) (drop next rest)) (base + next)
-halfway-rule text heads bodies rest t base next r H h p e =
+    → Halfway text (record { slots = t .slots; width = t .width; rules = set (t .rules) (t .count) r; count = t .count + 1 }) slotspans valuespans (take (length rest - next) (drop next rest)) (base + next)
+halfway-rule text slotspans valuespans rest t base next r H h p e =
     let c = halfway-count H in
     record {
       slots = H .slots;

@@ -144,8 +144,8 @@ next-none slots rules [] k n h g = absurd n
 next-none slots rules (t ∷ ts) k n h g = on-rule-none slots rules t ts k n h g
 
 -- Where the slots so far are indexed, they are found.
-pub looked : (text heads bodies : List ℕ) (slots : List Slot) → Indexed text slots heads bodies → Looked text slots heads bodies
-looked text heads bodies slots I = let f = I .few in record { heads-listed = indexed-slots I; bodies-listed = λ s h. indexed-values s I (omega arith) }
+pub looked : (text slotspans valuespans : List ℕ) (slots : List Slot) → Indexed text slots slotspans valuespans → Looked text slots slotspans valuespans
+looked text slotspans valuespans slots I = let f = I .few in record { slotspans-listed = indexed-slots I; valuespans-listed = λ s h. indexed-values s I (omega arith) }
 
 pub no-rules : (rules : List Rule) → length rules ≡ 0 → rules ≡ []
 no-rules [] e = refl

@@ -10,6 +10,8 @@ use crate::statements::Kind;
 use crate::statements::statement_next;
 use lines::enter;
 use lines::slot_of;
+use table::PAIRS;
+use table::SLOTS;
 use table::Table;
 
 pub mod rules;
@@ -36,14 +38,14 @@ fn read_statements(text: &[u8]) -> FileRead
     ensures { λ r. ⌜ r ≡ answered (read-tokens (tokens (now (text .entry)))) ⌝ }
 {
     let mut t = table::empty_table();
-    let mut heads: [usize; 32] = [0; 32];
-    let mut bodies: [usize; 512] = [0; 512];
+    let mut slotspans: [usize; SLOTS] = [0; SLOTS];
+    let mut valuespans: [usize; PAIRS] = [0; PAIRS];
     let mut rest = text;
     let mut base: usize = 0;
     loop {
         let width = t.width;
         let count = t.count;
-        let statement = statement_next(text, rest, base, &heads, &bodies, width, count);
+        let statement = statement_next(text, rest, base, &slotspans, &valuespans, width, count);
         let kind = statement.kind;
         match kind {
             Kind::End => {
@@ -56,7 +58,7 @@ fn read_statements(text: &[u8]) -> FileRead
                 let line = statement.line;
                 let name = line.name;
                 let spans = line.spans;
-                enter(&mut heads, &mut bodies, width, name, spans);
+                enter(&mut slotspans, &mut valuespans, width, name, spans);
                 t.slots[width] = slot_of(name, spans, line.count);
                 t.width = width + 1;
                 rest = &rest[next..];

@@ -21,6 +21,7 @@ use steps::names::value_next;
 use steps::step::Step;
 use steps::step::word_next;
 use table::Rule;
+use table::SLOTS;
 
 // A slot, a value of it, and the position after them; or a refusal.
 pub enum PairRead {
@@ -29,18 +30,24 @@ pub enum PairRead {
 }
 
 // `slot *= value`.
-fn pair_next(text: &[u8], rest: &[u8], heads: &[usize; 32], bodies: &[usize], at: usize) -> PairRead
-    requires { ⌜ length (now bodies) ≡ 512 ⌝ }
-    ensures { λ r. ⌜ ((base : ℕ) (slots : List Slot) → Looked (now (text .entry)) slots (now (heads .entry)) (now (bodies .entry))
+fn pair_next(
+    text: &[u8],
+    rest: &[u8],
+    slotspans: &[usize; SLOTS],
+    valuespans: &[usize],
+    at: usize,
+) -> PairRead
+    requires { ⌜ length (now valuespans) ≡ 512 ⌝ }
+    ensures { λ r. ⌜ ((base : ℕ) (slots : List Slot) → Looked (now (text .entry)) slots (now (slotspans .entry)) (now (valuespans .entry))
         → trigger-pair slots (tokens-past (now (rest .entry)) base at) ≡ pair-part (now (rest .entry)) base r) × Pair-lies (length (now (rest .entry))) at r ⌝ }
 {
-    let found = slot_next(text, rest, heads, at);
+    let found = slot_next(text, rest, slotspans, at);
     match found {
         Number::Is(slot, after) => {
             let mark = word_next(rest, after, text::BECOMES);
             match mark {
                 Step::At(next) => {
-                    let read = value_next(text, rest, bodies, slot, next);
+                    let read = value_next(text, rest, valuespans, slot, next);
                     match read {
                         Number::Is(value, end) => PairRead::Took(slot, value, end),
                         Number::Fault(k) => PairRead::Fault(k),
@@ -57,18 +64,18 @@ fn pair_next(text: &[u8], rest: &[u8], heads: &[usize; 32], bodies: &[usize], at
 pub fn trigger_next(
     text: &[u8],
     rest: &[u8],
-    heads: &[usize; 32],
-    bodies: &[usize],
+    slotspans: &[usize; SLOTS],
+    valuespans: &[usize],
     at: usize,
 ) -> PairRead
-    requires { ⌜ length (now bodies) ≡ 512 ⌝ }
-    ensures { λ r. ⌜ ((base : ℕ) (slots : List Slot) → Looked (now (text .entry)) slots (now (heads .entry)) (now (bodies .entry))
+    requires { ⌜ length (now valuespans) ≡ 512 ⌝ }
+    ensures { λ r. ⌜ ((base : ℕ) (slots : List Slot) → Looked (now (text .entry)) slots (now (slotspans .entry)) (now (valuespans .entry))
         → read-trigger slots (tokens-past (now (rest .entry)) base at) ≡ pair-part (now (rest .entry)) base r) × Pair-lies (length (now (rest .entry))) at r ⌝ }
 {
     let when = word_next(rest, at, text::WHEN);
     match when {
         Step::At(after) => {
-            let read = pair_next(text, rest, heads, bodies, after);
+            let read = pair_next(text, rest, slotspans, valuespans, after);
             match read {
                 PairRead::Took(slot, value, end) => {
                     let mark = word_next(rest, end, text::IF);
@@ -112,23 +119,23 @@ fn rule_of(slot: usize, value: usize, literals: Literals, assignments: Assignmen
 fn rest_next(
     text: &[u8],
     rest: &[u8],
-    heads: &[usize; 32],
-    bodies: &[usize],
+    slotspans: &[usize; SLOTS],
+    valuespans: &[usize],
     slot: usize,
     value: usize,
     at: usize,
 ) -> RuleRead
-    requires { ⌜ (slot ≤ 31) × (value ≤ 15) × (length (now bodies) ≡ 512) ⌝ }
-    ensures { λ r. ⌜ ((base : ℕ) (slots : List Slot) → Looked (now (text .entry)) slots (now (heads .entry)) (now (bodies .entry))
+    requires { ⌜ (slot ≤ 31) × (value ≤ 15) × (length (now valuespans) ≡ 512) ⌝ }
+    ensures { λ r. ⌜ ((base : ℕ) (slots : List Slot) → Looked (now (text .entry)) slots (now (slotspans .entry)) (now (valuespans .entry))
         → read-rest slots (pair slot value) (tokens-past (now (rest .entry)) base at) ≡ outcome-part (now (rest .entry)) base (rule-of (r .rule)) (r .outcome))
         × Step-lies (length (now (rest .entry))) at (r .outcome) × Plain-rule (r .rule) ⌝ }
 {
-    let condition = condition_next(text, rest, heads, bodies, at);
+    let condition = condition_next(text, rest, slotspans, valuespans, at);
     let literals = condition.list;
     let first = condition.outcome;
     match first {
         Step::At(after) => {
-            let assigned = assign_next(text, rest, heads, bodies, after);
+            let assigned = assign_next(text, rest, slotspans, valuespans, after);
             let assignments = assigned.list;
             let second = assigned.outcome;
             match second {
@@ -156,22 +163,22 @@ fn rest_next(
 pub fn rule_next(
     text: &[u8],
     rest: &[u8],
-    heads: &[usize; 32],
-    bodies: &[usize],
+    slotspans: &[usize; SLOTS],
+    valuespans: &[usize],
     at: usize,
 ) -> RuleRead
-    requires { ⌜ length (now bodies) ≡ 512 ⌝ }
-    ensures { λ r. ⌜ ((base : ℕ) (slots : List Slot) → Looked (now (text .entry)) slots (now (heads .entry)) (now (bodies .entry))
+    requires { ⌜ length (now valuespans) ≡ 512 ⌝ }
+    ensures { λ r. ⌜ ((base : ℕ) (slots : List Slot) → Looked (now (text .entry)) slots (now (slotspans .entry)) (now (valuespans .entry))
         → read-rule slots (tokens-past (now (rest .entry)) base at) ≡ outcome-part (now (rest .entry)) base (rule-of (r .rule)) (r .outcome))
         × Step-lies (length (now (rest .entry))) at (r .outcome) × Plain-rule (r .rule) ⌝ }
 {
-    let trigger = trigger_next(text, rest, heads, bodies, at);
+    let trigger = trigger_next(text, rest, slotspans, valuespans, at);
     match trigger {
         PairRead::Took(slot, value, after) => rest_next(
             text,
             rest,
-            heads,
-            bodies,
+            slotspans,
+            valuespans,
             slot,
             value,
             after,

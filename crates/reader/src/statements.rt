@@ -15,6 +15,7 @@ use lines::line_next;
 use steps::step::Step;
 use steps::step::word_next;
 use table::Rule;
+use table::SLOTS;
 use text::Token;
 
 // What stands at the front: a slot line or a rule with the position after it, the end, or a refusal.
@@ -47,22 +48,22 @@ fn slot_statement(
     text: &[u8],
     rest: &[u8],
     base: usize,
-    heads: &[usize; 32],
+    slotspans: &[usize; SLOTS],
     width: usize,
 ) -> Statement
     requires { ⌜ Remainder (now text) (now rest) base ⌝ }
-    ensures { λ r. ⌜ ((slots : List Slot) (bodies : List ℕ) → Indexed (now (text .entry)) slots (now (heads .entry)) bodies → width ≡ length slots
+    ensures { λ r. ⌜ ((slots : List Slot) (valuespans : List ℕ) → Indexed (now (text .entry)) slots (now (slotspans .entry)) valuespans → width ≡ length slots
         → Slot-next (tokens-past (now (rest .entry)) base 0) → read-on slots [] (tokens-past (now (rest .entry)) base 0) ≡ statement-answer (now (text .entry)) (now (rest .entry)) base slots [] r)
         × Statement-lies (now (text .entry)) (length (now (rest .entry))) width 0 r ⌝ }
 {
-    if table::SLOTS <= width {
+    if SLOTS <= width {
         return Statement {
             kind: Kind::Refused(15),
             line: no_line(),
             rule: table::empty_rule(),
         };
     }
-    let line = line_next(text, rest, base, heads, 0);
+    let line = line_next(text, rest, base, slotspans, 0);
     let outcome = line.outcome;
     match outcome {
         Step::At(next) => Statement {
@@ -82,12 +83,12 @@ fn slot_statement(
 fn rule_statement(
     text: &[u8],
     rest: &[u8],
-    heads: &[usize; 32],
-    bodies: &[usize],
+    slotspans: &[usize; SLOTS],
+    valuespans: &[usize],
     count: usize,
 ) -> Statement
-    requires { ⌜ length (now bodies) ≡ 512 ⌝ }
-    ensures { λ r. ⌜ ((base : ℕ) (slots : List Slot) (rules : List model.Rule) → Indexed (now (text .entry)) slots (now (heads .entry)) (now (bodies .entry)) → count ≡ length rules
+    requires { ⌜ length (now valuespans) ≡ 512 ⌝ }
+    ensures { λ r. ⌜ ((base : ℕ) (slots : List Slot) (rules : List model.Rule) → Indexed (now (text .entry)) slots (now (slotspans .entry)) (now (valuespans .entry)) → count ≡ length rules
         → Rule-next rules (tokens-past (now (rest .entry)) base 0) → read-on slots rules (tokens-past (now (rest .entry)) base 0) ≡ statement-answer (now (text .entry)) (now (rest .entry)) base slots rules r)
         × ((width : ℕ) → Statement-lies (now (text .entry)) (length (now (rest .entry))) width count r) ⌝ }
 {
@@ -110,7 +111,7 @@ fn rule_statement(
             }
         }
     }
-    let read = rule_next(text, rest, heads, bodies, 0);
+    let read = rule_next(text, rest, slotspans, valuespans, 0);
     let rule = read.rule;
     let outcome = read.outcome;
     match outcome {
@@ -132,13 +133,13 @@ pub fn statement_next(
     text: &[u8],
     rest: &[u8],
     base: usize,
-    heads: &[usize; 32],
-    bodies: &[usize],
+    slotspans: &[usize; SLOTS],
+    valuespans: &[usize],
     width: usize,
     count: usize,
 ) -> Statement
-    requires { ⌜ Remainder (now text) (now rest) base × (length (now bodies) ≡ 512) ⌝ }
-    ensures { λ r. ⌜ ((slots : List Slot) (rules : List model.Rule) → Indexed (now (text .entry)) slots (now (heads .entry)) (now (bodies .entry)) → width ≡ length slots → count ≡ length rules
+    requires { ⌜ Remainder (now text) (now rest) base × (length (now valuespans) ≡ 512) ⌝ }
+    ensures { λ r. ⌜ ((slots : List Slot) (rules : List model.Rule) → Indexed (now (text .entry)) slots (now (slotspans .entry)) (now (valuespans .entry)) → width ≡ length slots → count ≡ length rules
         → read-on slots rules (tokens-past (now (rest .entry)) base 0) ≡ statement-answer (now (text .entry)) (now (rest .entry)) base slots rules r)
         × Statement-lies (now (text .entry)) (length (now (rest .entry))) width count r ⌝ }
 {
@@ -154,8 +155,8 @@ pub fn statement_next(
     if count == 0 {
         let slot = word_next(rest, 0, text::SLOT);
         if let Step::At(_) = slot {
-            return slot_statement(text, rest, base, heads, width);
+            return slot_statement(text, rest, base, slotspans, width);
         }
     }
-    rule_statement(text, rest, heads, bodies, count)
+    rule_statement(text, rest, slotspans, valuespans, count)
 }

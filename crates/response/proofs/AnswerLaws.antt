@@ -35,7 +35,7 @@ use Rattle.table.specs.Flat.{set-of, add-pairs}
 use Rattle.table.proofs.Link.{rules-length}
 use Rattle.cards.specs.declared.Card.{Card}
 use Rattle.cards.specs.declared.Slip.{Slip}
-use Rattle.cards.specs.Answers.{taken, refused}
+use Rattle.cards.specs.Answers.{taken, refused, written}
 use Rattle.cards.specs.Forms.{card-bits, slip-bits, card-bytes, slip-bytes}
 use Rattle.cards.specs.Cards.{CardFits, SlipFits, no-change, pair-of, change-of, values-of, changes-of, card-of, slip-of}
 use Rattle.cards.proofs.Formed.{slip-length}
@@ -48,7 +48,7 @@ use Rattle.results.specs.Record as firing
 use Rattle.results.specs.Ending.{new-places}
 use Rattle.response.specs.Ending.{fired-record, answer-of, unless-conflict, answer-by-firing}
 use Rattle.response.specs.declared.Outcome.the-variants.{Answered, Refused}
-use Rattle.response.specs.Respond.{Outputs, outputs, written, outcome-of, outputs-after, Ends}
+use Rattle.response.specs.Respond.{Outputs, outputs, outcome-of, outputs-after, Ends}
 use Rattle.response.specs.InOrder.{InOrder}
 use Rattle.response.proofs.Fired.{AllPlaced, fired-changes, fired-rules}
 

@@ -23,7 +23,7 @@ use Rattle.cards.specs.declared.CardRead.{CardRead}
 use Rattle.cards.specs.declared.SlipRead.{SlipRead}
 use Rattle.cards.specs.Answers.{OrRefused, taken, refused}
 use Rattle.cards.specs.Forms.{card-bits, card-test, slip-test, read-card, read-slip}
-use Rattle.cards.specs.Cards.{CardFits, SlipFits, card-of, slip-of, card-read, slip-read}
+use Rattle.cards.specs.Cards.{CardFits, SlipFits, card-of, slip-of, card-read, slip-read, if-sound}
 use Rattle.cards.proofs.Passed.{slots-length, sound-slots, card-pass, card-fits, slip-fits}
 use Rattle.cards.proofs.EntryTrips.{card-of-values, slip-of-changes}
 use Rattle.cards.proofs.Having.{tested-few, card-tested, slip-tested}
@@ -65,11 +65,11 @@ ends-refused u k s o e = rw e (refl, refl)
 
 -- 31, or what comes after it.
 pub by-table-31 : (t : Table) (card slip : List ℕ) (rooms : Rooms) → sound t ≡ false → answer-by-table t card slip rooms ≡ refused 31 0
-unfolding answer-by-table
+unfolding answer-by-table if-sound
 by-table-31 t card slip rooms e = rw e refl
 
 pub by-table-on : (t : Table) (card slip : List ℕ) (rooms : Rooms) → sound t ≡ true → answer-by-table t card slip rooms ≡ answer-by-rules (value-counts t) (rules-of t) card slip rooms
-unfolding answer-by-table
+unfolding answer-by-table if-sound
 by-table-on t card slip rooms e = rw e refl
 
 module _ (counts : List ℕ) (rs : List Rule) (card slip : List ℕ) (rooms : Rooms) where

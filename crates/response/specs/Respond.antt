@@ -1,17 +1,17 @@
 -- The response to a slip: document 01, 'Order of a response: 32, 31, 20 to 28, 30, 40. Each of these but 32 adds one to slips refused; an answer adds one to slips answered.'
-use Prim.Native.Nat.{ℕ, _+_}
+use Prim.Native.Nat.{ℕ}
 use mathlib.Core.Path.{_≡_}
-use mathlib.Core.Bool.{Bool, cond}
-use mathlib.Core.List.{List, _++_}
-use lib.Dec.{leb, ltb}
-use lib.ListN.{length, drop}
-use Rattle.laws.specs.Truth.{_∨ᵇ_}
+use mathlib.Core.Bool.{cond}
+use mathlib.Core.List.{List}
+use lib.Dec.{ltb}
+use lib.ListN.{length}
 use Rattle.laws.specs.Packed.{byte-count}
 use Rattle.model.specs.Rules.{Rule}
 use Rattle.table.specs.declared.Table.{Table}
 use Rattle.table.specs.Link.{rules-of, value-counts}
 use Rattle.soundness.specs.Sound.{sound}
-use Rattle.cards.specs.Answers.{OrRefused, taken, refused}
+use Rattle.cards.specs.Answers.{OrRefused, taken, refused, written}
+use Rattle.cards.specs.Cards.{if-sound}
 use Rattle.cards.specs.Forms.{card-bits, read-card, read-slip}
 use Rattle.tally.specs.declared.Tally.{Tally}
 use Rattle.tally.specs.Counting.{is-full, one-answered, one-refused}
@@ -52,7 +52,7 @@ answer-by-rules counts rs card slip rooms =
 
 -- 31 before them.
 unfoldable pub answer-by-table : Table → List ℕ → List ℕ → Rooms → OrRefused Answer
-answer-by-table t card slip rooms = cond (sound t) (answer-by-rules (value-counts t) (rules-of t) card slip rooms) (refused 31 0)
+answer-by-table t card slip rooms = if-sound t (answer-by-rules (value-counts t) (rules-of t) card slip rooms)
 
 -- 32 before all.
 unfoldable pub answer-to : Table → Tally → List ℕ → List ℕ → Rooms → OrRefused Answer
@@ -87,10 +87,6 @@ outputs a b c = record { card = a; changes = b; fired = c }
 
 abbrev pub rooms-of : List ℕ → List ℕ → List ℕ → Rooms
 rooms-of a b c = record { for-card = length a; for-changes = length b; for-fired = length c }
-
--- An output once bytes are written to its front: what stands beyond them stays.
-abbrev pub written : List ℕ → List ℕ → List ℕ
-written ys out = ys ++ drop (length ys) out
 
 -- The outputs after a response: an answer is written, a refusal leaves all.
 unfoldable pub outputs-after : OrRefused Answer → Outputs → Outputs

@@ -10,6 +10,7 @@ ghost use Rattle.steps.specs.Places.{tokens-past};
 ghost use Rattle.steps.specs.Spans.{span-letters, Span-lies, Listed, read-place, number-part, Number-lies, Slot-lies};
 use crate::step::Named;
 use crate::step::name_next;
+use table::SLOTS;
 
 // A slot's or a value's number and the position after its name; or a refusal.
 pub enum Number {
@@ -70,11 +71,11 @@ pub fn place_next(text: &[u8], rest: &[u8], spans: &[usize], at: usize) -> Numbe
 }
 
 // A declared slot's name must stand at a position.
-pub fn slot_next(text: &[u8], rest: &[u8], heads: &[usize; 32], at: usize) -> Number
-    ensures { λ r. ⌜ ((base : ℕ) (slots : List Slot) → Listed (now (text .entry)) (now (heads .entry)) (spellings (slot-names slots))
+pub fn slot_next(text: &[u8], rest: &[u8], slotspans: &[usize; SLOTS], at: usize) -> Number
+    ensures { λ r. ⌜ ((base : ℕ) (slots : List Slot) → Listed (now (text .entry)) (now (slotspans .entry)) (spellings (slot-names slots))
         → read-slot slots (tokens-past (now (rest .entry)) base at) ≡ number-part (now (rest .entry)) base r) × Slot-lies (length (now (rest .entry))) at r ⌝ }
 {
-    let found = place_next(text, rest, heads, at);
+    let found = place_next(text, rest, slotspans, at);
     match found {
         Number::Is(place, next) => Number::Is(place - 1, next),
         Number::Fault(k) => Number::Fault(k),
@@ -82,12 +83,12 @@ pub fn slot_next(text: &[u8], rest: &[u8], heads: &[usize; 32], at: usize) -> Nu
 }
 
 // The name of a value of a slot must stand at a position.
-pub fn value_next(text: &[u8], rest: &[u8], bodies: &[usize], slot: usize, at: usize) -> Number
-    requires { ⌜ (slot ≤ 31) × (length (now bodies) ≡ 512) ⌝ }
-    ensures { λ r. ⌜ ((base : ℕ) (slots : List Slot) → Listed (now (text .entry)) (take 15 (drop (slot * 16 + 1) (now (bodies .entry)))) (spellings (values-of slots slot))
+pub fn value_next(text: &[u8], rest: &[u8], valuespans: &[usize], slot: usize, at: usize) -> Number
+    requires { ⌜ (slot ≤ 31) × (length (now valuespans) ≡ 512) ⌝ }
+    ensures { λ r. ⌜ ((base : ℕ) (slots : List Slot) → Listed (now (text .entry)) (take 15 (drop (slot * 16 + 1) (now (valuespans .entry)))) (spellings (values-of slots slot))
         → read-value slots slot (tokens-past (now (rest .entry)) base at) ≡ number-part (now (rest .entry)) base r) × Number-lies 15 (length (now (rest .entry))) at r ⌝ }
 {
     let first = slot * 16 + 1;
     let last = first + 15;
-    place_next(text, rest, &bodies[first..last], at)
+    place_next(text, rest, &valuespans[first..last], at)
 }

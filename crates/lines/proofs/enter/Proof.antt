@@ -13,16 +13,16 @@ use Rattle.lines.proofs.enter.Statement.{statement}
 use Rattle.lines.proofs.enter.Tie as tie
 
 abbrev Inv-loop : tie.InvT-loop
-Inv-loop heads bodies₀ number span spans first i₀ bodies i = (i ≤ value-limit) × (sets bodies (first + i) (drop i spans) ≡ sets bodies₀ first spans)
+Inv-loop slotspans valuespans₀ number span spans first i₀ valuespans i = (i ≤ value-limit) × (sets valuespans (first + i) (drop i spans) ≡ sets valuespans₀ first spans)
 
 abbrev μ-loop : tie.MeasureT-loop
-μ-loop heads bodies₀ number span spans first i₀ bodies i = value-limit - i
+μ-loop slotspans valuespans₀ number span spans first i₀ valuespans i = value-limit - i
 
-mul-heads : tie.Need-mul-heads Inv-loop μ-loop
-mul-heads c = search needs
+mul-slotspans : tie.Need-mul-slotspans Inv-loop μ-loop
+mul-slotspans c = search needs
 
-element-write-heads : tie.Need-element-write-heads Inv-loop μ-loop
-element-write-heads c = search needs
+element-write-slotspans : tie.Need-element-write-slotspans Inv-loop μ-loop
+element-write-slotspans c = search needs
 
 mul-first : tie.Need-mul-first Inv-loop μ-loop
 mul-first c = search needs
@@ -33,20 +33,20 @@ add-first c = search needs
 loop-holds : tie.Need-loop-holds Inv-loop μ-loop
 loop-holds c = (omega arith, rw add-zero)
 
-mul-bodies : tie.Need-mul-bodies Inv-loop μ-loop
-mul-bodies c = search needs
+mul-valuespans : tie.Need-mul-valuespans Inv-loop μ-loop
+mul-valuespans c = search needs
 
-array-read-bodies : tie.Need-array-read-bodies Inv-loop μ-loop
-array-read-bodies c = search needs
+array-read-valuespans : tie.Need-array-read-valuespans Inv-loop μ-loop
+array-read-valuespans c = search needs
 
-add-bodies : tie.Need-add-bodies Inv-loop μ-loop
-add-bodies c = search needs
+add-valuespans : tie.Need-add-valuespans Inv-loop μ-loop
+add-valuespans c = search needs
 
-mul-bodies-2 : tie.Need-mul-bodies-2 Inv-loop μ-loop
-mul-bodies-2 c = search needs
+mul-valuespans-2 : tie.Need-mul-valuespans-2 Inv-loop μ-loop
+mul-valuespans-2 c = search needs
 
-element-write-bodies : tie.Need-element-write-bodies Inv-loop μ-loop
-element-write-bodies c = search needs
+element-write-valuespans : tie.Need-element-write-valuespans Inv-loop μ-loop
+element-write-valuespans c = search needs
 
 add-i : tie.Need-add-i Inv-loop μ-loop
 add-i c = search needs
@@ -78,16 +78,16 @@ enter-spec =
     (tie.spec
     Inv-loop
     μ-loop
-    mul-heads
-    element-write-heads
+    mul-slotspans
+    element-write-slotspans
     mul-first
     add-first
     loop-holds
-    mul-bodies
-    array-read-bodies
-    add-bodies
-    mul-bodies-2
-    element-write-bodies
+    mul-valuespans
+    array-read-valuespans
+    add-valuespans
+    mul-valuespans-2
+    element-write-valuespans
     add-i
     loop-less
     loop-again

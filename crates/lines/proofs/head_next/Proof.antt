@@ -26,7 +26,7 @@ word-lies : (c : tie.After-word) → Step-lies (length (c .before .before .befor
 word-lies c = subst (Step-lies _ _) (c .word .given .1) (c .before .before .word-next .ensures .1)
 
 -- Then the name.
-name-read : (c : tie.After-declared) (slots : List Slot) → Listed (c .before .before .before .before .before .before .before .before .before .before .args .text .now) (c .before .before .before .before .before .before .before .before .before .before .args .heads .now) (spellings (slot-names slots))
+name-read : (c : tie.After-declared) (slots : List Slot) → Listed (c .before .before .before .before .before .before .before .before .before .before .args .text .now) (c .before .before .before .before .before .before .before .before .before .before .args .slotspans .now) (spellings (slot-names slots))
     → new-name (slot-names slots) (tokens-past (c .before .before .before .before .before .before .before .before .before .before .args .rest .now) (c .before .before .before .before .before .before .before .before .before .before .args .base) (c .before .before .before .before .before .word .given .0 .0))
     ≡ declared-part (c .before .before .before .before .before .before .before .before .before .before .args .text .now) (c .before .before .before .before .before .before .before .before .before .before .args .rest .now) (c .before .before .before .before .before .before .before .before .before .before .args .base) (declared.At (c .declared .given .0 .0) (c .declared .given .0 .1 .0))
 name-read c slots l = c .before .before .new-next .ensures .0 (slot-names slots) l ∙ ap (declared-part _ _ _) (c .declared .given .1)

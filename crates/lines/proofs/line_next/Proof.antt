@@ -20,7 +20,7 @@ use Rattle.lines.proofs.line_next.Statement.{statement}
 use Rattle.lines.proofs.line_next.Tie as tie
 
 -- The slot's name was read, and lies in the text.
-head-read : (c : tie.After-head) (slots : List Slot) → Listed (c .before .before .before .before .before .args .text .now) (c .before .before .before .before .before .args .heads .now) (spellings (slot-names slots))
+head-read : (c : tie.After-head) (slots : List Slot) → Listed (c .before .before .before .before .before .args .text .now) (c .before .before .before .before .before .args .slotspans .now) (spellings (slot-names slots))
     → read-head slots (tokens-past (c .before .before .before .before .before .args .rest .now) (c .before .before .before .before .before .args .base) (c .before .before .before .before .before .args .start))
     ≡ declared-part (c .before .before .before .before .before .args .text .now) (c .before .before .before .before .before .args .rest .now) (c .before .before .before .before .before .args .base) (declared.At (c .head .given .0 .0) (c .head .given .0 .1 .0))
 head-read c slots l = c .before .before .head-next .ensures .0 slots l ∙ ap (declared-part _ _ _) (c .head .given .1)

@@ -16,13 +16,13 @@ use Rattle.reader.proofs.read_statements.Statement.{statement}
 use Rattle.reader.proofs.read_statements.Tie as tie
 
 abbrev Inv-loop : tie.InvT-loop
-Inv-loop text t₀ heads₀ bodies₀ rest₀ base₀ t heads bodies rest base = Halfway text t heads bodies rest base
+Inv-loop text t₀ slotspans₀ valuespans₀ rest₀ base₀ t slotspans valuespans rest base = Halfway text t slotspans valuespans rest base
 
 abbrev μ-loop : tie.MeasureT-loop
-μ-loop text t₀ heads₀ bodies₀ rest₀ base₀ t heads bodies rest base = length rest
+μ-loop text t₀ slotspans₀ valuespans₀ rest₀ base₀ t slotspans valuespans rest base = length rest
 
 -- Before a statement, and what the reading comes to by it.
-halfway : (c : tie.After-statement-next Inv-loop μ-loop) → Halfway (c .before .before .before .before .before .before .args .text .now) (c .before .before .before .loop .t) (c .before .before .before .loop .heads) (c .before .before .before .loop .bodies) (c .before .before .before .loop .rest .now) (c .before .before .before .loop .base)
+halfway : (c : tie.After-statement-next Inv-loop μ-loop) → Halfway (c .before .before .before .before .before .before .args .text .now) (c .before .before .before .loop .t) (c .before .before .before .loop .slotspans) (c .before .before .before .loop .valuespans) (c .before .before .before .loop .rest .now) (c .before .before .before .loop .base)
 halfway c = c .before .before .before .loop .inv
 
 answer : (c : tie.After-statement-next Inv-loop μ-loop) {x : Kind} → c .statement-next .result .kind ≡ x

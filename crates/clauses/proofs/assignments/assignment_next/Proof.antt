@@ -31,13 +31,13 @@ returns c =
     let a = c .before .before in
     let k = a .before .before in
     let l = target-lies a in
-    (λ base slots h. let e = k .target-next .ensures .0 base slots (h .heads-listed) ∙ ap (number-part _ base) (a .target .given .1) in assignments.assignment-on slots _ _ _ _ e ∙ c .assignment-value .ensures .0 base slots (h .bodies-listed _ (assignments.target-inside slots _ _ _ _ e)), assignments.lies-earlier _ _ _ (c .assignment-value .result) (omega (arith, l .1)) (c .assignment-value .ensures .1))
+    (λ base slots h. let e = k .target-next .ensures .0 base slots (h .slotspans-listed) ∙ ap (number-part _ base) (a .target .given .1) in assignments.assignment-on slots _ _ _ _ e ∙ c .assignment-value .ensures .0 base slots (h .valuespans-listed _ (assignments.target-inside slots _ _ _ _ e)), assignments.lies-earlier _ _ _ (c .assignment-value .result) (omega (arith, l .1)) (c .assignment-value .ensures .1))
 
 returns-2 : tie.Need-returns-2
 returns-2 c =
     let a = c .before in
     let k = a .before .before in
-    (λ base slots h. assignments.assignment-stop slots _ _ _ (k .target-next .ensures .0 base slots (h .heads-listed) ∙ ap (number-part _ base) (a .target2 .given .1)), tt)
+    (λ base slots h. assignments.assignment-stop slots _ _ _ (k .target-next .ensures .0 base slots (h .slotspans-listed) ∙ ap (number-part _ base) (a .target2 .given .1)), tt)
 
 pub assignment-next-spec : {M : Type 1} → statement M
 assignment-next-spec =

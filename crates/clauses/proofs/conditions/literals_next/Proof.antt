@@ -23,11 +23,11 @@ use Rattle.clauses.proofs.conditions.literals_next.Statement.{statement
 use Rattle.clauses.proofs.conditions.literals_next.Tie as tie
 
 abbrev Inv-loop : tie.InvT-loop
-Inv-loop text rest heads bodies start list₀ at₀ list at = (start ≤ at) × Filled 8 no-literal (list .places) (list .count) × ((base : ℕ) (slots : List Slot) → Looked text slots heads bodies
+Inv-loop text rest slotspans valuespans start list₀ at₀ list at = (start ≤ at) × Filled 8 no-literal (list .places) (list .count) × ((base : ℕ) (slots : List Slot) → Looked text slots slotspans valuespans
     → read-literals slots max-literals [] (tokens-past rest base start) ≡ read-literals slots (8 - list .count) (literals-in list) (tokens-past rest base at))
 
 abbrev μ-loop : tie.MeasureT-loop
-μ-loop text rest heads bodies start list₀ at₀ list at = 8 - list .count
+μ-loop text rest slotspans valuespans start list₀ at₀ list at = 8 - list .count
 
 -- The literal that was read, where it lies, and that there was room for it.
 room-left : (r : tie.After-read Inv-loop μ-loop) → r .before .before .before .before .loop .list .count < 8
@@ -36,7 +36,7 @@ room-left r = r .before .before .before .if1 .left
 literal-lies : (r : tie.After-read Inv-loop μ-loop) → Literal-lies (length (r .before .before .before .before .before .before .before .before .before .args .rest .now)) (r .before .before .before .before .loop .at) (read.Took (r .read .given .0 .0) (r .read .given .0 .1 .0))
 literal-lies r = subst (Literal-lies _ _) (r .read .given .1) (r .before .before .literal-next .ensures .1)
 
-literal-read : (r : tie.After-read Inv-loop μ-loop) (base : ℕ) (slots : List Slot) → Looked (r .before .before .before .before .before .before .before .before .before .args .text .now) slots (r .before .before .before .before .before .before .before .before .before .args .heads .now) (r .before .before .before .before .before .before .before .before .before .args .bodies .now)
+literal-read : (r : tie.After-read Inv-loop μ-loop) (base : ℕ) (slots : List Slot) → Looked (r .before .before .before .before .before .before .before .before .before .args .text .now) slots (r .before .before .before .before .before .before .before .before .before .args .slotspans .now) (r .before .before .before .before .before .before .before .before .before .args .valuespans .now)
     → read-literal (tokens-past (r .before .before .before .before .before .before .before .before .before .args .rest .now) base (r .before .before .before .before .loop .at)) slots false ≡ literal-part (r .before .before .before .before .before .before .before .before .before .args .rest .now) base (read.Took (r .read .given .0 .0) (r .read .given .0 .1 .0))
 literal-read r base slots L = r .before .before .literal-next .ensures .0 base slots L ∙ ap (literal-part _ base) (r .read .given .1)
 

@@ -20,9 +20,9 @@ use Rattle.clauses.proofs.literals.plain_literal.Tie as tie
 slot-lies : (c : tie.After-found) → Slot-lies (length (c .before .before .before .before .before .before .args .rest .now)) (c .before .before .before .before .before .before .args .at) (number.Is (c .found .given .0 .0) (c .found .given .0 .1 .0))
 slot-lies c = subst (Slot-lies _ _) (c .found .given .1) (c .before .before .slot-next .ensures .1)
 
-slot-read : (c : tie.After-found) (base : ℕ) (slots : List Slot) → Looked (c .before .before .before .before .before .before .args .text .now) slots (c .before .before .before .before .before .before .args .heads .now) (c .before .before .before .before .before .before .args .bodies .now)
+slot-read : (c : tie.After-found) (base : ℕ) (slots : List Slot) → Looked (c .before .before .before .before .before .before .args .text .now) slots (c .before .before .before .before .before .before .args .slotspans .now) (c .before .before .before .before .before .before .args .valuespans .now)
     → read-slot slots (tokens-past (c .before .before .before .before .before .before .args .rest .now) base (c .before .before .before .before .before .before .args .at)) ≡ took (c .found .given .0 .0) (tokens-past (c .before .before .before .before .before .before .args .rest .now) base (c .found .given .0 .1 .0))
-slot-read c base slots L = c .before .before .slot-next .ensures .0 base slots (L .heads-listed) ∙ ap (number-part _ base) (c .found .given .1)
+slot-read c base slots L = c .before .before .slot-next .ensures .0 base slots (L .slotspans-listed) ∙ ap (number-part _ base) (c .found .given .1)
 
 slot-next-requires : tie.Need-slot-next-requires
 slot-next-requires c κs = search needs
@@ -58,7 +58,7 @@ returns c =
     let a = f .before .before in
     let l = slot-lies a in
     let d = subst (Fork-lies _ _) (k .kind .given .1) (f .fork-next .ensures .1) in (
-      λ base slots L. literals.plain-becomes slots _ _ _ _ _ (slot-read a base slots L) (f .fork-next .ensures .0 base ∙ ap (choice _ base) (k .kind .given .1)) ∙ c .literal-value .ensures .0 base slots (L .bodies-listed _ (literals.slot-inside slots _ _ _ (slot-read a base slots L))),
+      λ base slots L. literals.plain-becomes slots _ _ _ _ _ (slot-read a base slots L) (f .fork-next .ensures .0 base ∙ ap (choice _ base) (k .kind .given .1)) ∙ c .literal-value .ensures .0 base slots (L .valuespans-listed _ (literals.slot-inside slots _ _ _ (slot-read a base slots L))),
       literals.lies-earlier _ _ _ (c .literal-value .result) (omega (arith, l .1, d .0)) (c .literal-value .ensures .1),
     )
 
@@ -69,7 +69,7 @@ returns-2 c =
     let a = f .before .before in
     let l = slot-lies a in
     let d = subst (Fork-lies _ _) (k .kind2 .given .1) (f .fork-next .ensures .1) in (
-      λ base slots L. literals.plain-has slots _ _ _ _ _ (slot-read a base slots L) (f .fork-next .ensures .0 base ∙ ap (choice _ base) (k .kind2 .given .1)) ∙ c .literal-value2 .ensures .0 base slots (L .bodies-listed _ (literals.slot-inside slots _ _ _ (slot-read a base slots L))),
+      λ base slots L. literals.plain-has slots _ _ _ _ _ (slot-read a base slots L) (f .fork-next .ensures .0 base ∙ ap (choice _ base) (k .kind2 .given .1)) ∙ c .literal-value2 .ensures .0 base slots (L .valuespans-listed _ (literals.slot-inside slots _ _ _ (slot-read a base slots L))),
       literals.lies-earlier _ _ _ (c .literal-value2 .result) (omega (arith, l .1, d .0)) (c .literal-value2 .ensures .1),
     )
 
@@ -84,7 +84,7 @@ returns-4 : tie.Need-returns-4
 returns-4 c =
     let a = c .before in
     let k = a .before .before in
-    (λ base slots L. literals.plain-stop slots _ _ _ (k .slot-next .ensures .0 base slots (L .heads-listed) ∙ ap (number-part _ base) (a .found2 .given .1)), tt)
+    (λ base slots L. literals.plain-stop slots _ _ _ (k .slot-next .ensures .0 base slots (L .slotspans-listed) ∙ ap (number-part _ base) (a .found2 .given .1)), tt)
 
 pub plain-literal-spec : {M : Type 1} → statement M
 plain-literal-spec =

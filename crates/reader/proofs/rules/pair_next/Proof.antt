@@ -21,9 +21,9 @@ use Rattle.reader.proofs.rules.pair_next.Tie as tie
 slot-lies : (c : tie.After-found) → Slot-lies (length (c .before .before .before .before .before .before .args .rest .now)) (c .before .before .before .before .before .before .args .at) (number.Is (c .found .given .0 .0) (c .found .given .0 .1 .0))
 slot-lies c = subst (Slot-lies _ _) (c .found .given .1) (c .before .before .slot-next .ensures .1)
 
-slot-read : (c : tie.After-found) (base : ℕ) (slots : List Slot) → Looked (c .before .before .before .before .before .before .args .text .now) slots (c .before .before .before .before .before .before .args .heads .now) (c .before .before .before .before .before .before .args .bodies .now)
+slot-read : (c : tie.After-found) (base : ℕ) (slots : List Slot) → Looked (c .before .before .before .before .before .before .args .text .now) slots (c .before .before .before .before .before .before .args .slotspans .now) (c .before .before .before .before .before .before .args .valuespans .now)
     → read-slot slots (tokens-past (c .before .before .before .before .before .before .args .rest .now) base (c .before .before .before .before .before .before .args .at)) ≡ took (c .found .given .0 .0) (tokens-past (c .before .before .before .before .before .before .args .rest .now) base (c .found .given .0 .1 .0))
-slot-read c base slots L = c .before .before .slot-next .ensures .0 base slots (L .heads-listed) ∙ ap (number-part _ base) (c .found .given .1)
+slot-read c base slots L = c .before .before .slot-next .ensures .0 base slots (L .slotspans-listed) ∙ ap (number-part _ base) (c .found .given .1)
 
 slot-next-requires : tie.Need-slot-next-requires
 slot-next-requires c κs = search needs
@@ -63,7 +63,7 @@ returns c =
     let d = subst (Step-lies _ _) (m .mark .given .1) (w .word-next .ensures .1) in
     let e = subst (Number-lies _ _ _) (r .read .given .1) (n .value-next .ensures .1) in (
       λ base slots L. rules.pair-took slots _ _ _ _ _ _ (slot-read a base slots L) (w .word-next .ensures .0 base ∙ ap (step-part _ base) (m .mark .given .1))
-          (n .value-next .ensures .0 base slots (L .bodies-listed _ (slot-inside slots _ _ _ (slot-read a base slots L))) ∙ ap (number-part _ base) (r .read .given .1)),
+          (n .value-next .ensures .0 base slots (L .valuespans-listed _ (slot-inside slots _ _ _ (slot-read a base slots L))) ∙ ap (number-part _ base) (r .read .given .1)),
       (l .0, e .1, omega (arith, l .1, d .0, e .2), e .3),
     )
 
@@ -75,7 +75,7 @@ returns-2 c =
     let w = m .before .before in
     let a = w .before .before in (
       λ base slots L. rules.pair-no-value slots _ _ _ _ _ (slot-read a base slots L) (w .word-next .ensures .0 base ∙ ap (step-part _ base) (m .mark .given .1))
-          (n .value-next .ensures .0 base slots (L .bodies-listed _ (slot-inside slots _ _ _ (slot-read a base slots L))) ∙ ap (number-part _ base) (r .read2 .given .1)),
+          (n .value-next .ensures .0 base slots (L .valuespans-listed _ (slot-inside slots _ _ _ (slot-read a base slots L))) ∙ ap (number-part _ base) (r .read2 .given .1)),
       tt,
     )
 
@@ -90,7 +90,7 @@ returns-4 : tie.Need-returns-4
 returns-4 c =
     let a = c .before in
     let k = a .before .before in
-    (λ base slots L. rules.pair-no-slot slots _ _ (k .slot-next .ensures .0 base slots (L .heads-listed) ∙ ap (number-part _ base) (a .found2 .given .1)), tt)
+    (λ base slots L. rules.pair-no-slot slots _ _ (k .slot-next .ensures .0 base slots (L .slotspans-listed) ∙ ap (number-part _ base) (a .found2 .given .1)), tt)
 
 pub pair-next-spec : {M : Type 1} → statement M
 pair-next-spec =

@@ -23,7 +23,7 @@ returns : tie.Need-returns
 unfolding max-slots
 returns c =
     let h = c .before .before .if1 .taken in
-    (λ slots bodies I e n. statements.on-line-full slots _ (omega arith) n, tt)
+    (λ slots valuespans I e n. statements.on-line-full slots _ (omega arith) n, tt)
 
 line-next-requires : tie.Need-line-next-requires
 line-next-requires c κs = c .before .before .before .pre
@@ -51,7 +51,7 @@ returns-2 c =
     let rest = k .before .before .before .before .args .rest .now in
     let l = subst (Step-lies _ _) (a .outcome .given .1) (k .line-next .ensures .1) in
     let d = subst (Line-lies text (r .name) (r .spans) (r .count)) (a .outcome .given .1) (k .line-next .ensures .2) in (
-      λ slots bodies I e n. statements.on-line slots _ _ _ (omega arith) n (k .line-next .ensures .0 slots (indexed-slots I) ∙ ap (outcome-part rest (k .before .before .before .before .args .base) (span-slot text (r .name) (r .spans) (r .count))) (a .outcome .given .1)),
+      λ slots valuespans I e n. statements.on-line slots _ _ _ (omega arith) n (k .line-next .ensures .0 slots (indexed-slots I) ∙ ap (outcome-part rest (k .before .before .before .before .args .base) (span-slot text (r .name) (r .spans) (r .count))) (a .outcome .given .1)),
       (l .0, l .1, h, refl, d .0, d .1, d .2),
     )
 
@@ -64,7 +64,7 @@ returns-3 c =
     let r = k .line-next .result in
     let text = k .before .before .before .before .args .text .now in
     let rest = k .before .before .before .before .args .rest .now in
-    (λ slots bodies I e n. statements.on-line-stop slots _ _ (omega arith) n (k .line-next .ensures .0 slots (indexed-slots I) ∙ ap (outcome-part rest (k .before .before .before .before .args .base) (span-slot text (r .name) (r .spans) (r .count))) (a .outcome2 .given .1)), tt)
+    (λ slots valuespans I e n. statements.on-line-stop slots _ _ (omega arith) n (k .line-next .ensures .0 slots (indexed-slots I) ∙ ap (outcome-part rest (k .before .before .before .before .args .base) (span-slot text (r .name) (r .spans) (r .count))) (a .outcome2 .given .1)), tt)
 
 pub slot-statement-spec : {M : Type 1} → statement M
 slot-statement-spec =

@@ -51,7 +51,7 @@ returns-2 c =
     let s = w .before .before .before .before .before .before .before .args in (
       λ slots rules I e f. let r = statements.no-rules rules (sym f ∙ z) in
           subst (λ (rs : List model.Rule). read-on slots rs (tokens-past (s .rest .now) (s .base) 0) ≡ statement-answer (s .text .now) (s .rest .now) (s .base) slots rs (c .slot-statement .result)) (sym r)
-          (c .slot-statement .ensures .0 slots (s .bodies .now) I e (places.expects-took SLOT _ _ tt (w .word-next .ensures .0 (s .base) ∙ ap (step-part _ (s .base)) (a .enum-told2 .given .1)) .0)),
+          (c .slot-statement .ensures .0 slots (s .valuespans .now) I e (places.expects-took SLOT _ _ tt (w .word-next .ensures .0 (s .base) ∙ ap (step-part _ (s .base)) (a .enum-told2 .given .1)) .0)),
       subst (λ (k : ℕ). Statement-lies (s .text .now) (length (s .rest .now)) (s .width) k (c .slot-statement .result)) (sym z) (c .slot-statement .ensures .1),
     )
 

@@ -16,7 +16,7 @@ use Rattle.steps.proofs.names.slot_next.Tie as tie
 found-lies : (c : tie.After-found) → Number-lies 32 (length (c .before .before .before .before .before .before .args .rest .now)) (c .before .before .before .before .before .before .args .at) (number.Is (c .found .given .0 .0) (c .found .given .0 .1 .0))
 found-lies c =
     let k = c .before .before in
-    let h : length (k .before .before .before .before .args .heads .now) ≡ 32 = search needs in
+    let h : length (k .before .before .before .before .args .slotspans .now) ≡ 32 = search needs in
     subst (Number-lies 32 _ _) (c .found .given .1) (rw h at (k .place-next .ensures .1))
 
 place-next-requires : tie.Need-place-next-requires

@@ -46,8 +46,8 @@ place-next-requires c κs = search needs
 returns : tie.Need-returns
 returns c =
     let a = c .before .before .before .before .before .args in
-    let p = part-is (a .bodies .now) (a .slot) in
-    (λ base slots l. spans.value-place slots (a .slot) _ ∙ c .place-next .ensures .0 base (values-of slots (a .slot)) (rw p l), spans.lies-up _ 15 (length (a .rest .now)) (a .at) (c .place-next .result) (part-length (a .bodies .now) (a .slot)) (c .place-next .ensures .1))
+    let p = part-is (a .valuespans .now) (a .slot) in
+    (λ base slots l. spans.value-place slots (a .slot) _ ∙ c .place-next .ensures .0 base (values-of slots (a .slot)) (rw p l), spans.lies-up _ 15 (length (a .rest .now)) (a .at) (c .place-next .result) (part-length (a .valuespans .now) (a .slot)) (c .place-next .ensures .1))
 
 pub value-next-spec : {M : Type 1} → statement M
 value-next-spec =
