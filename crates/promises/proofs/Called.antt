@@ -1,6 +1,6 @@
 -- Demand 3 as a caller sees it.
 -- Assumes nothing.
-use Prim.Native.Nat.{ℕ, _≤_}
+use Prim.Native.Nat.{ℕ}
 use native.Mathlib.Omega.{arith}
 use mathlib.Core.Path.{_≡_, refl, ap}
 use mathlib.Core.List.{List}
@@ -15,14 +15,15 @@ use Rattle.response.specs.Ending.{Answer}
 use Rattle.response.specs.Respond.{Outputs, rooms-of, refusal-number, second-number, outcome-of, answer-to, response-to, outputs-after}
 use Rattle.promises.specs.Agreement.{Agreed, LowestConflict, Demand3}
 use Rattle.promises.specs.Called.{IsAccepted, CalledAnswer, Called}
-use Rattle.promises.proofs.Refusals.{Only, respond-numbered}
+use Rattle.promises.specs.Refusals.{Only, of-response, OneOf}
+use Rattle.promises.proofs.Refusals.{Other, only-more, one-of-other, response-refused}
 use Rattle.promises.proofs.Demand3.{demand-3-accepted}
 
 -- An outcome of number 0 is an answer, one of another number a refusal.
-number-0 : (u : OrRefused Answer) → Only (λ k. 1 ≤ k) u → refusal-number (outcome-of u) ≡ 0 → (a : Answer) × (u ≡ taken a)
+number-0 : (u : OrRefused Answer) → Only (Other 0) u → refusal-number (outcome-of u) ≡ 0 → (a : Answer) × (u ≡ taken a)
 unfolding outcome-of
 number-0 (taken a) h e = (a, refl)
-number-0 (refused k s) h e = absurd (omega (arith, h, e))
+number-0 (refused k s) h e = absurd (h e)
 
 number-40 : (u : OrRefused Answer) → refusal-number (outcome-of u) ≡ 40 → u ≡ refused 40 (second-number (outcome-of u))
 unfolding outcome-of
@@ -50,7 +51,7 @@ called text accepted = (f, d .1, d .2, record { where-answered = answers; where-
 
     answers : (y : Tally) (card slip : List ℕ) (o : Outputs) → refusal-number (outcome-of (response y card slip o)) ≡ 0 → CalledAnswer text f y card slip o
     answers y card slip o e =
-        let w = number-0 (response y card slip o) (respond-numbered (reading text .table) y card slip (rooms-of (o .card) (o .changes) (o .fired))) e in
+        let w = number-0 (response y card slip o) (only-more (OneOf of-response) (Other 0) (one-of-other of-response 0 tt) (response y card slip o) (response-refused (reading text .table) y card slip (rooms-of (o .card) (o .changes) (o .fired)))) e in
         record { answer = w .0; told = told w; holds = held w; agreed = d .2 .where-answered y card slip _ (w .0) (w .1) }
       where
         told : (w : (a : Answer) × (response y card slip o ≡ taken a)) → outcome-of (response y card slip o) ≡ outcome-of (taken (w .0))

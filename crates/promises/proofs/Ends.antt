@@ -33,7 +33,8 @@ use Rattle.response.specs.Ending.{Answer, answer-of, unless-conflict, answer-by
 use Rattle.response.specs.Respond.{_then_, Rooms, changes-room, if-room, answer-by-rules, answer-by-table, answer-to}
 use Rattle.tally.specs.Counting.{is-full}
 use Rattle.promises.specs.Agreement.{responds}
-use Rattle.promises.proofs.Refusals.{Only, Early, Other, only-more, card-early, slip-early}
+use Rattle.promises.specs.Refusals.{Only, OneOf, of-card, of-slip}
+use Rattle.promises.proofs.Refusals.{Other, only-more, one-of-other, card-refused, slip-refused}
 
 -- An accepted text responds by its file's slots and rules.
 pub file-response : (text : List ℕ) (f : File) → Is-file text f → reading text .outcome ≡ Accepted → (y : Tally) (card slip : List ℕ) (rooms : Rooms)
@@ -81,16 +82,13 @@ pub record Ended (f : File) (card slip : List ℕ) (w : OrRefused Answer) : Type
   pub slip-is : read-slip (slot-counts (f .slots)) slip ≡ taken I
   pub ends : answer-by-firing (f .rules) (length (slot-counts (f .slots))) S I ≡ w
 
-not-40 : (k : ℕ) → Early k → Other 40 k
-not-40 k l e = omega arith
-
 pub response-ends : (text : List ℕ) (f : File) → Is-file text f → reading text .outcome ≡ Accepted → (y : Tally) (card slip : List ℕ) (rooms : Rooms) (w : OrRefused Answer)
     → Final w → responds text y card slip rooms ≡ w → Ended f card slip w
 unfolding answer-by-rules
 response-ends text f h o y card slip rooms w l e =
     let u = cond-back (is-full y) 32 0 (answer-by-rules (slot-counts (f .slots)) (f .rules) card slip rooms) w l (λ q. omega arith) (sym (file-response text f h o y card slip rooms) ∙ e) in
-    let a = then-back (read-card (slot-counts (f .slots)) card) _ w l (only-more Early (Other 40) not-40 (read-card (slot-counts (f .slots)) card) (card-early (slot-counts (f .slots)) card)) u in
-    let b = then-back (read-slip (slot-counts (f .slots)) slip) _ w l (only-more Early (Other 40) not-40 (read-slip (slot-counts (f .slots)) slip) (slip-early (slot-counts (f .slots)) slip)) (a .2) in
+    let a = then-back (read-card (slot-counts (f .slots)) card) _ w l (only-more (OneOf of-card) (Other 40) (one-of-other of-card 40 tt) (read-card (slot-counts (f .slots)) card) (card-refused (slot-counts (f .slots)) card)) u in
+    let b = then-back (read-slip (slot-counts (f .slots)) slip) _ w l (only-more (OneOf of-slip) (Other 40) (one-of-other of-slip 40 tt) (read-slip (slot-counts (f .slots)) slip) (slip-refused (slot-counts (f .slots)) slip)) (a .2) in
     record {
       S = a .0;
       I = b .0;

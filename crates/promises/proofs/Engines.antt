@@ -27,7 +27,8 @@ use Rattle.tally.specs.Counting.{is-full}
 use Rattle.promises.specs.Day.{Call, fresh, tally-over, answers-over, answer-after}
 use Rattle.promises.specs.Listing.{program-rooms}
 use Rattle.promises.proofs.Cases.{lists, text-C, all-0, x-to-1, case-C-bytes}
-use Rattle.promises.proofs.Refusals.{Only, Other, only-e, only-cond, by-rules-other, by-table-other}
+use Rattle.promises.specs.Refusals.{OneOf, Only, of-rules}
+use Rattle.promises.proofs.Refusals.{Other, only-e, only-more, only-cond, one-of-other, rules-refused, by-table-other}
 
 -- The call of case C.
 unfoldable pub call-C : Call
@@ -94,5 +95,5 @@ reading-no-31 text y card slip rooms s e = only-e (Other 31) (answer-to (reading
     made : (b : Bool) → T b → Only (Other 31) (cond (is-full y) (refused 32 0) (cond b answer (refused 31 0)))
     made true h =
         only-cond (Other 31) (is-full y) (refused 32 0) answer (λ q. omega arith)
-        (by-rules-other 31 (omega arith) (omega arith) (value-counts (reading text .table)) (rules-of (reading text .table)) card slip rooms)
+        (only-more (OneOf of-rules) (Other 31) (one-of-other of-rules 31 tt) answer (rules-refused (value-counts (reading text .table)) (rules-of (reading text .table)) card slip rooms))
     made false h = absurd h

@@ -8,5 +8,6 @@ pub mod Bounds
 pub mod Orders
 pub mod Rearranged
 pub mod Demand3
+pub mod Demand1
 pub mod Called
 pub mod Demand2

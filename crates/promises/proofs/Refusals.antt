@@ -1,14 +1,14 @@
--- Which refusals a response can give, and where: 20 to 28 and 30 before the rules fire, 40 after, 31 for the table, 32 for the tally.
+-- Which refusals each definition can give.
 -- Assumes nothing.
-use Prim.Native.Nat.{ℕ, zero, suc, _≤_, _<_}
+use Prim.Native.Nat.{ℕ, zero, suc}
 use native.Mathlib.Omega.{arith}
 use mathlib.Core.Path.{_≡_, refl, subst}
 use mathlib.Core.Bool.{Bool, true, false, cond}
 use mathlib.Core.List.{List, [], _∷_}
-use mathlib.Core.Logic.{_⊎_, inl, inr, ⊎-elim}
-use lib.Dec.{eqb, leb, ltb}
+use mathlib.Core.Logic.{inl, inr}
+use lib.Dec.{T, eqb, leb, ltb}
 use lib.ListN.{length, getD}
-use borrow.Author.Tests.{ne-eqb}
+use borrow.Author.Tests.{eqb-true, eq-eqb, ne-eqb}
 use Rattle.laws.specs.Truth.{_∨ᵇ_}
 use Rattle.laws.specs.Packed.{byte-count}
 use Rattle.model.specs.Rules.{Pair, Pairs, Rule}
@@ -19,16 +19,12 @@ use Rattle.table.specs.Link.{rules-of, value-counts}
 use Rattle.soundness.specs.Sound.{sound}
 use Rattle.cards.specs.Cards.{if-sound}
 use Rattle.cards.specs.Answers.{Verdict, passed, fault, OrRefused, taken, refused, after}
-use Rattle.cards.specs.Forms.{count-in, card-bits, slip-bits, padding, values-in, changes-in, values-test, card-test, change-fault, changes-test, slip-test, read-card, read-slip}
+use Rattle.cards.specs.Forms.{count-in, card-bits, slip-bits, padding, values-in, changes-in, values-test, card-test, change-fault, changes-test, slip-test, card-bytes, slip-bytes, read-card, read-slip, write-card, write-slip}
 use Rattle.response.specs.Ending.{answer-of, unless-conflict, answer-by-firing}
 use Rattle.tally.specs.declared.Tally.{Tally}
 use Rattle.response.specs.Respond.{_then_, Rooms, changes-room, if-room, answer-by-rules, answer-by-table, answer-to}
 use Rattle.tally.specs.Counting.{is-full}
-
--- A refusal, where it is one, has a number that P holds of.
-abbrev pub Only : {A : Type 0} → (ℕ → Type 0) → OrRefused A → Type 0
-Only P (taken a) = Unit
-Only P (refused k s) = P k
+use Rattle.promises.specs.Refusals.{OneOf, Only, of-card, of-slip, of-card-packed, of-slip-packed, of-rules, of-response}
 
 -- The same of a test.
 abbrev OnlyFault : (ℕ → Type 0) → Verdict → Type 0
@@ -56,108 +52,174 @@ unfolding _then_
 only-then P (taken a) f g h = h a
 only-then P (refused k s) f g h = g
 
--- A number of those that come before the rules fire; 0 is no number of a refusal.
-abbrev pub Early : ℕ → Type 0
-Early k = (1 ≤ k) × (k ≤ 30)
+-- A number is among some, as a test.
+abbrev has : List ℕ → ℕ → Bool
+has [] k = false
+has (n ∷ ns) k = cond (eqb k n) true (has ns k)
 
-values-early : (at : ℕ) (ns vs : List ℕ) → OnlyFault Early (values-test at ns vs)
-unfolding values-test
-values-early at [] vs = tt
-values-early at (n ∷ ns) [] = tt
-values-early at (n ∷ ns) (v ∷ vs) = fault-cond Early (ltb n v) (fault 22 at) (values-test (suc at) ns vs) (omega arith, omega arith) (values-early (suc at) ns vs)
+here-or-later : (n k : ℕ) (ns : List ℕ) (b : Bool) → eqb k n ≡ b → (T (has ns k) → OneOf ns k) → T (cond b true (has ns k)) → OneOf (n ∷ ns) k
+here-or-later n k ns true e f h = inl (eqb-true k n e)
+here-or-later n k ns false e f h = inr (f h)
 
-change-early : (counts : List ℕ) (low : ℕ) (p : Pair) → change-fault counts low p ≤ 30
-unfolding change-fault
-change-early counts low p = go (leb (length counts) (p .slot)) (ltb (p .slot) low) (eqb (p .value) 0 ∨ᵇ ltb (getD counts (p .slot) 0) (p .value))
+pub one-of : (ns : List ℕ) (k : ℕ) → T (has ns k) → OneOf ns k
+one-of [] k h = absurd h
+one-of (n ∷ ns) k h = here-or-later n k ns (eqb k n) refl (one-of ns k) h
+
+has-it : (ns : List ℕ) (k : ℕ) → OneOf ns k → T (has ns k)
+has-it [] k h = absurd h
+has-it (n ∷ ns) k (inl e) = rw (eq-eqb k n e) tt
+has-it (n ∷ ns) k (inr h) = or-true (eqb k n) (has ns k) (has-it ns k h)
   where
-    go : (x y z : Bool) → cond x 25 (cond y 26 (cond z 27 0)) ≤ 30
-    go true y z = omega arith
-    go false true z = omega arith
-    go false false true = omega arith
-    go false false false = omega arith
+    or-true : (a b : Bool) → T b → T (cond a true b)
+    or-true true b h = tt
+    or-true false b h = h
 
-changes-early : (counts : List ℕ) (low at : ℕ) (ps : List Pair) → OnlyFault Early (changes-test counts low at ps)
-unfolding changes-test
-changes-early counts low at [] = tt
-changes-early counts low at (p ∷ ps) =
-    go (change-fault counts low p) (change-early counts low p) (changes-early counts (suc (p .slot)) (suc at) ps)
-  where
-    go : (k : ℕ) → k ≤ 30 → OnlyFault Early (changes-test counts (suc (p .slot)) (suc at) ps) → OnlyFault Early (cond (eqb k 0) (changes-test counts (suc (p .slot)) (suc at) ps) (fault k at))
-    go zero h rest = rest
-    go (suc k) h rest = rw (ne-eqb (suc k) 0 (λ e. omega (arith, e))) (let l : 1 ≤ suc k = omega arith in (l, h))
+-- All of some numbers are among others.
+abbrev within : List ℕ → List ℕ → Bool
+within [] ms = true
+within (n ∷ ns) ms = cond (has ms n) (within ns ms) false
 
--- A card is refused early,
-pub card-early : (counts ys : List ℕ) → Only Early (read-card counts ys)
-unfolding read-card card-test
-card-early counts ys =
-    only-cond Early (eqb (length ys) (byte-count (card-bits (count-in ys)))) _ (refused 20 0)
-    (only-after Early (card-test counts (values-in ys)) _
-    (fault-cond Early (eqb (length (values-in ys)) (length counts)) (values-test 0 counts (values-in ys)) (fault 21 0) (values-early 0 counts (values-in ys)) (omega arith, omega arith))
-    (only-cond Early (eqb (padding ys (card-bits (count-in ys))) 0) (taken (values-in ys)) (refused 23 0) tt (omega arith, omega arith)))
-    (omega arith, omega arith)
+both : (a b : Bool) → T (cond a b false) → T a × T b
+both true b h = (tt, h)
+both false b h = absurd h
 
--- and so is a slip.
-pub slip-early : (counts ys : List ℕ) → Only Early (read-slip counts ys)
-unfolding read-slip
-slip-early counts ys =
-    only-cond Early (eqb (length ys) (byte-count (slip-bits (count-in ys)))) _ (refused 24 0)
-    (only-after Early (slip-test counts (changes-in ys)) _ (changes-early counts 0 0 (changes-in ys))
-    (only-cond Early (eqb (padding ys (slip-bits (count-in ys))) 0) (taken (changes-in ys)) (refused 28 0) tt (omega arith, omega arith)))
-    (omega arith, omega arith)
-
--- Early, or 40.
-abbrev pub Known : ℕ → Type 0
-Known k = Early k ⊎ (k ≡ 40)
-
-pub only-more : {A : Type 0} (P Q : ℕ → Type 0) → ((k : ℕ) → P k → Q k) → (u : OrRefused A) → Only P u → Only Q u
-only-more P Q f (taken a) h = tt
-only-more P Q f (refused k s) h = f k h
-
-known : {A : Type 0} (u : OrRefused A) → Only Early u → Only Known u
-known u h = only-more Early Known (λ k l. inl l) u h
-
-room-known : {A : Type 0} (width count : ℕ) (rooms : Rooms) (u : OrRefused A) → Only Known u → Only Known (if-room width count rooms u)
-unfolding if-room
-room-known width count rooms u h =
-    only-cond Known (ltb (rooms .for-card) (byte-count (card-bits width))) (refused 30 1) _ (inl (omega arith, omega arith))
-    (only-cond Known (ltb (rooms .for-changes) changes-room) (refused 30 2) _ (inl (omega arith, omega arith))
-    (only-cond Known (ltb (rooms .for-fired) (byte-count count)) (refused 30 3) u (inl (omega arith, omega arith)) h))
-
-unless-conflict-known : (width count : ℕ) (S : List ℕ) (C : Pairs) (ns : List ℕ) → Only Known (unless-conflict width count S C ns)
-unfolding unless-conflict
-unless-conflict-known width count S C ns =
-    only-cond Known (ltb (conflict-slot width row C) width) (refused 40 (conflict-slot width row C)) (taken (answer-of width count S C ns)) (inr refl) tt
-
--- Where table and tally are in order nothing else is given.
-pub by-rules-known : (counts : List ℕ) (rs : List Rule) (card slip : List ℕ) (rooms : Rooms) → Only Known (answer-by-rules counts rs card slip rooms)
-unfolding answer-by-rules answer-by-firing
-by-rules-known counts rs card slip rooms =
-    only-then Known (read-card counts card) _ (known (read-card counts card) (card-early counts card))
-    (λ S. only-then Known (read-slip counts slip) _ (known (read-slip counts slip) (slip-early counts slip))
-    (λ I. room-known (length counts) (length rs) rooms (answer-by-firing rs (length counts) S I) (unless-conflict-known (length counts) (length rs) S _ _)))
+pub one-of-more : (ns ms : List ℕ) → T (within ns ms) → (k : ℕ) → OneOf ns k → OneOf ms k
+one-of-more [] ms t k h = absurd h
+one-of-more (n ∷ ns) ms t k (inl e) = rw e (one-of ms n (both (has ms n) (within ns ms) t .0))
+one-of-more (n ∷ ns) ms t k (inr h) = one-of-more ns ms (both (has ms n) (within ns ms) t .1) k h
 
 -- Another number than j.
 abbrev pub Other : ℕ → ℕ → Type 0
 Other j k = k ≡ j → ⊥
 
--- So neither 31 nor 32.
-pub by-rules-other : (j : ℕ) → 30 < j → j < 40 → (counts : List ℕ) (rs : List Rule) (card slip : List ℕ) (rooms : Rooms) → Only (Other j) (answer-by-rules counts rs card slip rooms)
-by-rules-other j low high counts rs card slip rooms =
-    only-more Known (Other j) (λ k h e. ⊎-elim (λ (l : Early k). omega (arith, l .1)) (λ (q : k ≡ 40). omega arith) h) (answer-by-rules counts rs card slip rooms)
-    (by-rules-known counts rs card slip rooms)
+pub one-of-other : (ns : List ℕ) (j : ℕ) → T (cond (has ns j) false true) → (k : ℕ) → OneOf ns k → Other j k
+one-of-other ns j t k h e = go (has ns j) t (rw e at (has-it ns k h))
+  where
+    go : (b : Bool) → T (cond b false true) → T b → ⊥
+    go true u v = u
+    go false u v = v
 
--- No refusal has the number 0.
-pub respond-numbered : (t : Table) (y : Tally) (card slip : List ℕ) (rooms : Rooms) → Only (λ k. 1 ≤ k) (answer-to t y card slip rooms)
-unfolding answer-to answer-by-table if-sound
-respond-numbered t y card slip rooms =
-    only-cond (λ k. 1 ≤ k) (is-full y) (refused 32 0) _ (omega arith)
-    (only-cond (λ k. 1 ≤ k) (sound t) (answer-by-rules (value-counts t) (rules-of t) card slip rooms) (refused 31 0)
-    (only-more Known (λ k. 1 ≤ k) (λ k h. ⊎-elim (λ (l : Early k). l .0) (λ (q : k ≡ 40). omega (arith, q)) h) (answer-by-rules (value-counts t) (rules-of t) card slip rooms) (by-rules-known (value-counts t) (rules-of t) card slip rooms))
-    (omega arith))
+pub only-more : {A : Type 0} (P Q : ℕ → Type 0) → ((k : ℕ) → P k → Q k) → (u : OrRefused A) → Only P u → Only Q u
+only-more P Q f (taken a) h = tt
+only-more P Q f (refused k s) h = f k h
+
+fault-more : (P Q : ℕ → Type 0) → ((k : ℕ) → P k → Q k) → (v : Verdict) → OnlyFault P v → OnlyFault Q v
+fault-more P Q f passed h = tt
+fault-more P Q f (fault k s) h = f k h
+
+-- The tests of a card's values: 21, 22.
+abbrev of-values : List ℕ
+of-values = 21 ∷ 22 ∷ []
+
+values-22 : (at : ℕ) (ns vs : List ℕ) → OnlyFault (OneOf of-values) (values-test at ns vs)
+unfolding values-test
+values-22 at [] vs = tt
+values-22 at (n ∷ ns) [] = tt
+values-22 at (n ∷ ns) (v ∷ vs) = fault-cond (OneOf of-values) (ltb n v) (fault 22 at) (values-test (suc at) ns vs) (one-of of-values 22 tt) (values-22 (suc at) ns vs)
+
+card-tests : (counts vs : List ℕ) → OnlyFault (OneOf of-values) (card-test counts vs)
+unfolding card-test
+card-tests counts vs = fault-cond (OneOf of-values) (eqb (length vs) (length counts)) (values-test 0 counts vs) (fault 21 0) (values-22 0 counts vs) (one-of of-values 21 tt)
+
+-- The tests of a slip's changes: 25 to 27.
+abbrev of-changes : List ℕ
+of-changes = 25 ∷ 26 ∷ 27 ∷ []
+
+change-number : (counts : List ℕ) (low : ℕ) (p : Pair) → OneOf (0 ∷ of-changes) (change-fault counts low p)
+unfolding change-fault
+change-number counts low p = go (leb (length counts) (p .slot)) (ltb (p .slot) low) (eqb (p .value) 0 ∨ᵇ ltb (getD counts (p .slot) 0) (p .value))
+  where
+    go : (x y z : Bool) → OneOf (0 ∷ of-changes) (cond x 25 (cond y 26 (cond z 27 0)))
+    go true y z = one-of (0 ∷ of-changes) 25 tt
+    go false true z = one-of (0 ∷ of-changes) 26 tt
+    go false false true = one-of (0 ∷ of-changes) 27 tt
+    go false false false = one-of (0 ∷ of-changes) 0 tt
+
+slip-tests : (counts : List ℕ) (low at : ℕ) (ps : List Pair) → OnlyFault (OneOf of-changes) (changes-test counts low at ps)
+unfolding changes-test
+slip-tests counts low at [] = tt
+slip-tests counts low at (p ∷ ps) = go (change-fault counts low p) (change-number counts low p) (slip-tests counts (suc (p .slot)) (suc at) ps)
+  where
+    go : (k : ℕ) → OneOf (0 ∷ of-changes) k → OnlyFault (OneOf of-changes) (changes-test counts (suc (p .slot)) (suc at) ps)
+        → OnlyFault (OneOf of-changes) (cond (eqb k 0) (changes-test counts (suc (p .slot)) (suc at) ps) (fault k at))
+    go zero h rest = rest
+    go (suc k) (inl e) rest = absurd (omega (arith, e))
+    go (suc k) (inr h) rest = rw (ne-eqb (suc k) 0 (λ e. omega (arith, e))) h
+
+-- A card's bytes,
+pub card-refused : (counts ys : List ℕ) → Only (OneOf of-card) (read-card counts ys)
+unfolding read-card
+card-refused counts ys =
+    only-cond (OneOf of-card) (eqb (length ys) (byte-count (card-bits (count-in ys)))) _ (refused 20 0)
+    (only-after (OneOf of-card) (card-test counts (values-in ys)) _
+    (fault-more (OneOf of-values) (OneOf of-card) (one-of-more of-values of-card tt) (card-test counts (values-in ys)) (card-tests counts (values-in ys)))
+    (only-cond (OneOf of-card) (eqb (padding ys (card-bits (count-in ys))) 0) (taken (values-in ys)) (refused 23 0) tt (one-of of-card 23 tt)))
+    (one-of of-card 20 tt)
+
+-- and a slip's.
+pub slip-refused : (counts ys : List ℕ) → Only (OneOf of-slip) (read-slip counts ys)
+unfolding read-slip
+slip-refused counts ys =
+    only-cond (OneOf of-slip) (eqb (length ys) (byte-count (slip-bits (count-in ys)))) _ (refused 24 0)
+    (only-after (OneOf of-slip) (slip-test counts (changes-in ys)) _
+    (fault-more (OneOf of-changes) (OneOf of-slip) (one-of-more of-changes of-slip tt) (slip-test counts (changes-in ys)) (slip-tests counts 0 0 (changes-in ys)))
+    (only-cond (OneOf of-slip) (eqb (padding ys (slip-bits (count-in ys))) 0) (taken (changes-in ys)) (refused 28 0) tt (one-of of-slip 28 tt)))
+    (one-of of-slip 24 tt)
+
+-- A card and a slip that are packed by such counts.
+pub card-write-refused : (counts vs : List ℕ) (room : ℕ) → Only (OneOf of-card-packed) (write-card counts vs room)
+unfolding write-card
+card-write-refused counts vs room =
+    only-after (OneOf of-card-packed) (card-test counts vs) _
+    (fault-more (OneOf of-values) (OneOf of-card-packed) (one-of-more of-values of-card-packed tt) (card-test counts vs) (card-tests counts vs))
+    (only-cond (OneOf of-card-packed) (ltb room (byte-count (card-bits (length vs)))) (refused 30 1) (taken (card-bytes vs)) (one-of of-card-packed 30 tt) tt)
+
+pub slip-write-refused : (counts : List ℕ) (ps : List Pair) (room : ℕ) → Only (OneOf of-slip-packed) (write-slip counts ps room)
+unfolding write-slip
+slip-write-refused counts ps room =
+    only-cond (OneOf of-slip-packed) (ltb 32 (length ps)) (refused 24 0) _ (one-of of-slip-packed 24 tt)
+    (only-after (OneOf of-slip-packed) (slip-test counts ps) _
+    (fault-more (OneOf of-changes) (OneOf of-slip-packed) (one-of-more of-changes of-slip-packed tt) (slip-test counts ps) (slip-tests counts 0 0 ps))
+    (only-cond (OneOf of-slip-packed) (ltb room (byte-count (slip-bits (length ps)))) (refused 30 2) (taken (slip-bytes ps)) (one-of of-slip-packed 30 tt) tt))
+
+room-refused : {A : Type 0} (width count : ℕ) (rooms : Rooms) (u : OrRefused A) → Only (OneOf of-rules) u → Only (OneOf of-rules) (if-room width count rooms u)
+unfolding if-room
+room-refused width count rooms u h =
+    only-cond (OneOf of-rules) (ltb (rooms .for-card) (byte-count (card-bits width))) (refused 30 1) _ (one-of of-rules 30 tt)
+    (only-cond (OneOf of-rules) (ltb (rooms .for-changes) changes-room) (refused 30 2) _ (one-of of-rules 30 tt)
+    (only-cond (OneOf of-rules) (ltb (rooms .for-fired) (byte-count count)) (refused 30 3) u (one-of of-rules 30 tt) h))
+
+conflict-refused : (width count : ℕ) (S : List ℕ) (C : Pairs) (ns : List ℕ) → Only (OneOf of-rules) (unless-conflict width count S C ns)
+unfolding unless-conflict
+conflict-refused width count S C ns =
+    only-cond (OneOf of-rules) (ltb (conflict-slot width row C) width) (refused 40 (conflict-slot width row C)) (taken (answer-of width count S C ns)) (one-of of-rules 40 tt) tt
+
+-- A response where table and tally are in order,
+pub rules-refused : (counts : List ℕ) (rs : List Rule) (card slip : List ℕ) (rooms : Rooms) → Only (OneOf of-rules) (answer-by-rules counts rs card slip rooms)
+unfolding answer-by-rules answer-by-firing
+rules-refused counts rs card slip rooms =
+    only-then (OneOf of-rules) (read-card counts card) _ (only-more (OneOf of-card) (OneOf of-rules) (one-of-more of-card of-rules tt) (read-card counts card) (card-refused counts card))
+    (λ S. only-then (OneOf of-rules) (read-slip counts slip) _ (only-more (OneOf of-slip) (OneOf of-rules) (one-of-more of-slip of-rules tt) (read-slip counts slip) (slip-refused counts slip))
+    (λ I. room-refused (length counts) (length rs) rooms (answer-by-firing rs (length counts) S I) (conflict-refused (length counts) (length rs) S _ _)))
+
+-- where the tally is,
+abbrev pub of-table : List ℕ
+of-table = 31 ∷ of-rules
+
+table-refused : (t : Table) (card slip : List ℕ) (rooms : Rooms) → Only (OneOf of-table) (answer-by-table t card slip rooms)
+unfolding answer-by-table if-sound
+table-refused t card slip rooms =
+    only-cond (OneOf of-table) (sound t) (answer-by-rules (value-counts t) (rules-of t) card slip rooms) (refused 31 0)
+    (only-more (OneOf of-rules) (OneOf of-table) (one-of-more of-rules of-table tt) (answer-by-rules (value-counts t) (rules-of t) card slip rooms) (rules-refused (value-counts t) (rules-of t) card slip rooms))
+    (one-of of-table 31 tt)
+
+-- and any.
+pub response-refused : (t : Table) (y : Tally) (card slip : List ℕ) (rooms : Rooms) → Only (OneOf of-response) (answer-to t y card slip rooms)
+unfolding answer-to
+response-refused t y card slip rooms =
+    only-cond (OneOf of-response) (is-full y) (refused 32 0) (answer-by-table t card slip rooms) (one-of of-response 32 tt)
+    (only-more (OneOf of-table) (OneOf of-response) (one-of-more of-table of-response tt) (answer-by-table t card slip rooms) (table-refused t card slip rooms))
 
 -- What follows the tally's test gives no 32.
 pub by-table-other : (t : Table) (card slip : List ℕ) (rooms : Rooms) → Only (Other 32) (answer-by-table t card slip rooms)
-unfolding answer-by-table if-sound
-by-table-other t card slip rooms =
-    only-cond (Other 32) (sound t) (answer-by-rules (value-counts t) (rules-of t) card slip rooms) (refused 31 0)
-    (by-rules-other 32 (omega arith) (omega arith) (value-counts t) (rules-of t) card slip rooms) (λ e. omega arith)
+by-table-other t card slip rooms = only-more (OneOf of-table) (Other 32) (one-of-other of-table 32 tt) (answer-by-table t card slip rooms) (table-refused t card slip rooms)

@@ -1,4 +1,5 @@
 pub mod Agreement
+pub mod Refusals
 pub mod Day
 pub mod Listing
 pub mod Called
