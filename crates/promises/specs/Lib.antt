@@ -1,5 +1,6 @@
 pub mod Agreement
 pub mod Refusals
+pub mod Paper
 pub mod Day
 pub mod Listing
 pub mod Called
