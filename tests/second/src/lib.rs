@@ -13,8 +13,6 @@ pub mod gen_text;
 pub mod listing;
 pub mod orders;
 pub mod program_cases;
-#[cfg(feature = "proved")]
-pub mod proved;
 #[path = "../../../examples/rust/raw.rs"]
 pub mod raw;
 pub mod read;

@@ -2,11 +2,11 @@
 
 use std::fmt::Write;
 
-use crate::engine::Engine;
-use crate::raw::{self, given, Card, Change, RlName, Slip};
-use crate::response::{fired_count, Outputs, Tally};
-use crate::table::{program_in, Literal, Name, Pair, Program, Rule, Table, SLOTS};
-use crate::{refusal, Refusal};
+use second::engine::Engine;
+use second::raw::{self, given, Card, Change, RlName, Slip};
+use second::response::{fired_count, Outputs, Tally};
+use second::table::{program_in, Literal, Name, Pair, Program, Rule, Table, SLOTS};
+use second::{refusal, Refusal};
 
 /// The proved engine; it keeps how many rules its last response said to have fired, and the length of that record.
 #[derive(Default)]
