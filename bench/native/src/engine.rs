@@ -1,7 +1,8 @@
 //! What the benchmark asks of an engine, and the native engine as one.
 
+use crate::raw::Tally;
 use crate::read::{self, Workspace};
-use crate::response::{self, Answer, Outputs, Tally};
+use crate::response::{self, Answer, Outputs};
 use crate::table::Table;
 use crate::Refusal;
 
@@ -33,7 +34,7 @@ pub struct Native {
 impl Native {
     /// The native engine before any reading.
     pub fn new() -> Native {
-        Native { workspace: Workspace::new(), table: Box::new(Table::EMPTY) }
+        Native { workspace: Workspace::new(), table: Table::empty() }
     }
 }
 

@@ -1,8 +1,8 @@
 //! The inputs of the benchmark: rule texts of growing size with a card and a slip, and texts at the edges.
 
 use crate::cards::{write_card, write_slip};
+use crate::raw::SLIP_BYTES;
 use crate::read::TEXT;
-use crate::response::CHANGES;
 use crate::table::SLOTS;
 
 /// A rule text with a card and a slip, and what it holds.
@@ -150,7 +150,7 @@ fn card_bytes(values: &[usize]) -> Vec<u8> {
 fn slip_bytes(changes: &[(usize, usize)]) -> Vec<u8> {
     let mut all = [0; SLOTS];
     changes.iter().for_each(|(slot, value)| all[*slot] = 1 << (value + 1));
-    let mut bytes = vec![0; CHANGES];
+    let mut bytes = vec![0; SLIP_BYTES];
     let size = write_slip(&all, &mut bytes);
     bytes.truncate(size);
     bytes

@@ -7,6 +7,8 @@ pub mod inputs;
 pub mod measure;
 pub mod names;
 pub mod proved;
+#[path = "../../../examples/rust/raw.rs"]
+pub mod raw;
 pub mod read;
 pub mod response;
 pub mod strata;
@@ -15,12 +17,7 @@ pub mod table;
 pub mod test31;
 pub mod text;
 
-/// A refusal by its number and its second number.
-#[derive(Clone, Copy, PartialEq, Eq, Debug)]
-pub struct Refusal {
-    pub number: u8,
-    pub second: usize,
-}
+pub use raw::Refusal;
 
 /// The refusal of a number and a second number.
 #[inline]

@@ -5,17 +5,14 @@ use std::time::{Duration, Instant};
 
 use crate::engine::Engine;
 use crate::inputs::Input;
-use crate::response::{Answer, Outputs, Tally, CHANGES};
+use crate::raw::{Tally, CARD_BYTES, FIRED_BYTES, SLIP_BYTES};
+use crate::response::{Answer, Outputs};
 use crate::table::Table;
 use crate::Refusal;
 
 /// About the time of one repetition, and how many repetitions the best is taken of.
 const REPETITION: Duration = Duration::from_millis(1);
 const REPETITIONS: usize = 20;
-
-/// Room for every card and every fired record.
-const CARD: usize = 17;
-const FIRED: usize = 32;
 
 /// What an engine makes of an input.
 #[derive(PartialEq, Eq, Debug)]
@@ -29,7 +26,7 @@ pub struct Result {
 
 /// The three outputs before a response.
 fn rooms() -> [Vec<u8>; 3] {
-    [CARD, CHANGES, FIRED].map(|length| vec![0xA5; length])
+    [CARD_BYTES, SLIP_BYTES, FIRED_BYTES].map(|length| vec![0xA5; length])
 }
 
 /// The response of an engine.

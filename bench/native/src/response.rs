@@ -1,23 +1,13 @@
 //! The response: the tests of its inputs, one pass over the rules by stratum, the answer.
 
 use crate::cards::{bytes_for, unpack_card, unpack_slip, write_card, write_slip, Changes};
+use crate::raw::{Tally, SLIP_BYTES};
 use crate::table::{Rule, Table, RULES, SLOTS};
 use crate::test31::tested;
 use crate::{refusal, Refusal};
 
-/// Slips answered and slips refused.
-#[repr(C)]
-#[derive(Clone, Copy, PartialEq, Eq, Debug, Default)]
-pub struct Tally {
-    pub answered: u16,
-    pub refused: u16,
-}
-
 /// The number at which a tally is full.
 const FULL: u16 = 9_999;
-
-/// The bytes that 32 changes take.
-pub const CHANGES: usize = 37;
 
 /// The three outputs of a response.
 pub struct Outputs<'a> {
@@ -110,7 +100,7 @@ fn room(table: &Table, outputs: &Outputs) -> Result<(), Refusal> {
     if outputs.card.len() < bytes_for(6 + 4 * table.width) {
         return Err(refusal(30, 1));
     }
-    if outputs.changes.len() < CHANGES {
+    if outputs.changes.len() < SLIP_BYTES {
         return Err(refusal(30, 2));
     }
     if outputs.fired.len() < bytes_for(table.count) {

@@ -1,7 +1,8 @@
 //! The native engine held to the second engine on generated inputs, good and damaged.
 
 use native::engine::{Engine, Native};
-use native::response::{Outputs, Tally};
+use native::raw::Tally;
+use native::response::Outputs;
 use native::table::{Assignment, Literal, Name, Rule, Slot, Table};
 use native::Refusal;
 use second::engine::{Engine as _, Second};
@@ -12,7 +13,7 @@ use second::table::Table as SecondTable;
 
 /// The second engine's table in the native layout.
 fn converted(from: &SecondTable) -> Box<Table> {
-    let mut table = Box::new(Table::EMPTY);
+    let mut table = Table::empty();
     let name = |name: &second::table::Name| Name { start: name.start, size: name.size };
     for (to, from) in table.slots.iter_mut().zip(&from.slots) {
         *to = Slot { name: name(&from.name), values: from.values.each_ref().map(name), count: from.count };

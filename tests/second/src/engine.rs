@@ -45,15 +45,6 @@ pub trait Engine {
     fn fired_count(&mut self, record: &[u8]) -> usize;
 }
 
-/// The engines that must agree with the second engine, by name; the proved one where the feature asks for it.
-pub fn engines() -> Vec<(&'static str, Box<dyn Engine>)> {
-    vec![
-        ("second", Box::new(Second)),
-        #[cfg(feature = "proved")]
-        ("proved", Box::new(crate::proved::Proved::default())),
-    ]
-}
-
 /// The second engine.
 pub struct Second;
 

@@ -70,7 +70,7 @@ fn fill(rng: &mut Rng, text: &mut Vec<u8>) {
 }
 
 /// A sketch of any shape.
-fn any_sketch(rng: &mut Rng) -> Sketch {
+pub fn any_sketch(rng: &mut Rng) -> Sketch {
     let size = *rng.pick(&[0, 0, 0, 0, 1, 1, 1, 1, 1, 1, 1, 1, 2, 2, 2, 2, 2, 2, 2, 2, 3, 3, 3, 3, 4]);
     let mut shape = SHAPES[size];
     shape.ranked ^= rng.chance(1, 6);

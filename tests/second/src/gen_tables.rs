@@ -59,7 +59,7 @@ fn damage_rule(rng: &mut Rng, rule: &mut RulePlace) {
 
 /// A table changed at one place; a text of a length is what its names stand in.
 pub fn damaged(rng: &mut Rng, table: &Table, length: usize) -> Box<Table> {
-    let mut changed = Box::new(table.clone());
+    let mut changed = Box::new(*table);
     let rule = rng.below(RULES.min(table.count + 1));
     match rng.below(10) {
         0 => changed.width = any_count(rng, table.width, SLOTS),

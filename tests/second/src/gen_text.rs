@@ -94,20 +94,18 @@ fn busy_pairs(rng: &mut Rng, pairs: &[Pair]) -> Vec<Pair> {
 }
 
 /// A pair to be tested by `*=`: often one that an earlier rule assigns.
-fn awaited(rng: &mut Rng, testable: &[Pair], before: &[Rule]) -> Pair {
-    let assigned = before.iter().flat_map(|rule| rule.assignments.iter().copied());
-    let chained: Vec<Pair> = assigned.filter(|pair| testable.contains(pair)).collect();
-    if chained.is_empty() || rng.chance(1, 2) {
+fn awaited(rng: &mut Rng, testable: &[Pair], assigned: &[Pair]) -> Pair {
+    if assigned.is_empty() || rng.chance(1, 2) {
         *rng.pick(testable)
     } else {
-        *rng.pick(&chained)
+        *rng.pick(assigned)
     }
 }
 
 /// A literal over the pairs that may be tested by `*=`, mostly one that holds on the likely card.
-fn literal(rng: &mut Rng, testable: &[Pair], all: &[Pair], likely: &[u8], before: &[Rule]) -> Literal {
+fn literal(rng: &mut Rng, testable: &[Pair], all: &[Pair], likely: &[u8], assigned: &[Pair]) -> Literal {
     if rng.chance(1, 2) {
-        return Literal { becomes: true, negated: rng.chance(3, 4), pair: awaited(rng, testable, before) };
+        return Literal { becomes: true, negated: rng.chance(3, 4), pair: awaited(rng, testable, assigned) };
     }
     let pair = *rng.pick(all);
     let had = likely[pair.0 as usize] == pair.1;
@@ -134,9 +132,11 @@ fn rule(rng: &mut Rng, shape: &Shape, pairs: &[Pair], likely: &[u8], before: &[R
     let (testable, assignable) = if ranked { pairs.split_at(cut) } else { (pairs, pairs) };
     let few = if rng.chance(1, 6) { shape.literals } else { shape.literals.min(2) };
     let count = if rng.chance(1, 12) { shape.literals } else { rng.below(few + 1) };
+    let earlier = before.iter().flat_map(|rule| rule.assignments.iter().copied());
+    let assigned: Vec<Pair> = earlier.filter(|pair| testable.contains(pair)).collect();
     Rule {
-        trigger: awaited(rng, testable, before),
-        literals: (0..count).map(|_| literal(rng, testable, pairs, likely, before)).collect(),
+        trigger: awaited(rng, testable, &assigned),
+        literals: (0..count).map(|_| literal(rng, testable, pairs, likely, &assigned)).collect(),
         assignments: assignments(rng, assignable, shape.assignments),
     }
 }
@@ -184,6 +184,11 @@ pub fn sketch(rng: &mut Rng, shape: &Shape) -> Sketch {
 /// Breaks one limit of a sketch, or comes up to it.
 pub fn crowd(rng: &mut Rng, sketch: &mut Sketch) {
     let extra = rng.below(2);
+    fill_up(rng, sketch, extra);
+}
+
+/// Fills one place of a sketch up to its limit, and by so many more.
+pub fn fill_up(rng: &mut Rng, sketch: &mut Sketch, extra: usize) {
     let at = rng.below(sketch.rules.len().max(1));
     match rng.below(if sketch.rules.is_empty() { 2 } else { 5 }) {
         0 => {

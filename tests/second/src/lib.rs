@@ -13,8 +13,8 @@ pub mod gen_text;
 pub mod listing;
 pub mod orders;
 pub mod program_cases;
-#[cfg(feature = "proved")]
-pub mod proved;
+#[path = "../../../examples/rust/raw.rs"]
+pub mod raw;
 pub mod read;
 pub mod read_lines;
 pub mod response;
@@ -25,12 +25,7 @@ pub mod table31;
 pub mod table_lines;
 pub mod text;
 
-/// A refusal by its number and its second number.
-#[derive(Clone, Copy, PartialEq, Eq, Debug)]
-pub struct Refusal {
-    pub number: u8,
-    pub second: usize,
-}
+pub use raw::Refusal;
 
 /// The refusal of a number and a second number.
 pub fn refusal(number: u8, second: usize) -> Refusal {

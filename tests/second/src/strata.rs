@@ -1,5 +1,7 @@
 //! Strata: the least numbers, layer by layer, and the rules on a circle of dependence.
 
+use std::collections::HashMap;
+
 use crate::rule_set::RuleSet;
 use crate::table::{Pair, Rule};
 
@@ -9,12 +11,21 @@ pub fn tested_pairs(rule: &Rule) -> Vec<Pair> {
     std::iter::once(rule.trigger).chain(literals).collect()
 }
 
+/// For each pair the rules that assign it.
+fn assigning(rules: &[Rule]) -> HashMap<Pair, RuleSet> {
+    let mut assigning: HashMap<Pair, RuleSet> = HashMap::new();
+    for (at, rule) in rules.iter().enumerate() {
+        rule.assignments.iter().for_each(|pair| assigning.entry(*pair).or_default().put(at));
+    }
+    assigning
+}
+
 /// For each rule the rules that need a smaller number: those that assign a pair it tests.
 pub fn dependences(rules: &[Rule]) -> Vec<RuleSet> {
-    let assigns = |tested: &[Pair], rule: &Rule| rule.assignments.iter().any(|pair| tested.contains(pair));
+    let assigning = assigning(rules);
     let before = |rule: &Rule| {
-        let tested = tested_pairs(rule);
-        (0..rules.len()).filter(|other| assigns(&tested, &rules[*other])).collect()
+        let sets = tested_pairs(rule).into_iter().filter_map(|pair| assigning.get(&pair));
+        sets.fold(RuleSet::default(), |all, set| all.with(set))
     };
     rules.iter().map(before).collect()
 }
@@ -26,6 +37,9 @@ pub fn layers(dependences: &[RuleSet]) -> Option<Vec<u8>> {
     for layer in 1..=dependences.len() {
         let free = |at: &usize| !settled.has(*at) && dependences[*at].within(&settled);
         let found: Vec<usize> = (0..dependences.len()).filter(free).collect();
+        if found.is_empty() {
+            break;
+        }
         for at in found {
             numbers[at] = layer as u8;
             settled.put(at);

@@ -1,10 +1,10 @@
 //! Tables and their tests in the form of the project's program `strata_cases`: packed tables, a line for each.
 
-use crate::gen::{any_file, Rng};
+use crate::gen::{any_sketch, Rng};
 use crate::gen_tables::damaged;
-use crate::read::read_rules;
+use crate::gen_text::fill_up;
 use crate::strata::strata;
-use crate::table::{table_of, AssignmentPlace, LiteralPlace, RulePlace, Table};
+use crate::table::{table_of, AssignmentPlace, LiteralPlace, Name, RulePlace, SlotLine, Table};
 use crate::table::{ASSIGNMENTS, LITERALS, RULES};
 use crate::table31::{tested, unlayered};
 
@@ -53,7 +53,7 @@ fn table(input: &mut &[u8]) -> Box<Table> {
 }
 
 /// The tables in an input: their number, then each.
-fn tables(mut input: &[u8]) -> Vec<Box<Table>> {
+pub fn tables(mut input: &[u8]) -> Vec<Box<Table>> {
     let count = byte(&mut input);
     (0..count).map(|_| table(&mut input)).collect()
 }
@@ -82,14 +82,21 @@ fn table_bytes(table: &Table, fill: u8) -> Vec<u8> {
     bytes
 }
 
-/// A table of a generated file, its strata the least or none, changed at one place now and then.
-fn generated_table(rng: &mut Rng) -> Option<Box<Table>> {
-    let file = any_file(rng);
-    let (lines, rules) = read_rules(&file.text).ok()?;
-    let none = vec![0; rules.len()];
-    let numbers = strata(&rules).unwrap_or(none);
-    let table = table_of(&lines, &rules, &numbers);
-    Some(if rng.chance(1, 2) { damaged(rng, &table, file.text.len()) } else { table })
+/// The table of a sketch, filled up to a limit now and then, its strata the least or none, often changed at one place.
+fn generated_table(rng: &mut Rng) -> Box<Table> {
+    let mut sketch = any_sketch(rng);
+    if rng.chance(1, 12) {
+        fill_up(rng, &mut sketch, 0);
+    }
+    let unnamed = |count: usize| SlotLine { name: Name::default(), values: vec![Name::default(); count] };
+    let lines: Vec<SlotLine> = sketch.names.iter().map(|slot| unnamed(slot.1.len())).collect();
+    let none = vec![0; sketch.rules.len()];
+    let table = table_of(&lines, &sketch.rules, &strata(&sketch.rules).unwrap_or(none));
+    if rng.chance(1, 2) {
+        damaged(rng, &table, 0)
+    } else {
+        table
+    }
 }
 
 /// An input of generated tables.
@@ -97,13 +104,7 @@ pub fn generated(seed: u64) -> Vec<u8> {
     let mut rng = Rng::new(seed);
     let (mut count, mut input) = (0, Vec::new());
     while count < 255 {
-        let table = match generated_table(&mut rng) {
-            Some(table) => table,
-            _ => {
-                continue;
-            }
-        };
-        let bytes = table_bytes(&table, *rng.pick(&[0, 1, 255]));
+        let bytes = table_bytes(&generated_table(&mut rng), *rng.pick(&[0, 1, 255]));
         if 1 + input.len() + bytes.len() > INPUT {
             break;
         }

@@ -1,11 +1,14 @@
-//! The test 31, names shown, the order of a response's refusals, and the tally.
+//! The test 31, names shown, the order of a response's refusals, the tally, and what generated tables show.
 
 use second::engine::{Engine, Second};
+use second::fault::Fault;
 use second::read::read;
 use second::response::{Outputs, Tally};
+use second::strata::strata;
 use second::table::{LiteralPlace, Name, Table};
-use second::table31::{slot_name, tested, value_name};
-use second::{refusal, Refusal};
+use second::table31::{slot_name, tested, unlayered, value_name};
+use second::table_lines::{generated, tables};
+use second::{broken_reading, refusal, Refusal};
 
 const TEXT: &[u8] = b"SLOT x {0,1}; SLOT y {0,1}; WHEN x *= 1 IF y |= 0 THEN y := 1; WHEN y *= 1 IF TRUE THEN x := 0;";
 
@@ -106,4 +109,32 @@ fn refusals_come_in_their_order() {
     assert_eq!(response(&table, (0, 0), &conflict, [2, 36, 0]).1, Err(refusal(30, 2)));
     assert_eq!(response(&table, (0, 0), &conflict, [2, 37, 0]).1, Err(refusal(30, 3)));
     assert_eq!(response(&table, (0, 0), &conflict, [2, 37, 1]), ((0, 1), Err(refusal(40, 0))));
+}
+
+/// Whether a fault changes a table's strata, or whether the table passes 31.
+fn shows(fault: Fault, table: &Table) -> bool {
+    let rules = unlayered(table).map_or(Vec::new(), |program| program.rules);
+    broken_reading::strata(fault, &rules) != strata(&rules)
+        || broken_reading::program(fault, table).is_ok() != tested(table).is_ok()
+}
+
+#[test]
+fn two_inputs_of_tables_show_each_fault_of_strata_and_31() {
+    let tables: Vec<Box<Table>> = (1..=2).flat_map(|seed| tables(&generated(seed))).collect();
+    let faults = [
+        Fault::HighestOnCircle,
+        Fault::BehindCircle,
+        Fault::NoStrata,
+        Fault::WasBinds,
+        Fault::NegatedFree,
+        Fault::TriggerFree,
+        Fault::SlotsBind,
+        Fault::StrataTooHigh,
+        Fault::StrataUntested,
+        Fault::UnusedTested,
+        Fault::NoAssignments,
+    ];
+    for fault in faults {
+        assert!(tables.iter().any(|table| shows(fault, table)), "{fault:?}");
+    }
 }

@@ -1,12 +1,10 @@
-//! The comparison: `compare [--rounds N] [--seed S] [--out FOLDER]` compares each engine that must agree and tries every broken one; with `--program PATH` it compares that program's output instead, with `--reader PATH` the readings of the program `read_cases`, with `--tables PATH` the lines of the program `strata_cases`.
+//! The comparison: `compare [--rounds N] [--seed S] [--out FOLDER]` compares the proved engine with the second; with `--program PATH` it compares that program's output instead, with `--reader PATH` the readings of the program `read_cases`, with `--tables PATH` the lines of the program `strata_cases`.
 
 use std::path::{Path, PathBuf};
 use std::process::{exit, Command};
 
-use second::broken::Broken;
-use second::compare::{compare_seeds, refusals_met, shrunk, store};
-use second::engine::engines;
-use second::fault::FAULTS;
+use proved::Proved;
+use second::compare::{compare_seeds, shrunk, store};
 use second::gen::{any_file, card, slip, Rng};
 use second::listing::listing;
 use second::{read_lines, table_lines};
@@ -38,28 +36,6 @@ fn asked() -> Asked {
         }
     }
     asked
-}
-
-/// Tries every broken engine; says after how many seeds its fault was found.
-fn try_faults(asked: &Asked) -> bool {
-    let mut all = true;
-    for fault in FAULTS {
-        let (failing, tried) = compare_seeds(&mut Broken::new(*fault), asked.seed, asked.rounds);
-        match failing {
-            None => {
-                println!("{fault:?}: NOT found in {tried}");
-                all = false;
-            }
-            Some(failing) => {
-                println!("{fault:?}: found after {tried}, {}", failing.difference.place);
-                if let Some(out) = &asked.out {
-                    let smaller = shrunk(&mut Broken::new(*fault), &failing);
-                    store(&out.join(format!("{fault:?}")), &smaller).expect("the folder can be written");
-                }
-            }
-        }
-    }
-    all
 }
 
 /// Runs a program in a folder that holds its three files.
@@ -130,26 +106,21 @@ fn try_lines(asked: &Asked, program: &Path, (generated, output): Form) -> bool {
     true
 }
 
-/// Compares each engine that must agree; a failing input is kept.
-fn try_engines(asked: &Asked) -> bool {
-    let mut all = true;
-    for (name, mut engine) in engines() {
-        let (failing, tried) = compare_seeds(engine.as_mut(), asked.seed, asked.rounds);
-        let failing = match failing {
-            Some(failing) => failing,
-            _ => {
-                println!("{name}: no difference in {tried} seeds");
-                continue;
-            }
-        };
-        println!("{name}: DIFFERS at seed {}, {}", failing.seed, failing.difference.place);
-        all = false;
-        if let Some(out) = &asked.out {
-            let smaller = shrunk(engine.as_mut(), &failing);
-            store(&out.join(name), &smaller).expect("the folder can be written");
+/// Compares the proved engine; a failing input is made small and kept.
+fn try_proved(asked: &Asked) -> bool {
+    let mut engine = Proved::default();
+    let failing = match compare_seeds(&mut engine, asked.seed, asked.rounds) {
+        (Some(failing), _) => failing,
+        (None, tried) => {
+            println!("proved: no difference in {tried} seeds");
+            return true;
         }
+    };
+    println!("proved: DIFFERS at seed {}, {}", failing.seed, failing.difference.place);
+    if let Some(out) = &asked.out {
+        store(out, &shrunk(&mut engine, &failing)).expect("the folder can be written");
     }
-    all
+    false
 }
 
 /// Compares what the command line asks for; the exit status is 1 where something differs that should not.
@@ -159,11 +130,7 @@ fn main() {
         (Some(program), _, _) => try_program(&asked, program),
         (_, Some(program), _) => try_lines(&asked, program, (read_lines::generated, read_lines::output)),
         (_, _, Some(program)) => try_lines(&asked, program, (table_lines::generated, table_lines::output)),
-        (None, None, None) => {
-            println!("refusals met, 0 for none: {:?}", refusals_met(asked.seed, 2_000));
-            let agree = try_engines(&asked);
-            try_faults(&asked) && agree
-        }
+        (None, None, None) => try_proved(&asked),
     };
     exit(i32::from(!good));
 }

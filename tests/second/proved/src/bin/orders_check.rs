@@ -1,9 +1,8 @@
-//! Demand 3 by experiment over generated small files: `orders_check [SECONDS] [FIRST SEED]`.
+//! Demand 3 by experiment over generated small files, for the second engine and the proved one: `orders_check [SEEDS] [FIRST SEED]`.
 
-use std::time::{Duration, Instant};
-
+use proved::Proved;
 use second::cards::{card_bytes, slip_bytes};
-use second::engine::{engines, Engine};
+use second::engine::{Engine, Second};
 use second::firing_checks::{check_orders, check_rearranged, Counts};
 use second::gen::{card_values, plain_file, slip_changes, Rng};
 use second::gen_text::{sketch, Shape};
@@ -45,29 +44,26 @@ fn check(engine: &mut dyn Engine, seed: u64, counts: &mut Counts) -> Option<Resu
     Some(Ok(()))
 }
 
-/// Runs seeds on an engine until the time is over; what fails is said.
-fn run(engine: &mut dyn Engine, limit: Duration, first: u64) -> Result<String, String> {
-    let begun = Instant::now();
+/// Runs so many seeds on an engine; what fails is said.
+fn run(engine: &mut dyn Engine, seeds: u64, first: u64) -> Result<String, String> {
     let (mut counts, mut refused) = (Counts::default(), 0);
-    for seed in first.. {
+    for seed in first..first + seeds {
         match check(engine, seed, &mut counts) {
             None => refused += 1,
             Some(result) => result?,
-        }
-        if begun.elapsed() >= limit {
-            break;
         }
     }
     Ok(format!("{counts:?}, files refused for a circle {refused}"))
 }
 
-/// Runs each engine that must agree.
+/// Runs both engines.
 fn main() {
     let mut given = std::env::args().skip(1).map(|word| word.parse::<u64>().expect("a number"));
-    let limit = Duration::from_secs(given.next().unwrap_or(10));
+    let seeds = given.next().unwrap_or(8_000);
     let first = given.next().unwrap_or(1);
-    for (name, mut engine) in engines() {
-        match run(engine.as_mut(), limit, first) {
+    let engines: [(&str, &mut dyn Engine); 2] = [("second", &mut Second), ("proved", &mut Proved::default())];
+    for (name, engine) in engines {
+        match run(engine, seeds, first) {
             Ok(counts) => println!("{name}: {counts}"),
             Err(why) => {
                 println!("{name}: {why}");

@@ -1,0 +1,201 @@
+//! The interface of the static library as C has it; include/rl.h says of each struct and function what it is.
+
+/// The limits of a rule file.
+pub const SLOTS: usize = 32;
+pub const VALUES: usize = 15;
+pub const RULES: usize = 255;
+pub const LITERALS: usize = 8;
+pub const ASSIGNMENTS: usize = 4;
+
+/// Bytes that any card, any slip of 32 changes and any fired record fit in.
+pub const CARD_BYTES: usize = 17;
+pub const SLIP_BYTES: usize = 37;
+pub const FIRED_BYTES: usize = 32;
+
+/// Where a name stands in the rule text.
+#[repr(C)]
+#[derive(Clone, Copy, PartialEq, Eq, Debug, Default)]
+pub struct Name {
+    pub start: usize,
+    pub size: usize,
+}
+
+/// A slot: its name, and the names of its values with the number used.
+#[repr(C)]
+#[derive(Clone, Copy, PartialEq, Eq, Debug, Default)]
+pub struct Slot {
+    pub name: Name,
+    pub values: [Name; VALUES],
+    pub count: usize,
+}
+
+/// A literal: `slot *= value` (becomes) or `slot |= value`, plain or under NOT.
+#[repr(C)]
+#[derive(Clone, Copy, PartialEq, Eq, Debug, Default)]
+pub struct Literal {
+    pub becomes: bool,
+    pub negated: bool,
+    pub slot: u8,
+    pub value: u8,
+}
+
+/// An assignment: `slot := value`.
+#[repr(C)]
+#[derive(Clone, Copy, PartialEq, Eq, Debug, Default)]
+pub struct Assignment {
+    pub slot: u8,
+    pub value: u8,
+}
+
+/// A rule: its trigger, its literals and assignments with the numbers used, its stratum.
+#[repr(C)]
+#[derive(Clone, Copy, PartialEq, Eq, Debug, Default)]
+pub struct Rule {
+    pub slot: u8,
+    pub value: u8,
+    pub literals: [Literal; LITERALS],
+    pub tested: usize,
+    pub assignments: [Assignment; ASSIGNMENTS],
+    pub assigned: usize,
+    pub stratum: u8,
+}
+
+/// The table: slots and rules with the numbers used.
+#[repr(C)]
+#[derive(Clone, Copy, PartialEq, Eq, Debug)]
+pub struct Table {
+    pub slots: [Slot; SLOTS],
+    pub width: usize,
+    pub rules: [Rule; RULES],
+    pub count: usize,
+}
+
+impl Table {
+    /// The table without slots or rules.
+    pub fn empty() -> Box<Table> {
+        Box::new(Table { slots: [Slot::default(); SLOTS], width: 0, rules: [Rule::default(); RULES], count: 0 })
+    }
+}
+
+/// An unpacked card: a value for each slot, 0 for no value, and how many slots it counts.
+#[repr(C)]
+#[derive(Clone, Copy)]
+pub struct Card {
+    pub values: [u8; SLOTS],
+    pub count: usize,
+}
+
+/// A change of a slot to a value.
+#[repr(C)]
+#[derive(Clone, Copy)]
+pub struct Change {
+    pub slot: u8,
+    pub value: u8,
+}
+
+/// An unpacked slip: its changes, and how many it counts.
+#[repr(C)]
+#[derive(Clone, Copy)]
+pub struct Slip {
+    pub changes: [Change; SLOTS],
+    pub count: usize,
+}
+
+/// Slips answered and slips refused.
+#[repr(C)]
+#[derive(Clone, Copy, PartialEq, Eq, Debug, Default)]
+pub struct Tally {
+    pub answered: u16,
+    pub refused: u16,
+}
+
+/// A refusal by its number and its second number.
+#[derive(Clone, Copy, PartialEq, Eq, Debug)]
+pub struct Refusal {
+    pub number: u8,
+    pub second: usize,
+}
+
+/// What the two numbers of a result say: what is given where the first is 0, else the refusal.
+pub fn given<A>(number: u8, second: usize, given: A) -> Result<A, Refusal> {
+    if number == 0 {
+        Ok(given)
+    } else {
+        Err(Refusal { number, second })
+    }
+}
+
+/// The result of a reading.
+#[repr(C)]
+pub struct RlRead {
+    pub number: u8,
+    pub second: usize,
+    pub table: Table,
+}
+
+/// Where a name stands, or 31.
+#[repr(C)]
+pub struct RlName {
+    pub number: u8,
+    pub start: usize,
+    pub size: usize,
+}
+
+/// The result of unpacking a card.
+#[repr(C)]
+pub struct RlCard {
+    pub number: u8,
+    pub second: usize,
+    pub card: Card,
+}
+
+/// The result of unpacking a slip.
+#[repr(C)]
+pub struct RlSlip {
+    pub number: u8,
+    pub second: usize,
+    pub slip: Slip,
+}
+
+/// The result of packing.
+#[repr(C)]
+pub struct RlPacked {
+    pub number: u8,
+    pub second: usize,
+    pub length: usize,
+}
+
+/// The result of a response.
+#[repr(C)]
+pub struct RlResponse {
+    pub number: u8,
+    pub second: usize,
+    pub length: usize,
+    pub fired: usize,
+    pub tally: Tally,
+}
+
+extern "C" {
+    pub fn rl_read(text: *const u8, length: usize) -> RlRead;
+    pub fn rl_is_sound(table: Table) -> bool;
+    pub fn rl_slot_name(text: *const u8, length: usize, table: Table, slot: usize) -> RlName;
+    pub fn rl_value_name(text: *const u8, length: usize, table: Table, slot: usize, value: usize) -> RlName;
+    pub fn rl_unpack_card(table: Table, bytes: *const u8, length: usize) -> RlCard;
+    pub fn rl_unpack_slip(table: Table, bytes: *const u8, length: usize) -> RlSlip;
+    pub fn rl_pack_card(table: Table, card: Card, out: *mut u8, length: usize) -> RlPacked;
+    pub fn rl_pack_slip(table: Table, slip: Slip, out: *mut u8, length: usize) -> RlPacked;
+    pub fn rl_respond(
+        table: Table,
+        tally: Tally,
+        card: *const u8,
+        card_length: usize,
+        slip: *const u8,
+        slip_length: usize,
+        new_card: *mut u8,
+        new_card_length: usize,
+        changes: *mut u8,
+        changes_length: usize,
+        fired: *mut u8,
+        fired_length: usize,
+    ) -> RlResponse;
+}
