@@ -1,7 +1,7 @@
 #!/usr/bin/env python3
-"""The stored texts of the crates token_cases and tokens, and the tokens that they should write, by a tokenizer of its own made from document 01.
+"""The stored texts of the crate token_cases, and the tokens that it should write, by a tokenizer of its own made from document 01.
 
-  tests/token_cases.py          writes crates/token_cases/stdin and stdout, crates/tokens/stdin and stdout
+  tests/token_cases.py          writes crates/token_cases/stdin and stdout
   tests/token_cases.py --check  says whether they are what it would write; exit status 1 where they are not
 """
 import random
@@ -66,8 +66,6 @@ def stored():
         written += [b'text %d' % number] + tokens(text)
     yield 'crates/token_cases/stdin', cases
     yield 'crates/token_cases/stdout', b'\n'.join(written) + b'\n'
-    yield 'crates/tokens/stdin', CASE_C
-    yield 'crates/tokens/stdout', b'\n'.join(tokens(CASE_C)) + b'\n'
 
 
 if __name__ == '__main__':
