@@ -6,7 +6,7 @@ use mathlib.Core.Path.{_≡_, refl}
 use mathlib.Core.Bool.{true, false}
 use mathlib.Core.List.{List, [], _∷_, _++_}
 use Rattle.laws.specs.Quoted.{bytes-from, bytes}
-use Rattle.text.specs.Classes.{class-of}
+use Rattle.classes.specs.Classes.{class-of}
 use Rattle.text.specs.Tokens.{Name, reserved, mark-of, run-token, run, token-here, more-bytes, tokens-from, tokens}
 use Rattle.grammar.specs.Limits.{max-text, max-slots, max-values, max-rules, max-literals, max-assignments}
 use Rattle.grammar.specs.Files.{Slot}

@@ -9,7 +9,7 @@ use lib.Dec.{eqb, ltb}
 use lib.ListN.{length, take, drop, getD, length-drop, take-append-drop}
 use lib.Seq.{length-take-le}
 use borrow.Author.Tests.{eqb-true, eqb-false, ne-eqb, ltb-true}
-use Rattle.text.specs.Classes.{one-of, between, class-of}
+use Rattle.classes.specs.Classes.{one-of, between, class-of}
 use Rattle.text.specs.Tokens.{word, long, bad, run, run-token, word-or-name, same-letters, one-further, place, reserved, mark-of, token-here, more-bytes, tokens-from, tokens}
 use Rattle.text.specs.Covering.{marks, spelling, Spells, Covers, done, white, token}
 use Rattle.text.proofs.Cut.{bytes-le}

@@ -9,7 +9,7 @@ use lib.Dec.{eqb, ltb}
 use borrow.Author.Tests.{ne-eqb}
 use lib.ListN.{length, length-drop, take, drop}
 use lib.Seq.{take-append-le, length-take-le}
-use Rattle.text.specs.Classes.{one-of, class-of}
+use Rattle.classes.specs.Classes.{one-of, class-of}
 use Rattle.text.specs.Tokens.{Token, word, long, bad, OPEN, CLOSE, COMMA, SEMICOLON, BECOMES, HAS, GETS, reserved, mark-of, same-letters, one-further, place, word-or-name, run-token, run, equals-first, token-here, more-bytes, unless-white, tokens-from, tokens}
 use Rattle.text.specs.Cut.{moved, No-semi, is-semi, Free, before-semi, past-semi, Token-stands, All-stand}
 use Rattle.laws.proofs.Lists.{drop-next}

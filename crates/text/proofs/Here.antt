@@ -10,7 +10,7 @@ use lib.Dec.{eqb}
 use lib.ListN.{length, take, drop, getD, drop-of-length-le, length-drop}
 use lib.Seq.{drop-cons, length-take-le}
 use borrow.Author.Tests.{eq-eqb, ne-eqb, lt-ltb, le-ltb}
-use Rattle.text.specs.Classes.{class-of}
+use Rattle.classes.specs.Classes.{class-of}
 use Rattle.text.specs.Tokens.{Name, Token, run, run-token, place, reserved, mark-of, equals-first, token-here, more-bytes}
 use Rattle.text.specs.Next.{white, coded, next-from, next-at}
 use Rattle.text.specs.declared.Next.{Next}

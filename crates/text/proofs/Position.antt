@@ -10,7 +10,7 @@ use lib.ListN.{length, take, drop, length-drop}
 use lib.Seq.{drop-drop, length-take-le}
 use borrow.Author.Tests.{eqb-true, ltb-false}
 use Rattle.laws.proofs.Lists.{drop-next}
-use Rattle.text.specs.Classes.{class-of}
+use Rattle.classes.specs.Classes.{class-of}
 use Rattle.text.specs.Tokens.{Token, word, name, long, bad, run, run-token, word-or-name, place, reserved, mark-of, equals-first, token-here, more-bytes, tokens-from}
 use Rattle.text.specs.Next.{white, coded, next-from, next-at, tokens-at, shown, Lies}
 use Rattle.text.specs.Cut.{Token-stands}

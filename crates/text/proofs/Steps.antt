@@ -10,7 +10,7 @@ use lib.Dec.{eqb}
 use lib.ListN.{length, drop, getD, drop-of-length-le}
 use lib.Seq.{drop-cons}
 use borrow.Author.Tests.{ne-eqb}
-use Rattle.text.specs.Classes.{one-of, class-of}
+use Rattle.classes.specs.Classes.{one-of, class-of}
 use Rattle.text.specs.Tokens.{Name, run, same-letters, one-further, place, word-or-name}
 use Rattle.text.specs.Next.{white, coded}
 use Rattle.text.specs.declared.Token.the-variants as v

@@ -3,7 +3,7 @@ use Prim.Native.Nat.{ℕ, suc, _+_, _<_}
 use mathlib.Core.Path.{_≡_}
 use mathlib.Core.List.{List, [], _∷_, _++_}
 use lib.ListN.{length, getD}
-use Rattle.text.specs.Classes.{class-of}
+use Rattle.classes.specs.Classes.{class-of}
 use Rattle.text.specs.Tokens.{Token, word, name, long, bad, reserved}
 
 -- The marks in the order of their numbers: `{ } , ; *= |= :=`.

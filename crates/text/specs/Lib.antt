@@ -1,4 +1,3 @@
-pub mod Classes
 pub mod Tokens
 pub mod Next
 pub mod Covering

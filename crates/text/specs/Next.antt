@@ -5,7 +5,7 @@ use mathlib.Core.Bool.{cond}
 use mathlib.Core.List.{List, [], _∷_}
 use lib.Dec.{eqb}
 use lib.ListN.{length, take, drop}
-use Rattle.text.specs.Classes.{class-of}
+use Rattle.classes.specs.Classes.{class-of}
 use Rattle.text.specs.Tokens.{Name, Token, word, name, long, bad, token-here, more-bytes, tokens-from}
 use Rattle.text.specs.declared.Next.{Next}
 use Rattle.text.specs.declared.Token as code

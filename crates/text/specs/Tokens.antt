@@ -4,7 +4,7 @@ use mathlib.Core.Bool.{Bool, true, false, cond}
 use mathlib.Core.List.{List, [], _∷_}
 use lib.Dec.{eqb, ltb}
 use lib.ListN.{length, take}
-use Rattle.text.specs.Classes.{one-of, class-of}
+use Rattle.classes.specs.Classes.{one-of, class-of}
 
 -- A name: the place of its first byte in the text, and its bytes.
 pub record Name : Type 0 where

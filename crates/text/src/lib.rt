@@ -3,11 +3,9 @@ ghost use mathlib.Core.Path.{_≡_};
 ghost use mathlib.Core.Bool.{cond};
 ghost use Prim.Native.Nat.{ℕ, _+_, _-_, _≤_};
 ghost use lib.ListN.{length, take, drop};
-ghost use Rattle.text.specs.Classes.{Classes};
+ghost use Rattle.classes.specs.Classes.{Classes};
 ghost use Rattle.text.specs.Tokens.{run, run-token, mark-of, place, reserved, same-letters};
 ghost use Rattle.text.specs.Next.{white, coded, next-at};
-
-pub mod classes;
 
 // The numbers of the reserved words and marks.
 pub const SLOT: u8 = 1;

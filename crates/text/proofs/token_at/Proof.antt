@@ -7,7 +7,7 @@ use mathlib.Core.List.{List}
 use mathlib.Core.Logic.{⊎-elim}
 use lib.ListN.{length, drop, getD, length-drop}
 use borrow.Author.Needs.{needs}
-use Rattle.text.specs.Classes.{class-of}
+use Rattle.classes.specs.Classes.{class-of}
 use Rattle.text.proofs.Cut.{run-le}
 use Rattle.text.proofs.Here as here
 use Rattle.text.proofs.token_at.Statement.{statement}

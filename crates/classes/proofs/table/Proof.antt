@@ -1,4 +1,4 @@
--- `text::classes::table` meets its contract: the class table passes the rule's test at each of its 256 places, computed once.
+-- `classes::table` meets its contract: the class table passes the rule's test at each of its 256 places, computed once.
 -- Assumes nothing.
 use mathlib.Core.Path.{_≡_, refl}
 use mathlib.Core.List.{List, [], _∷_}
@@ -8,9 +8,9 @@ use native.Mathlib.Omega.{arith}
 use lib.Dec.{T, eqb, eqb→eq}
 use lib.ListN.{length, getD}
 use Rattle.laws.proofs.Tables.{every, at}
-use Rattle.text.specs.Classes.{class-of}
-use Rattle.text.proofs.classes.table.Statement.{statement}
-use Rattle.text.proofs.classes.table.Tie as tie
+use Rattle.classes.specs.Classes.{class-of}
+use Rattle.classes.proofs.table.Statement.{statement}
+use Rattle.classes.proofs.table.Tie as tie
 
 -- The entries of the table.
 entries : List ℕ

@@ -1,6 +1,6 @@
 // The classes of bytes: a table of 256, one for each byte, that steers the reader of rule text.
 ghost use mathlib.Core.Path.{_≡_};
-ghost use Rattle.text.specs.Classes.{class-of, Classes};
+ghost use Rattle.classes.specs.Classes.{class-of, Classes};
 
 pub const WHITE: u8 = 1;
 

@@ -1,9 +1,9 @@
--- `text::classes::class_of` meets its contract.
+-- `classes::class_of` meets its contract.
 -- Assumes nothing.
 use Prim.Native.Nat.{_<_}
 use borrow.Author.Needs.{needs}
-use Rattle.text.proofs.classes.class_of.Statement.{statement}
-use Rattle.text.proofs.classes.class_of.Tie as tie
+use Rattle.classes.proofs.class_of.Statement.{statement}
+use Rattle.classes.proofs.class_of.Tie as tie
 
 element-copy-out-result : tie.Need-element-copy-out-result
 element-copy-out-result c = search needs
