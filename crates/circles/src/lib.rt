@@ -19,13 +19,6 @@ const WORDS: usize = 8;
 // The words of all rows, one row for each pair.
 const LINKS: usize = 4096;
 
-// Whether a literal binds strata: `*=` does, plain or under NOT; `|=` does not.
-pub fn binds(l: Literal) -> bool
-    ensures { λ b. ⌜ b ≡ l .becomes ⌝ }
-{
-    l.becomes
-}
-
 // Whether a link leads from the pair at p to the pair at q.
 fn linked(links: &[u64; LINKS], p: usize, q: usize) -> bool
     requires { ⌜ (p < pair-places) × (q < pair-places) ⌝ }
@@ -95,7 +88,7 @@ fn link_tested(r: Rule, p: usize, links: &mut [u64; LINKS])
     'literals: while j < m {
         let l = r.literals[j];
         j += 1;
-        if !binds(l) {
+        if !table::binds(l) {
             continue 'literals;
         }
         let s = l.slot;
@@ -161,7 +154,7 @@ fn is_circled(r: Rule, links: &[u64; LINKS]) -> bool
     'literals: while j < m {
         let l = r.literals[j];
         j += 1;
-        if !binds(l) {
+        if !table::binds(l) {
             continue 'literals;
         }
         let s = l.slot;

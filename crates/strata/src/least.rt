@@ -31,7 +31,7 @@ pub fn tested_high(r: Rule, high: &[usize; PAIRS]) -> usize
     'literals: while j < m {
         let l = r.literals[j];
         j += 1;
-        if !circles::binds(l) {
+        if !table::binds(l) {
             continue 'literals;
         }
         let s = l.slot;

@@ -134,6 +134,13 @@ pub fn place(slot: u8, value: u8) -> usize
     s * ROW + v
 }
 
+// Whether a literal binds strata: `*=` does, plain or under NOT; `|=` does not.
+pub fn binds(l: Literal) -> bool
+    ensures { λ b. ⌜ b ≡ l .becomes ⌝ }
+{
+    l.becomes
+}
+
 // The part of the text where a name stands; `code` gets 0, or 31 with an empty part where the name stands outside the text.
 fn stretch<'a>(text: &'a [u8], name: Name, code: &mut u8) -> &'a [u8]
     ensures { λ r. ⌜ (now (code .exit) ≡ show-name (now (text .entry)) name .code) × (now r ≡ show-name (now (text .entry)) name .part) ⌝ }
