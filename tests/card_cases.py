@@ -1,7 +1,7 @@
 #!/usr/bin/env python3
-"""The stored cases of the crate card_cases, and what it should write of them, by a reckoning of its own made from document 01.
+"""The stored cases of cards and slips, and what the library should say of them, by a reckoning of its own made from document 01.
 
-  tests/card_cases.py          writes crates/card_cases/stdin and stdout
+  tests/card_cases.py          writes tests/stored/cards/input and expected
   tests/card_cases.py --check  says whether they are what it would write; exit status 1 where they are not
 
 A case is (kind, counts, rest): 0 unpacks a card and 1 a slip, where rest is the bytes; 2 packs a card and 3 a slip, where rest is
@@ -233,10 +233,9 @@ def cases():
 def stored():
     """Each file with what it should hold."""
     all_cases = list(cases())
-    stdin = len(all_cases).to_bytes(2, 'big') + b''.join(stored_case(c) for c in all_cases)
-    assert len(stdin) <= 65536
-    yield 'crates/card_cases/stdin', stdin
-    yield 'crates/card_cases/stdout', ''.join('case %d%s\n' % (i + 1, written(c)) for i, c in enumerate(all_cases)).encode()
+    given = len(all_cases).to_bytes(2, 'big') + b''.join(stored_case(c) for c in all_cases)
+    yield 'tests/stored/cards/input', given
+    yield 'tests/stored/cards/expected', ''.join('case %d%s\n' % (i + 1, written(c)) for i, c in enumerate(all_cases)).encode()
 
 
 if __name__ == '__main__':

@@ -1,7 +1,7 @@
 #!/usr/bin/env python3
-"""The stored texts of the crate read_cases, and what their reading should give, by a reader of its own made from document 01 and the appendix of the RL paper.
+"""The stored texts, and what their reading should give, by a reader of its own made from document 01 and the appendix of the RL paper.
 
-  tests/read_cases.py          writes crates/read_cases/stdin and stdout
+  tests/read_cases.py          writes tests/stored/texts/input and expected
   tests/read_cases.py --check  says whether they are what it would write; exit status 1 where they are not
 """
 import random
@@ -208,11 +208,10 @@ def stored():
     for number, text in enumerate(texts(), 1):
         cases += len(text).to_bytes(2, 'big') + text
         written += [b'text %d' % number] + reading(text)
-    assert len(cases) <= 65536
     for size in (65535, 65536):
         written += reading(b' ' * size)
-    yield 'crates/read_cases/stdin', cases
-    yield 'crates/read_cases/stdout', b'\n'.join(written) + b'\n'
+    yield 'tests/stored/texts/input', cases
+    yield 'tests/stored/texts/expected', b'\n'.join(written) + b'\n'
 
 
 if __name__ == '__main__':

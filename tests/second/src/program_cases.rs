@@ -23,7 +23,7 @@ pub struct Case {
 }
 
 /// The names of the files.
-pub const NAMES: [&str; 3] = ["rules.txt", "card.bin", "slip.bin"];
+const NAMES: [&str; 3] = ["rules.txt", "card.bin", "slip.bin"];
 
 /// A case with all its files.
 fn case(text: &str, card: &[u8], slip: &[u8]) -> Case {
@@ -113,17 +113,18 @@ pub fn folder(at: usize) -> String {
     format!("c{at:02}")
 }
 
-/// What the program prints for a case; a name is shown with its folder.
-fn printed(at: usize, case: &Case) -> String {
+/// What the program prints in the folder of a case.
+fn printed(case: &Case) -> String {
     let absent = case.files.iter().zip(NAMES).find(|(file, _)| file.is_none());
     match (absent, &case.files) {
-        (Some((_, name)), _) => format!("unread {}/{name}\n", folder(at)),
+        (Some((_, name)), _) => format!("unread {name}\n"),
         (None, [Some(text), Some(card), Some(slip)]) => listing(text, card, slip),
         (None, _) => unreachable!("no file is absent"),
     }
 }
 
-/// The output over all cases.
-pub fn output() -> String {
-    cases().iter().enumerate().map(|(at, case)| format!("case {at}\n{}", printed(at, case))).collect()
+/// What stands in the folder of a case: each file by its name, and what the program prints as `expected`.
+pub fn files(case: &Case) -> Vec<(&'static str, Option<Vec<u8>>)> {
+    let expected = ("expected", Some(printed(case).into_bytes()));
+    NAMES.into_iter().zip(case.files.clone()).chain([expected]).collect()
 }

@@ -1,15 +1,10 @@
-//! Texts and readings in the form of the project's program `read_cases`: two bytes of length before each text, lines for what each comes to.
+//! The stored texts, two bytes of length before each, and the lines of what an engine says of them.
 
-use crate::gen::{any_file, Rng};
-use crate::read::read_rules;
-use crate::strata::strata;
-use crate::table::{Name, Rule, SlotLine};
-
-/// The most bytes that the program takes.
-const INPUT: usize = 65_536;
+use crate::engine::Engine;
+use crate::table::{Name, RulePlace, Table, VALUES};
 
 /// The texts in an input.
-pub fn texts(mut input: &[u8]) -> Vec<&[u8]> {
+fn texts(mut input: &[u8]) -> Vec<&[u8]> {
     let mut found = Vec::new();
     while let [high, low, rest @ ..] = input {
         let (text, after) = rest.split_at(usize::from(*high) * 256 + usize::from(*low));
@@ -19,67 +14,46 @@ pub fn texts(mut input: &[u8]) -> Vec<&[u8]> {
     found
 }
 
-/// An input of generated texts, as many as there is room for.
-pub fn generated(seed: u64) -> Vec<u8> {
-    let mut rng = Rng::new(seed);
-    let mut input = Vec::new();
-    loop {
-        let text = any_file(&mut rng).text;
-        if input.len() + 2 + text.len() > INPUT {
-            return input;
-        }
-        input.extend((text.len() as u16).to_be_bytes());
-        input.extend(text);
-    }
-}
-
-/// The line of a slot: its name and its values' names.
-fn slot_line(text: &[u8], line: &SlotLine) -> Vec<u8> {
-    let word = |name: &Name| [b" ", &text[name.start..name.start + name.size]].concat();
-    let words: Vec<Vec<u8>> = std::iter::once(&line.name).chain(&line.values).map(word).collect();
+/// The line of a slot: its name and the names of the values that it has, cut from the text by their places.
+fn slot_line(engine: &mut dyn Engine, text: &[u8], table: &Table, slot: u8) -> Vec<u8> {
+    let word = |name: Name| [b" ", &text[name.start..name.start + name.size]].concat();
+    let name = engine.slot_name(text, table, slot);
+    let values = (1..=VALUES as u8).map(|value| engine.value_name(text, table, slot, value));
+    let words: Vec<Vec<u8>> = std::iter::once(name).chain(values).flatten().map(word).collect();
     [b"slot".to_vec(), words.concat(), b"\n".to_vec()].concat()
 }
 
 /// The line of a rule: stratum, trigger, literals, assignments.
-fn rule_line(stratum: u8, rule: &Rule) -> String {
-    let literals = rule.literals.iter().map(|literal| {
+fn rule_line(rule: &RulePlace) -> String {
+    let literals = rule.literals[..rule.tested].iter().map(|literal| {
         let (becomes, negated) = (u8::from(literal.becomes), u8::from(literal.negated));
-        format!(" : {becomes} {negated} {} {}", literal.pair.0, literal.pair.1)
+        format!(" : {becomes} {negated} {} {}", literal.slot, literal.value)
     });
-    let assignments = rule.assignments.iter().map(|pair| format!(" = {} {}", pair.0, pair.1));
+    let assignments = rule.assignments[..rule.assigned].iter().map(|to| format!(" = {} {}", to.slot, to.value));
     let tail: String = literals.chain(assignments).collect();
-    format!("rule {stratum} {} {}{tail}\n", rule.trigger.0, rule.trigger.1)
+    format!("rule {} {} {}{tail}\n", rule.stratum, rule.slot, rule.value)
 }
 
-/// The lines of a file as read, or of 18.
-fn file_lines(text: &[u8], lines: &[SlotLine], rules: &[Rule]) -> Vec<u8> {
-    match strata(rules) {
-        Err(lowest) => format!("refused 18 {lowest}\n").into_bytes(),
-        Ok(strata) => {
-            let mut written = format!("accepted {} {}\n", lines.len(), rules.len()).into_bytes();
-            lines.iter().for_each(|line| written.extend(slot_line(text, line)));
-            strata.iter().zip(rules).for_each(|(stratum, rule)| written.extend(rule_line(*stratum, rule).into_bytes()));
-            written
-        }
-    }
+/// The lines of one text's reading: the outcome, then the slots and rules of the table.
+fn reading(engine: &mut dyn Engine, text: &[u8]) -> Vec<u8> {
+    let (refused, table) = engine.read(text);
+    let outcome = match refused {
+        Some(why) => format!("refused {} {}\n", why.number, why.second),
+        None => format!("accepted {} {}\n", table.width, table.count),
+    };
+    let slots: Vec<Vec<u8>> = (0..table.width as u8).map(|slot| slot_line(engine, text, &table, slot)).collect();
+    let rules: String = table.rules[..table.count].iter().map(rule_line).collect();
+    [outcome.into_bytes(), slots.concat(), rules.into_bytes()].concat()
 }
 
-/// The lines of one text's reading.
-fn reading(text: &[u8]) -> Vec<u8> {
-    match read_rules(text) {
-        Err(why) => format!("refused {} {}\n", why.number, why.second).into_bytes(),
-        Ok((lines, rules)) => file_lines(text, &lines, &rules),
-    }
-}
-
-/// What the program should write for an input: each text's reading, then those of the longest text of white space and of one byte more.
-pub fn output(input: &[u8]) -> Vec<u8> {
+/// The lines for an input: each text's reading, then those of the longest text of white space and of one byte more.
+pub fn output(engine: &mut dyn Engine, input: &[u8]) -> Vec<u8> {
     let mut written = Vec::new();
     for (at, text) in texts(input).iter().enumerate() {
         written.extend(format!("text {}\n", at + 1).into_bytes());
-        written.extend(reading(text));
+        written.extend(reading(engine, text));
     }
-    written.extend(reading(&[b' '; 65_535]));
-    written.extend(reading(&[b' '; 65_536]));
+    written.extend(reading(engine, &[b' '; 65_535]));
+    written.extend(reading(engine, &[b' '; 65_536]));
     written
 }

@@ -1,15 +1,21 @@
-//! What the second engine makes of the project's stored texts and tables is what is stored.
+//! What the second engine makes of the project's stored texts, tables and folders is what is stored.
 
-use std::path::Path;
+use std::fs;
+use std::path::{Path, PathBuf};
 
+use second::engine::Second;
 use second::{program_cases, read_lines, table_lines};
 
-/// Holds the output for a crate's stored input to the stored output.
-fn held(name: &str, output: fn(&[u8]) -> Vec<u8>) {
-    let folder = Path::new(env!("CARGO_MANIFEST_DIR")).join("../../crates").join(name);
+/// A path of the repository.
+fn path(name: &str) -> PathBuf {
+    Path::new(env!("CARGO_MANIFEST_DIR")).join("../..").join(name)
+}
+
+/// Holds the output for a stored input to the stored output.
+fn held(input: &str, expected: &str, output: impl Fn(&[u8]) -> Vec<u8>) {
     let words = |bytes: &[u8]| String::from_utf8_lossy(bytes).into_owned();
-    let given = words(&output(&std::fs::read(folder.join("stdin")).unwrap()));
-    let wanted = words(&std::fs::read(folder.join("stdout")).unwrap());
+    let given = words(&output(&fs::read(path(input)).unwrap()));
+    let wanted = words(&fs::read(path(expected)).unwrap());
     let differing = given.lines().zip(wanted.lines()).find(|(given, wanted)| given != wanted);
     assert_eq!(differing, None);
     assert_eq!(given.len(), wanted.len());
@@ -17,19 +23,18 @@ fn held(name: &str, output: fn(&[u8]) -> Vec<u8>) {
 
 #[test]
 fn stored_texts_read_as_stored() {
-    held("read_cases", read_lines::output);
+    let output = |input: &[u8]| read_lines::output(&mut Second, input);
+    held("tests/stored/texts/input", "tests/stored/texts/expected", output);
 }
 
 #[test]
 fn stored_tables_are_tested_as_stored() {
-    held("strata_cases", table_lines::output);
+    held("crates/strata_cases/stdin", "crates/strata_cases/stdout", table_lines::output);
 }
 
 #[test]
-fn generated_inputs_are_of_the_stored_form() {
+fn generated_tables_are_of_the_stored_form() {
     for seed in 1..4 {
-        let texts = read_lines::generated(seed);
-        assert!(read_lines::output(&texts).len() > 1_000);
         let tables = table_lines::generated(seed);
         assert!(table_lines::output(&tables).len() > 1_000);
     }
@@ -37,12 +42,13 @@ fn generated_inputs_are_of_the_stored_form() {
 
 #[test]
 fn stored_cases_of_the_program_are_as_stored() {
-    let stored = Path::new(env!("CARGO_MANIFEST_DIR")).join("../../crates/rl_cases");
-    for (at, case) in program_cases::cases().iter().enumerate() {
-        for (file, name) in case.files.iter().zip(program_cases::NAMES) {
-            let kept = std::fs::read(stored.join("data").join(program_cases::folder(at)).join(name)).ok();
-            assert_eq!(file.as_deref(), kept.as_deref(), "case {at}, {name}");
+    let stored = path("tests/stored/rl");
+    let cases = program_cases::cases();
+    assert_eq!(fs::read_dir(&stored).unwrap().count(), cases.len());
+    for (at, case) in cases.iter().enumerate() {
+        for (name, bytes) in program_cases::files(case) {
+            let kept = fs::read(stored.join(program_cases::folder(at)).join(name)).ok();
+            assert_eq!(bytes, kept, "case {at}, {name}");
         }
     }
-    assert_eq!(program_cases::output(), std::fs::read_to_string(stored.join("stdout")).unwrap());
 }

@@ -1,21 +1,21 @@
-//! Writes the stored cases of the project's program: `store_cases` fills crates/rl_cases/data and crates/rl_cases/stdout.
+//! Writes the stored cases of the project's program: `store_cases` fills tests/stored/rl.
 
 use std::fs;
 use std::path::Path;
 
-use second::program_cases::{cases, folder, output, NAMES};
+use second::program_cases::{cases, files, folder};
 
 fn main() -> std::io::Result<()> {
-    let stored = Path::new(env!("CARGO_MANIFEST_DIR")).join("../../crates/rl_cases");
-    let _ = fs::remove_dir_all(stored.join("data"));
+    let stored = Path::new(env!("CARGO_MANIFEST_DIR")).join("../stored/rl");
+    let _ = fs::remove_dir_all(&stored);
     for (at, case) in cases().iter().enumerate() {
-        let room = stored.join("data").join(folder(at));
+        let room = stored.join(folder(at));
         fs::create_dir_all(&room)?;
-        for (file, name) in case.files.iter().zip(NAMES) {
-            if let Some(bytes) = file {
+        for (name, bytes) in files(case) {
+            if let Some(bytes) = bytes {
                 fs::write(room.join(name), bytes)?;
             }
         }
     }
-    fs::write(stored.join("stdout"), output())
+    Ok(())
 }

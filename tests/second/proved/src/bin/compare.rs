@@ -1,4 +1,4 @@
-//! The comparison: `compare [--rounds N] [--seed S] [--out FOLDER]` compares the proved engine with the second; with `--program PATH` it compares that program's output instead, with `--reader PATH` the readings of the program `read_cases`, with `--tables PATH` the lines of the program `strata_cases`.
+//! The comparison: `compare [--rounds N] [--seed S] [--out FOLDER]` compares the proved engine with the second; with `--program PATH` it compares that program's output instead, with `--tables PATH` the lines of the program `strata_cases`.
 
 use std::path::{Path, PathBuf};
 use std::process::{exit, Command};
@@ -7,7 +7,7 @@ use proved::Proved;
 use second::compare::{compare_seeds, shrunk, store};
 use second::gen::{any_file, card, slip, Rng};
 use second::listing::listing;
-use second::{read_lines, table_lines};
+use second::table_lines;
 
 /// What the command line asks for.
 struct Asked {
@@ -15,13 +15,12 @@ struct Asked {
     seed: u64,
     out: Option<PathBuf>,
     program: Option<PathBuf>,
-    reader: Option<PathBuf>,
     tables: Option<PathBuf>,
 }
 
 /// Reads the command line.
 fn asked() -> Asked {
-    let mut asked = Asked { rounds: 8_000, seed: 1, out: None, program: None, reader: None, tables: None };
+    let mut asked = Asked { rounds: 8_000, seed: 1, out: None, program: None, tables: None };
     let mut words = std::env::args().skip(1);
     while let Some(word) = words.next() {
         let value = words.next().unwrap_or_default();
@@ -30,7 +29,6 @@ fn asked() -> Asked {
             "--seed" => asked.seed = value.parse().expect("--seed takes a number"),
             "--out" => asked.out = Some(value.into()),
             "--program" => asked.program = Some(value.into()),
-            "--reader" => asked.reader = Some(value.into()),
             "--tables" => asked.tables = Some(value.into()),
             _ => panic!("not known: {word}"),
         }
@@ -81,14 +79,11 @@ fn run_on(program: &Path, input: &[u8]) -> Vec<u8> {
     printed
 }
 
-/// The inputs of a program by seed, and what it should write for one.
-type Form = (fn(u64) -> Vec<u8>, fn(&[u8]) -> Vec<u8>);
-
-/// Compares the lines that a program writes for generated inputs; leaves the input of the first difference.
-fn try_lines(asked: &Asked, program: &Path, (generated, output): Form) -> bool {
+/// Compares the lines that a program writes for generated tables; leaves the input of the first difference.
+fn try_tables(asked: &Asked, program: &Path) -> bool {
     for seed in asked.seed..asked.seed + asked.rounds {
-        let input = generated(seed);
-        let (printed, wanted) = (run_on(program, &input), output(&input));
+        let input = table_lines::generated(seed);
+        let (printed, wanted) = (run_on(program, &input), table_lines::output(&input));
         if printed == wanted {
             continue;
         }
@@ -126,11 +121,10 @@ fn try_proved(asked: &Asked) -> bool {
 /// Compares what the command line asks for; the exit status is 1 where something differs that should not.
 fn main() {
     let asked = asked();
-    let good = match (&asked.program, &asked.reader, &asked.tables) {
-        (Some(program), _, _) => try_program(&asked, program),
-        (_, Some(program), _) => try_lines(&asked, program, (read_lines::generated, read_lines::output)),
-        (_, _, Some(program)) => try_lines(&asked, program, (table_lines::generated, table_lines::output)),
-        (None, None, None) => try_proved(&asked),
+    let good = match (&asked.program, &asked.tables) {
+        (Some(program), _) => try_program(&asked, program),
+        (_, Some(program)) => try_tables(&asked, program),
+        (None, None) => try_proved(&asked),
     };
     exit(i32::from(!good));
 }
