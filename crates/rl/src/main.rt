@@ -1,4 +1,6 @@
 // The program: the response to slip.bin on card.bin by rules.txt.
+mod desk;
+
 fn main() {
-    front::run_on(b"rules.txt", b"card.bin", b"slip.bin");
+    desk::run_on(b"rules.txt", b"card.bin", b"slip.bin");
 }

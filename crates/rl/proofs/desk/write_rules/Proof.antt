@@ -2,8 +2,8 @@
 -- Assumes nothing.
 use Prim.Native.Nat.{_-_}
 use borrow.Author.Needs.{needs}
-use Rattle.front.proofs.write_rules.Statement.{statement}
-use Rattle.front.proofs.write_rules.Tie as tie
+use Rattle.rl.proofs.desk.write_rules.Statement.{statement}
+use Rattle.rl.proofs.desk.write_rules.Tie as tie
 
 abbrev Inv-loop : tie.InvT-loop
 Inv-loop «record» t i₀ i = Unit

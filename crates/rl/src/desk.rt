@@ -1,4 +1,4 @@
-// What the program does, over the names of its three files, so that a program with many stored cases runs the same code.
+// What the program does, over the names of its three files.
 ghost use Prim.Native.Nat.{_≤_};
 use cards::Change;
 use cards::Slip;

@@ -4,8 +4,8 @@ use native.Mathlib.Omega.{arith}
 use mathlib.Core.Path.{sym}
 use lib.Seq.{length-take-le}
 use borrow.Author.Needs.{needs}
-use Rattle.front.proofs.write_response.Statement.{statement}
-use Rattle.front.proofs.write_response.Tie as tie
+use Rattle.rl.proofs.desk.write_response.Statement.{statement}
+use Rattle.rl.proofs.desk.write_response.Tie as tie
 
 slice-aggregate-respond : tie.Need-slice-aggregate-respond
 slice-aggregate-respond c = search needs

@@ -3,8 +3,8 @@
 use Prim.Native.Nat.{_-_, _≤_}
 use lib.ListN.{length}
 use borrow.Author.Needs.{needs}
-use Rattle.front.proofs.write_bytes.Statement.{statement}
-use Rattle.front.proofs.write_bytes.Tie as tie
+use Rattle.rl.proofs.desk.write_bytes.Statement.{statement}
+use Rattle.rl.proofs.desk.write_bytes.Tie as tie
 
 abbrev Inv-loop : tie.InvT-loop
 Inv-loop s i₀ i = i ≤ length s

@@ -2,8 +2,8 @@
 -- Assumes nothing.
 use Prim.Native.Nat.{_-_}
 use borrow.Author.Needs.{needs}
-use Rattle.front.proofs.write_changes.Statement.{statement}
-use Rattle.front.proofs.write_changes.Tie as tie
+use Rattle.rl.proofs.desk.write_changes.Statement.{statement}
+use Rattle.rl.proofs.desk.write_changes.Tie as tie
 
 abbrev Inv-loop : tie.InvT-loop
 Inv-loop text t slip i₀ i = Unit
