@@ -10,7 +10,7 @@ TOP = os.path.dirname(os.path.dirname(os.path.abspath(__file__)))
 ENTRY_POINTS = {
     'text': ['token_at'],
     'cursor': ['new', 'peek', 'advance', 'first', 'after'],
-    'table': ['slot_name', 'value_name'],
+    'names': ['slot_name', 'value_name'],
     'soundness': ['is_well_formed', 'is_sound'],
     'rule_file': ['read'],
     'unpacking': ['unpack_card', 'unpack_slip'],

@@ -11,7 +11,7 @@ use Rattle.table.specs.declared.Name.{Name}
 use Rattle.table.specs.declared.Slot.{Slot}
 use Rattle.table.specs.declared.Table.{Table}
 use Rattle.table.specs.Shape.{no-name, no-slot}
-use Rattle.table.specs.Names.{Showing, refused, has-slot, has-value, show-name, show-slot, show-value-of, show-value}
+use Rattle.names.specs.Names.{Showing, refused, has-slot, has-value, show-name, show-slot, show-value-of, show-value}
 use Rattle.library.specs.declared.RlName.{RlName}
 use Rattle.library.specs.Places.{nowhere, name-place, slot-place, value-place-in, value-place, ShowsPart}
 

@@ -9,7 +9,7 @@ use Rattle.table.specs.declared.Name.{Name}
 use Rattle.table.specs.declared.Slot.{Slot}
 use Rattle.table.specs.declared.Table.{Table}
 use Rattle.table.specs.Shape.{no-name, no-slot}
-use Rattle.table.specs.Names.{Showing, has-slot, has-value}
+use Rattle.names.specs.Names.{Showing, has-slot, has-value}
 use Rattle.library.specs.declared.RlName.{RlName}
 
 -- Refusal 31, with an empty stretch at the start of the text.

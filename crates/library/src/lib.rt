@@ -1,7 +1,7 @@
 // The entry points for programs in C and Rust: each hands on exactly what the function of the crate below says, with numbers where that has an enum.
 ghost use mathlib.Core.Path.{_≡_};
 ghost use lib.ListN.{length};
-ghost use Rattle.table.specs.Names.{show-slot, show-value};
+ghost use Rattle.names.specs.Names.{show-slot, show-value};
 ghost use Rattle.soundness.specs.Sound.{sound};
 ghost use Rattle.rule_file.specs.Whole.{reading};
 ghost use Rattle.cards.specs.Cards.{unpacked-card, unpacked-slip, packed-card, packed-slip, card-read, slip-read, packing-of, output-of};
@@ -128,7 +128,7 @@ pub extern "C" fn rl_slot_name(text: &[u8], t: Table, slot: usize) -> RlName
     ensures { λ r. ⌜ (r ≡ slot-place (length (now (text .entry))) t slot) × ShowsPart (now (text .entry)) r (show-slot (now (text .entry)) t slot) ⌝ }
 {
     let width = t.width;
-    if !table::has_slot(width, slot) {
+    if !names::has_slot(width, slot) {
         return RlName {
             number: 31,
             start: 0,
@@ -146,7 +146,7 @@ pub extern "C" fn rl_value_name(text: &[u8], t: Table, slot: usize, value: usize
     ensures { λ r. ⌜ (r ≡ value-place (length (now (text .entry))) t slot value) × ShowsPart (now (text .entry)) r (show-value (now (text .entry)) t slot value) ⌝ }
 {
     let width = t.width;
-    if !table::has_slot(width, slot) {
+    if !names::has_slot(width, slot) {
         return RlName {
             number: 31,
             start: 0,
@@ -155,7 +155,7 @@ pub extern "C" fn rl_value_name(text: &[u8], t: Table, slot: usize, value: usize
     }
     let s = t.slots[slot];
     let count = s.count;
-    if !table::has_value(count, value) {
+    if !names::has_value(count, value) {
         return RlName {
             number: 31,
             start: 0,

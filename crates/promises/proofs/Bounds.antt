@@ -21,7 +21,7 @@ use Rattle.model.proofs.Changes.{cause}
 use Rattle.model.proofs.Orders.{are-rules}
 use Rattle.model.proofs.Results.{value-in-right, slip-e, slip-rising, new-card-length, new-card-at}
 use Rattle.table.specs.Limits.{value-limit, row}
-use Rattle.table.proofs.Names.{slot-inside, value-inside}
+use Rattle.names.proofs.Names.{slot-inside, value-inside}
 use Rattle.soundness.specs.Sound.{has-pair}
 use Rattle.grammar.specs.Files.{Slot, File, no-slot, slot-counts}
 use Rattle.rule_file.proofs.Declared.{has-some, Declared}

@@ -24,8 +24,8 @@ use Rattle.table.specs.declared.Slot.{Slot}
 use Rattle.table.specs.Shape.{no-slot, no-name}
 use Rattle.table.specs.Empty.{empty-table}
 use Rattle.table.specs.Link.{value-counts}
-use Rattle.table.specs.Names.{Showing, has-slot, has-value, show-name, show-slot, show-value-of, show-value}
-use Rattle.table.specs.Names as names
+use Rattle.names.specs.Names.{Showing, has-slot, has-value, show-name, show-slot, show-value-of, show-value}
+use Rattle.names.specs.Names as names
 use Rattle.soundness.specs.Sound.{sound}
 use Rattle.strata.specs.Layered.{with-strata}
 use Rattle.reader.specs.Tables.{table-for}

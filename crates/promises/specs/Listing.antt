@@ -6,7 +6,7 @@ use Rattle.laws.specs.Tabulated.{tabulate}
 use Rattle.model.specs.Rules.{Pair}
 use Rattle.table.specs.declared.Table.{Table}
 use Rattle.table.specs.Link.{stratum-at}
-use Rattle.table.specs.Names.{show-slot, show-value}
+use Rattle.names.specs.Names.{show-slot, show-value}
 use Rattle.reader.specs.declared.Outcome as reader
 use Rattle.reader.specs.declared.Outcome.the-variants.{Accepted, Refused}
 use Rattle.rule_file.specs.Whole.{reading}

@@ -99,11 +99,11 @@ fn write_rules(t: Table, record: &[u8; RECORD]) {
 fn write_change(text: &[u8], t: Table, slot: usize, value: usize) {
     let mut code: u8 = 0;
     io::write_all(STDOUT_FILENO, b"change ");
-    io::write_all(STDOUT_FILENO, table::slot_name(text, t, slot, &mut code));
+    io::write_all(STDOUT_FILENO, names::slot_name(text, t, slot, &mut code));
     io::write_all(STDOUT_FILENO, b" ");
     io::write_all(
         STDOUT_FILENO,
-        table::value_name(text, t, slot, value, &mut code),
+        names::value_name(text, t, slot, value, &mut code),
     );
     io::write_all(STDOUT_FILENO, b"\n");
 }

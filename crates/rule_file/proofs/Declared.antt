@@ -24,7 +24,7 @@ use Rattle.model.specs.Orders.{no-rule}
 use Rattle.grammar.specs.Grammar.{RuleTree, ConditionTree, AssignTree, AssignmentListTree, AssignmentTree, TriggerTree, ValueListTree, LineTree}
 use Rattle.grammar.specs.Meaning.{Names, Means-condition, means-and, means-one, means-true, Means-assignment, means-assignment, Means-assignments, means-first, means-comma, Means-assign, means-alone, means-braces, Means-trigger, means-trigger, Means-rule, means-rule, Means-rules, no-rules, more-rules, Means-values, means-value, means-values, Means-line, means-line, Means-lines, no-lines, more-lines}
 use Rattle.table.specs.Limits.{slot-limit, value-limit, rule-limit, literal-limit, assignment-limit}
-use Rattle.table.specs.Names.{has-slot, has-value}
+use Rattle.names.specs.Names.{has-slot, has-value}
 use Rattle.soundness.specs.Sound.{has-pair}
 
 -- A slot has values, and no more than the limit.

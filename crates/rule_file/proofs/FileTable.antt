@@ -24,8 +24,8 @@ use Rattle.table.specs.Limits.{slot-limit, value-limit, rule-limit, literal-lim
 use Rattle.table.specs.Shape.{no-literal, no-assignment, no-rule, no-slot, no-name, LiteralShaped, AssignmentShaped, RuleShaped, SlotShaped, Shaped}
 use Rattle.table.specs.Empty.{unused-rule, unused-slot}
 use Rattle.table.specs.Link.{literal-of, assignment-of, rule-of, rules-of, value-counts}
-use Rattle.table.specs.Names.{has-slot}
-use Rattle.table.proofs.Names.{slot-inside, value-inside}
+use Rattle.names.specs.Names.{has-slot}
+use Rattle.names.proofs.Names.{slot-inside, value-inside}
 use Rattle.table.proofs.Link.{count-is}
 use lib.Seq.{getD-take}
 use Rattle.grammar.specs.Files as files

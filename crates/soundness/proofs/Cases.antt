@@ -15,7 +15,7 @@ use Rattle.table.specs.Limits.{slot-limit, value-limit, rule-limit, literal-lim
 use Rattle.table.specs.Shape.{no-literal, no-assignment, no-name}
 use Rattle.table.specs.Empty.{unused-rule, unused-slot, empty-table}
 use Rattle.table.specs.Link.{rules-of, carried-strata, stratum-at, value-counts}
-use Rattle.table.specs.Names.{has-slot, has-value}
+use Rattle.names.specs.Names.{has-slot, has-value}
 use Rattle.strata.specs.declared.Outcome.the-variants.{Layered, Circle}
 use Rattle.strata.specs.Layered.{rule-with-stratum, with-strata, layering}
 use Rattle.soundness.specs.Sound.{within-limits, slots-have-values, has-pair, named, names-its-own, assigns-once, carries-least, well-formed, sound}

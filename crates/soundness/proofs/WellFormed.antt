@@ -21,11 +21,11 @@ use Rattle.table.specs.declared.Table.{Table}
 use Rattle.table.specs.Limits.{slot-limit, value-limit, rule-limit, literal-limit, assignment-limit}
 use Rattle.table.specs.Shape.{no-literal, no-assignment, no-rule, no-slot, RuleShaped, Shaped}
 use Rattle.table.specs.Link.{literal-of, assignment-of, rule-of, literals-of, assignments-of, slots-of, used-rules, value-counts}
-use Rattle.table.specs.Names.{has-slot}
+use Rattle.names.specs.Names.{has-slot}
 use Rattle.table.specs.Flat.{Placed}
 use Rattle.table.specs.Fits.{RuleFits, TableFits}
 use Rattle.table.proofs.Link.{count-is}
-use Rattle.table.proofs.Names.{slot-inside, value-inside}
+use Rattle.names.proofs.Names.{slot-inside, value-inside}
 use Rattle.soundness.specs.Sound.{within-limits, slots-have-values, has-pair, named, names-its-own, assigns-once, well-formed, rule-right, carries-least, sound}
 use Rattle.soundness.proofs.RuleTests.{pair-lacking, pair-there}
 

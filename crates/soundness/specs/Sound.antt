@@ -16,7 +16,7 @@ use Rattle.table.specs.declared.Rule.{Rule}
 use Rattle.table.specs.declared.Table.{Table}
 use Rattle.table.specs.Limits.{slot-limit, value-limit, rule-limit, literal-limit, assignment-limit}
 use Rattle.table.specs.Link.{rule-of, assignments-of, slots-of, used-rules, value-counts, rules-of, stratum-at}
-use Rattle.table.specs.Names.{has-slot, has-value}
+use Rattle.names.specs.Names.{has-slot, has-value}
 
 -- It breaks no limit: 32 slots, 15 values for each, 255 rules, 8 literals and 4 assignments in each.
 unfoldable pub within-limits : Table → Bool

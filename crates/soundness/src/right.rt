@@ -22,12 +22,12 @@ fn has_pair(width: usize, counts: &[usize; SLOTS], slot: u8, value: u8) -> bool
     ensures { λ b. ⌜ b ≡ has-pair width (now (counts .entry)) (pair slot value) ⌝ }
 {
     let s = table::wide(slot);
-    if !table::has_slot(width, s) {
+    if !names::has_slot(width, s) {
         return false;
     }
     let count = counts[s];
     let v = table::wide(value);
-    table::has_value(count, v)
+    names::has_value(count, v)
 }
 
 // Whether it has the pairs of the literals used.

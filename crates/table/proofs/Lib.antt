@@ -1,6 +1,5 @@
 pub mod Shape
 pub mod Link
 pub mod Flat
-pub mod Names
 pub mod Fits
 pub mod Walks

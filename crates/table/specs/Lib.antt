@@ -3,5 +3,4 @@ pub mod Shape
 pub mod Empty
 pub mod Link
 pub mod Flat
-pub mod Names
 pub mod Fits

@@ -5,8 +5,8 @@ use mathlib.Core.Bool.{true}
 use Prim.Native.Nat.{_<_}
 use borrow.Author.Tests.{not-true, not-false}
 use Rattle.table.specs.Limits.{slot-limit}
-use Rattle.table.specs.Names.{has-slot}
-use Rattle.table.proofs.Names.{slot-inside}
+use Rattle.names.specs.Names.{has-slot}
+use Rattle.names.proofs.Names.{slot-inside}
 use Rattle.library.proofs.Places.{slot-there, slot-lacking, slot-shown}
 use native.Mathlib.Omega.{arith}
 use borrow.Author.Needs.{needs}

@@ -7,8 +7,8 @@ use lib.ListN.{getD}
 use borrow.Author.Tests.{not-true, not-false}
 use Rattle.table.specs.Limits.{slot-limit, value-limit}
 use Rattle.table.specs.Shape.{no-slot}
-use Rattle.table.specs.Names.{has-slot, has-value}
-use Rattle.table.proofs.Names.{slot-inside, value-inside}
+use Rattle.names.specs.Names.{has-slot, has-value}
+use Rattle.names.proofs.Names.{slot-inside, value-inside}
 use Rattle.library.proofs.Places.{value-slot-lacking, value-there, value-lacking, value-shown}
 use native.Mathlib.Omega.{arith}
 use borrow.Author.Needs.{needs}

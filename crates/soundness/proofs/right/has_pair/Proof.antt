@@ -3,8 +3,8 @@
 use mathlib.Core.Path.{_≡_, sym, _∙_}
 use Rattle.model.specs.Result.{pair}
 use borrow.Author.Tests.{not-true, not-false}
-use Rattle.table.specs.Names.{has-slot}
-use Rattle.table.proofs.Names.{slot-inside}
+use Rattle.names.specs.Names.{has-slot}
+use Rattle.names.proofs.Names.{slot-inside}
 use Rattle.soundness.proofs.RuleTests.{pair-lacking, pair-there}
 use mathlib.Core.Bool.{true}
 use native.Mathlib.Omega.{arith}

@@ -1,13 +1,13 @@
--- `table::stretch` meets its contract.
+-- `names::stretch` meets its contract.
 -- Assumes nothing.
 use mathlib.Core.Path.{refl}
 use mathlib.Core.Logic.{⊎-elim}
 use native.Mathlib.Nat.{add-sub-cancel-left}
-use Rattle.table.proofs.Names.{name-inside, name-outside}
+use Rattle.names.proofs.Names.{name-inside, name-outside}
 use native.Mathlib.Omega.{arith}
 use borrow.Author.Needs.{needs}
-use Rattle.table.proofs.stretch.Statement.{statement}
-use Rattle.table.proofs.stretch.Tie as tie
+use Rattle.names.proofs.stretch.Statement.{statement}
+use Rattle.names.proofs.stretch.Tie as tie
 
 add-end : tie.Need-add-end
 add-end c = search needs

@@ -1,12 +1,12 @@
--- `table::has_slot` meets its contract.
+-- `names::has_slot` meets its contract.
 -- Assumes nothing.
 use borrow.Author.Tests.{lt-ltb, le-ltb}
 use Rattle.laws.specs.Truth.{_∧ᵇ_}
 use Rattle.table.specs.Limits.{slot-limit}
-use Rattle.table.specs.Names.{has-slot}
+use Rattle.names.specs.Names.{has-slot}
 use native.Mathlib.Omega.{arith}
-use Rattle.table.proofs.has_slot.Statement.{statement}
-use Rattle.table.proofs.has_slot.Tie as tie
+use Rattle.names.proofs.has_slot.Statement.{statement}
+use Rattle.names.proofs.has_slot.Tie as tie
 
 returns : tie.Need-returns
 unfolding has-slot _∧ᵇ_

@@ -10,12 +10,12 @@ use borrow.Author.Tests.{le-leb, lt-leb}
 use Rattle.laws.specs.Truth.{_∧ᵇ_}
 use Rattle.laws.proofs.Truth.{and-l, and-r}
 use Rattle.laws.proofs.Equations.{from-true}
 use Rattle.table.specs.declared.Name.{Name}
 use Rattle.table.specs.declared.Slot.{Slot}
 use Rattle.table.specs.declared.Table.{Table}
 use Rattle.table.specs.Limits.{slot-limit, value-limit}
 use Rattle.table.specs.Shape.{no-name, no-slot}
-use Rattle.table.specs.Names.{refused, has-slot, has-value, show-name, show-slot, show-value-of, show-value}
+use Rattle.names.specs.Names.{refused, has-slot, has-value, show-name, show-slot, show-value-of, show-value}
 
 pub slot-inside : (width slot : ℕ) → has-slot width slot ≡ true → (slot < slot-limit) × (slot < width)
 unfolding has-slot

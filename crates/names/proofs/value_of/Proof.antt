@@ -1,16 +1,16 @@
--- `table::value_of` meets its contract.
+-- `names::value_of` meets its contract.
 -- Assumes nothing.
 use mathlib.Core.Path.{_≡_, refl, sym, _∙_}
 use mathlib.Core.Bool.{true}
 use Prim.Native.Nat.{_≤_}
 use borrow.Author.Tests.{not-true, not-false}
 use Rattle.table.specs.Limits.{value-limit}
-use Rattle.table.specs.Names.{has-value}
-use Rattle.table.proofs.Names.{value-inside, value-of-shown, value-of-lacking}
+use Rattle.names.specs.Names.{has-value}
+use Rattle.names.proofs.Names.{value-inside, value-of-shown, value-of-lacking}
 use native.Mathlib.Omega.{arith}
 use borrow.Author.Needs.{needs}
-use Rattle.table.proofs.value_of.Statement.{statement}
-use Rattle.table.proofs.value_of.Tie as tie
+use Rattle.names.proofs.value_of.Statement.{statement}
+use Rattle.names.proofs.value_of.Tie as tie
 
 there : (c : tie.Else1) → has-value (c .before .before .before .args .t2 .count) (c .before .before .before .args .value) ≡ true
 there c = sym (c .before .has-value .ensures) ∙ not-false (c .before .has-value .result) (c .if1 .left)

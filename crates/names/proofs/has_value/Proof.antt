@@ -1,12 +1,12 @@
--- `table::has_value` meets its contract.
+-- `names::has_value` meets its contract.
 -- Assumes nothing.
 use borrow.Author.Tests.{le-leb, lt-leb}
 use Rattle.laws.specs.Truth.{_∧ᵇ_}
 use Rattle.table.specs.Limits.{value-limit}
-use Rattle.table.specs.Names.{has-value}
+use Rattle.names.specs.Names.{has-value}
 use native.Mathlib.Omega.{arith}
-use Rattle.table.proofs.has_value.Statement.{statement}
-use Rattle.table.proofs.has_value.Tie as tie
+use Rattle.names.proofs.has_value.Statement.{statement}
+use Rattle.names.proofs.has_value.Tie as tie
 
 returns : tie.Need-returns
 unfolding has-value _∧ᵇ_
