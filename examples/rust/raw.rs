@@ -1,4 +1,4 @@
-//! The interface of the static library as C has it; include/rl.h says of each struct and function what it is.
+//! The interface of the static library as C has it, and its functions over slices; include/rl.h says of each struct and function what it is.
 
 /// The limits of a rule file.
 pub const SLOTS: usize = 32;
@@ -176,15 +176,15 @@ pub struct RlResponse {
 }
 
 extern "C" {
-    pub fn rl_read(text: *const u8, length: usize) -> RlRead;
-    pub fn rl_is_sound(table: Table) -> bool;
-    pub fn rl_slot_name(text: *const u8, length: usize, table: Table, slot: usize) -> RlName;
-    pub fn rl_value_name(text: *const u8, length: usize, table: Table, slot: usize, value: usize) -> RlName;
-    pub fn rl_unpack_card(table: Table, bytes: *const u8, length: usize) -> RlCard;
-    pub fn rl_unpack_slip(table: Table, bytes: *const u8, length: usize) -> RlSlip;
-    pub fn rl_pack_card(table: Table, card: Card, out: *mut u8, length: usize) -> RlPacked;
-    pub fn rl_pack_slip(table: Table, slip: Slip, out: *mut u8, length: usize) -> RlPacked;
-    pub fn rl_respond(
+    fn rl_read(text: *const u8, length: usize) -> RlRead;
+    fn rl_is_sound(table: Table) -> bool;
+    fn rl_slot_name(text: *const u8, length: usize, table: Table, slot: usize) -> RlName;
+    fn rl_value_name(text: *const u8, length: usize, table: Table, slot: usize, value: usize) -> RlName;
+    fn rl_unpack_card(table: Table, bytes: *const u8, length: usize) -> RlCard;
+    fn rl_unpack_slip(table: Table, bytes: *const u8, length: usize) -> RlSlip;
+    fn rl_pack_card(table: Table, card: Card, out: *mut u8, length: usize) -> RlPacked;
+    fn rl_pack_slip(table: Table, slip: Slip, out: *mut u8, length: usize) -> RlPacked;
+    fn rl_respond(
         table: Table,
         tally: Tally,
         card: *const u8,
@@ -198,4 +198,83 @@ extern "C" {
         fired: *mut u8,
         fired_length: usize,
     ) -> RlResponse;
+}
+
+// The functions over slices. Each is made where it is called, so that a program which calls none needs no library.
+
+/// Reads a rule text.
+#[inline]
+pub fn read(text: &[u8]) -> RlRead {
+    unsafe { rl_read(text.as_ptr(), text.len()) }
+}
+
+/// Whether a table is in order.
+#[inline]
+pub fn is_sound(table: &Table) -> bool {
+    unsafe { rl_is_sound(*table) }
+}
+
+/// Where a slot's name stands in the text.
+#[inline]
+pub fn slot_name(text: &[u8], table: &Table, slot: usize) -> RlName {
+    unsafe { rl_slot_name(text.as_ptr(), text.len(), *table, slot) }
+}
+
+/// Where the name of a slot's value stands in the text, values counted from 1.
+#[inline]
+pub fn value_name(text: &[u8], table: &Table, slot: usize, value: usize) -> RlName {
+    unsafe { rl_value_name(text.as_ptr(), text.len(), *table, slot, value) }
+}
+
+/// Unpacks bytes as a card.
+#[inline]
+pub fn unpack_card(table: &Table, bytes: &[u8]) -> RlCard {
+    unsafe { rl_unpack_card(*table, bytes.as_ptr(), bytes.len()) }
+}
+
+/// Unpacks bytes as a slip.
+#[inline]
+pub fn unpack_slip(table: &Table, bytes: &[u8]) -> RlSlip {
+    unsafe { rl_unpack_slip(*table, bytes.as_ptr(), bytes.len()) }
+}
+
+/// Packs a card into an output.
+#[inline]
+pub fn pack_card(table: &Table, card: Card, out: &mut [u8]) -> RlPacked {
+    unsafe { rl_pack_card(*table, card, out.as_mut_ptr(), out.len()) }
+}
+
+/// Packs a slip into an output.
+#[inline]
+pub fn pack_slip(table: &Table, slip: Slip, out: &mut [u8]) -> RlPacked {
+    unsafe { rl_pack_slip(*table, slip, out.as_mut_ptr(), out.len()) }
+}
+
+/// Responds to a packed card and a packed slip.
+#[inline]
+pub fn respond(
+    table: &Table,
+    tally: Tally,
+    card: &[u8],
+    slip: &[u8],
+    new_card: &mut [u8],
+    changes: &mut [u8],
+    fired: &mut [u8],
+) -> RlResponse {
+    unsafe {
+        rl_respond(
+            *table,
+            tally,
+            card.as_ptr(),
+            card.len(),
+            slip.as_ptr(),
+            slip.len(),
+            new_card.as_mut_ptr(),
+            new_card.len(),
+            changes.as_mut_ptr(),
+            changes.len(),
+            fired.as_mut_ptr(),
+            fired.len(),
+        )
+    }
 }

@@ -4,7 +4,7 @@
 #[path = "raw.rs"]
 mod raw;
 
-pub use raw::{Assignment, Card, Change, Literal, Name, Refusal, Rule, Slip, Slot, Table, Tally};
+pub use raw::{is_sound, Assignment, Card, Change, Literal, Name, Refusal, Rule, Slip, Slot, Table, Tally};
 pub use raw::{CARD_BYTES, FIRED_BYTES, SLIP_BYTES};
 
 use raw::{given, RlName};
@@ -26,46 +26,41 @@ fn part(text: &[u8], name: RlName) -> Result<&[u8], Refusal> {
 
 /// Reads a rule text into a table.
 pub fn read(text: &[u8]) -> Result<Box<Table>, Refusal> {
-    let read = unsafe { raw::rl_read(text.as_ptr(), text.len()) };
+    let read = raw::read(text);
     given(read.number, read.second, Box::new(read.table))
-}
-
-/// Whether a table is in order.
-pub fn is_sound(table: &Table) -> bool {
-    unsafe { raw::rl_is_sound(*table) }
 }
 
 /// A slot's name, a part of the text.
 pub fn slot_name<'a>(text: &'a [u8], table: &Table, slot: usize) -> Result<&'a [u8], Refusal> {
-    part(text, unsafe { raw::rl_slot_name(text.as_ptr(), text.len(), *table, slot) })
+    part(text, raw::slot_name(text, table, slot))
 }
 
 /// The name of a slot's value, values counted from 1, a part of the text.
 pub fn value_name<'a>(text: &'a [u8], table: &Table, slot: usize, value: usize) -> Result<&'a [u8], Refusal> {
-    part(text, unsafe { raw::rl_value_name(text.as_ptr(), text.len(), *table, slot, value) })
+    part(text, raw::value_name(text, table, slot, value))
 }
 
 /// Unpacks bytes as a card.
 pub fn unpack_card(table: &Table, bytes: &[u8]) -> Result<Card, Refusal> {
-    let read = unsafe { raw::rl_unpack_card(*table, bytes.as_ptr(), bytes.len()) };
+    let read = raw::unpack_card(table, bytes);
     given(read.number, read.second, read.card)
 }
 
 /// Unpacks bytes as a slip.
 pub fn unpack_slip(table: &Table, bytes: &[u8]) -> Result<Slip, Refusal> {
-    let read = unsafe { raw::rl_unpack_slip(*table, bytes.as_ptr(), bytes.len()) };
+    let read = raw::unpack_slip(table, bytes);
     given(read.number, read.second, read.slip)
 }
 
 /// Packs a card into the output; gives the packed length.
 pub fn pack_card(table: &Table, card: Card, out: &mut [u8]) -> Result<usize, Refusal> {
-    let packed = unsafe { raw::rl_pack_card(*table, card, out.as_mut_ptr(), out.len()) };
+    let packed = raw::pack_card(table, card, out);
     given(packed.number, packed.second, packed.length)
 }
 
 /// Packs a slip into the output; gives the packed length.
 pub fn pack_slip(table: &Table, slip: Slip, out: &mut [u8]) -> Result<usize, Refusal> {
-    let packed = unsafe { raw::rl_pack_slip(*table, slip, out.as_mut_ptr(), out.len()) };
+    let packed = raw::pack_slip(table, slip, out);
     given(packed.number, packed.second, packed.length)
 }
 
@@ -79,22 +74,7 @@ pub fn respond(
     changes: &mut [u8],
     fired: &mut [u8],
 ) -> (Tally, Result<Answer, Refusal>) {
-    let response = unsafe {
-        raw::rl_respond(
-            *table,
-            tally,
-            card.as_ptr(),
-            card.len(),
-            slip.as_ptr(),
-            slip.len(),
-            new_card.as_mut_ptr(),
-            new_card.len(),
-            changes.as_mut_ptr(),
-            changes.len(),
-            fired.as_mut_ptr(),
-            fired.len(),
-        )
-    };
+    let response = raw::respond(table, tally, card, slip, new_card, changes, fired);
     let answer = Answer { length: response.length, fired: response.fired };
     (response.tally, given(response.number, response.second, answer))
 }

@@ -1,7 +1,7 @@
 //! The proved library by its C interface.
 
 use crate::engine::Engine;
-use crate::raw::{given, rl_read, rl_respond, RlRead, Tally};
+use crate::raw::{self, given, RlRead, Tally};
 use crate::response::{Answer, Outputs};
 use crate::table::Table;
 use crate::Refusal;
@@ -26,8 +26,7 @@ impl Default for Proved {
 
 impl Engine for Proved {
     fn read(&mut self, text: &[u8]) -> Result<(), Refusal> {
-        // SAFETY: a pointer and its length.
-        *self.read = unsafe { rl_read(text.as_ptr(), text.len()) };
+        *self.read = raw::read(text);
         given(self.read.number, self.read.second, ())
     }
 
@@ -44,23 +43,7 @@ impl Engine for Proved {
         outputs: Outputs,
     ) -> (Tally, Result<Answer, Refusal>) {
         let Outputs { card: new_card, changes, fired } = outputs;
-        // SAFETY: pointers and their lengths; the outputs overlap nothing.
-        let response = unsafe {
-            rl_respond(
-                *table,
-                tally,
-                card.as_ptr(),
-                card.len(),
-                slip.as_ptr(),
-                slip.len(),
-                new_card.as_mut_ptr(),
-                new_card.len(),
-                changes.as_mut_ptr(),
-                changes.len(),
-                fired.as_mut_ptr(),
-                fired.len(),
-            )
-        };
+        let response = raw::respond(table, tally, card, slip, new_card, changes, fired);
         let answer = Answer { length: response.length, fired: response.fired };
         (response.tally, given(response.number, response.second, answer))
     }

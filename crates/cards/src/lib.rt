@@ -1,15 +1,13 @@
 // Cards and slips, unpacked: document 01, 'Cards and slips'.
 ghost use mathlib.Core.Path.{_≡_};
-ghost use Prim.Native.Nat.{ℕ, _≤_};
+ghost use Prim.Native.Nat.{_≤_};
 ghost use Rattle.laws.specs.Filled.{filled};
 ghost use Rattle.table.specs.Limits.{slot-limit};
 ghost use Rattle.table.specs.Link.{value-counts};
 ghost use Rattle.model.specs.Result.{pair};
 ghost use Rattle.cards.specs.Forms.{change-fault};
 ghost use Rattle.cards.specs.Cards.{counts-in};
-use table::Name;
 use table::SLOTS;
-use table::Slot;
 use table::Table;
 
 pub mod fields;

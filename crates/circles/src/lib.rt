@@ -7,8 +7,6 @@ ghost use Rattle.table.specs.Limits.{pair-places};
 ghost use Rattle.table.specs.Link.{rule-of, rules-of, assignments-of};
 ghost use Rattle.table.specs.Fits.{RuleFits, TableFits};
 ghost use Rattle.circles.specs.Links.{row-words, linked, add-link, add-links, link-all, join-words, close-through, leads-to, circled-by};
-use table::Assignment;
-use table::Literal;
 use table::PAIRS;
 use table::Rule;
 use table::Table;

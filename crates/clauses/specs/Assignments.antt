@@ -13,7 +13,6 @@ use Rattle.grammar.specs.Files.{Slot}
 use Rattle.grammar.specs.Reading.{Part, took, stop, _then_, expects, read-value, read-assignment}
 use Rattle.model.specs.Result.{pair}
 use Rattle.steps.specs.Places.{tokens-past, Step-lies, outcome-part}
-use Rattle.steps.specs.declared.step.Step.the-variants as step
 use Rattle.clauses.specs.declared.assignments.Assignments.{Assignments}
 use Rattle.clauses.specs.declared.assignments.AssignmentRead.{AssignmentRead}
 use Rattle.clauses.specs.declared.assignments.AssignmentRead.the-variants as read

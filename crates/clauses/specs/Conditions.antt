@@ -3,7 +3,6 @@ use mathlib.Core.List.{List, map}
 use lib.ListN.{take}
 use Rattle.model.specs.Rules as model
 use Rattle.table.specs.Link.{literal-of}
-use Rattle.steps.specs.declared.step.Step.the-variants as step
 use Rattle.clauses.specs.declared.conditions.Literals.{Literals}
 
 -- The literals in the places used.

@@ -1,7 +1,7 @@
 // Conditions: TRUE, or literals with AND between, up to THEN.
 ghost use mathlib.Core.Path.{_≡_};
 ghost use mathlib.Core.List.{List, []};
-ghost use Prim.Native.Nat.{ℕ, _≤_, _<_};
+ghost use Prim.Native.Nat.{ℕ, _<_};
 ghost use lib.ListN.{length, replicate};
 ghost use Rattle.laws.specs.Filled.{Filled};
 ghost use Rattle.model.specs.Rules as model;

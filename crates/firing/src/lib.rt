@@ -3,12 +3,8 @@ pub mod order;
 
 ghost use mathlib.Core.Path.{_≡_};
 ghost use Rattle.firing.specs.Firing.{Fireable, firing-of};
-use order::Sorted;
-use table::Assignment;
-use table::Literal;
 use table::PAIRS;
 use table::RULES;
-use table::Rule;
 use table::SLOTS;
 use table::Table;
 

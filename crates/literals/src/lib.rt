@@ -7,7 +7,6 @@ ghost use Rattle.table.specs.Limits.{slot-limit};
 ghost use Rattle.table.specs.Link.{literal-of, assignments-of};
 ghost use Rattle.table.specs.Flat.{Placed, set-of, add-pairs};
 ghost use Rattle.table.specs.Fits.{RuleFits};
-use table::Assignment;
 use table::Literal;
 use table::PAIRS;
 use table::Rule;

@@ -1,6 +1,5 @@
 // Names shown as parts of the caller's text: document 01, 'Rule text'.
 ghost use mathlib.Core.Path.{_≡_};
-ghost use Prim.Native.Nat.{ℕ};
 ghost use Rattle.names.specs.Names.{has-slot, has-value, show-name, show-slot, show-value-of, show-value};
 use table::Name;
 use table::SLOTS;

@@ -1,14 +1,13 @@
 // Testing and packing by the number of slots and how many values each has. These are not entry points: the table was tested before.
 ghost use mathlib.Core.Path.{_≡_};
 ghost use mathlib.Core.List.{_++_};
-ghost use Prim.Native.Nat.{ℕ, _≤_};
+ghost use Prim.Native.Nat.{_≤_};
 ghost use lib.ListN.{length, drop};
 ghost use Rattle.laws.specs.Packed.{byte-count};
 ghost use Rattle.table.specs.Limits.{slot-limit};
 ghost use Rattle.cards.specs.Forms.{card-bits, slip-bits, card-test, slip-test, card-bytes, slip-bytes};
 ghost use Rattle.cards.specs.Cards.{counts-in, values-of, changes-of, outcome-of, CardFits, SlipFits};
 use cards::Card;
-use cards::Change;
 use cards::Outcome;
 use cards::Slip;
 use cards::change_fault;

@@ -11,7 +11,6 @@ use Rattle.model.specs.Rules.{Pair}
 use Rattle.model.specs.Orders.{changes}
 use Rattle.model.specs.Strata.{strict}
 use Rattle.model.specs.Response.{response}
-use Rattle.model.specs.Result.{pair}
 use Rattle.model.specs.Paper.{SlotConsistent, firing-of}
 use Rattle.model.proofs.Paper.{response-declarative, response-rule-consistent, response-correct}
 use Rattle.grammar.specs.Files.{File}

@@ -203,7 +203,7 @@ rules-refused counts rs card slip rooms =
     (λ I. room-refused (length counts) (length rs) rooms (answer-by-firing rs (length counts) S I) (conflict-refused (length counts) (length rs) S _ _)))
 
 -- where the tally is,
-abbrev pub of-table : List ℕ
+abbrev of-table : List ℕ
 of-table = 31 ∷ of-rules
 
 table-refused : (t : Table) (card slip : List ℕ) (rooms : Rooms) → Only (OneOf of-table) (answer-by-table t card slip rooms)

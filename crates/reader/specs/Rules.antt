@@ -14,7 +14,6 @@ use Rattle.table.specs.declared.Rule as ruled
 use Rattle.steps.specs.Places.{tokens-past}
 use Rattle.clauses.specs.declared.conditions.Literals.{Literals}
 use Rattle.clauses.specs.declared.assignments.Assignments.{Assignments}
-use Rattle.steps.specs.declared.step.Step.the-variants as step
 use Rattle.reader.specs.declared.rules.PairRead.{PairRead}
 use Rattle.reader.specs.declared.rules.PairRead.the-variants as read
 

@@ -1,6 +1,6 @@
 // The reading of rule files into the table.
 ghost use mathlib.Core.Path.{_≡_};
-ghost use Prim.Native.Nat.{ℕ, _≤_};
+ghost use Prim.Native.Nat.{_≤_};
 ghost use lib.ListN.{length};
 ghost use Rattle.text.specs.Tokens.{tokens};
 ghost use Rattle.grammar.specs.Limits.{max-text};

@@ -1,7 +1,7 @@
 // Rules: WHEN a trigger IF a condition THEN assignments, and `;`.
 ghost use mathlib.Core.Path.{_≡_};
 ghost use mathlib.Core.List.{List};
-ghost use Prim.Native.Nat.{ℕ, _≤_, _<_};
+ghost use Prim.Native.Nat.{ℕ, _≤_};
 ghost use lib.ListN.{length};
 ghost use Rattle.grammar.specs.Files.{Slot};
 ghost use Rattle.grammar.specs.Reading.{read-rule};

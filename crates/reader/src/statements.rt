@@ -1,7 +1,7 @@
 // One statement at the front of the remainder: a slot line, a rule, or the end.
 ghost use mathlib.Core.Path.{_≡_};
 ghost use mathlib.Core.List.{List, []};
-ghost use Prim.Native.Nat.{ℕ, _≤_, _<_};
+ghost use Prim.Native.Nat.{ℕ, _<_};
 ghost use lib.ListN.{length};
 ghost use Rattle.model.specs.Rules as model;
 ghost use Rattle.grammar.specs.Files.{Slot};

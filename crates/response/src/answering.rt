@@ -11,7 +11,6 @@ use crate::slips::slip_of;
 use cards::Card;
 use cards::Slip;
 use cards::fields::bytes_for;
-use firing::Firing;
 use packing::pack::write_card;
 use packing::pack::write_slip;
 use results::ending::conflict_slot;

@@ -5,8 +5,6 @@ pub mod slips;
 ghost use mathlib.Core.Path.{_≡_};
 ghost use Rattle.response.specs.Respond.{rooms-of, outputs, outputs-after, answer-by-table, answer-to, response-to, Ends};
 use answering::finish;
-use cards::CardRead;
-use cards::SlipRead;
 use table::Table;
 use tally::Tally;
 use tally::is_full;

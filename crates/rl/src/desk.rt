@@ -1,6 +1,5 @@
 // What the program does, over the names of its three files.
 ghost use Prim.Native.Nat.{_≤_};
-use cards::Change;
 use cards::Slip;
 use libc::STDOUT_FILENO;
 use table::Table;

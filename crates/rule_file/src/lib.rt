@@ -3,7 +3,6 @@ ghost use mathlib.Core.Path.{_≡_};
 ghost use Rattle.rule_file.specs.Whole.{reading};
 use reader::FileRead;
 use reader::Outcome;
-use strata::Layering;
 
 // The reading of any bytes of any length.
 pub fn read(text: &[u8]) -> FileRead

@@ -5,9 +5,7 @@ ghost use mathlib.Core.Path.{_≡_};
 ghost use Rattle.soundness.specs.Sound.{well-formed, sound};
 use table::PAIRS;
 use table::RULES;
-use table::Rule;
 use table::SLOTS;
-use table::Slot;
 use table::Table;
 use table::VALUES;
 

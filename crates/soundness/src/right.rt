@@ -11,9 +11,7 @@ ghost use Rattle.table.specs.Link.{literals-of, assignments-of};
 ghost use Rattle.soundness.specs.Sound.{has-pair, rule-right};
 ghost use Rattle.model.specs.Rules.{assigns, each-once};
 use table::ASSIGNMENTS;
-use table::Assignment;
 use table::LITERALS;
-use table::Literal;
 use table::Rule;
 use table::SLOTS;
 

@@ -4,8 +4,6 @@ ghost use Rattle.model.specs.Strata.{tested};
 ghost use Rattle.table.specs.Link.{rule-of, assignments-of};
 ghost use Rattle.table.specs.Fits.{RuleFits, TableFits};
 ghost use Rattle.strata.specs.Heights.{highest-at, raise-all, found};
-use table::Assignment;
-use table::Literal;
 use table::PAIRS;
 use table::RULES;
 use table::Rule;

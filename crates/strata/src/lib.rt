@@ -4,18 +4,8 @@ pub mod least;
 ghost use mathlib.Core.Path.{_≡_};
 ghost use Rattle.table.specs.Fits.{TableFits};
 ghost use Rattle.strata.specs.Layered.{layering};
-use least::Found;
-use table::Assignment;
-use table::Literal;
-use table::Name;
-use table::PAIRS;
-use table::RULES;
-use table::Rule;
 use table::RuleNumber;
-use table::SLOTS;
-use table::Slot;
 use table::Table;
-use table::VALUES;
 
 // Whether strata exist; if not, the lowest rule on a circle of dependence.
 pub enum Outcome {

@@ -1,16 +1,13 @@
 // Writes what the crate strata says of each table on standard input, then of chains of every length.
 use libc::STDOUT_FILENO;
-use strata::Layering;
 use strata::Outcome;
 use table::ASSIGNMENTS;
 use table::Assignment;
 use table::LITERALS;
 use table::Literal;
-use table::Name;
 use table::RULES;
 use table::Rule;
 use table::SLOTS;
-use table::Slot;
 use table::Table;
 
 // A byte of the input, 0 after its end.

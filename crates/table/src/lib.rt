@@ -1,6 +1,5 @@
 // The table of document 01, 'Rule text': slots, values and rules by value.
 ghost use mathlib.Core.Path.{_≡_};
-ghost use Prim.Native.Nat.{ℕ};
 ghost use Rattle.table.specs.Empty.{unused-rule, empty-table};
 ghost use Rattle.table.specs.Flat.{Placed, At};
 

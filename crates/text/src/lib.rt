@@ -1,7 +1,7 @@
 // The text of rule files: one token at a position.
 ghost use mathlib.Core.Path.{_≡_};
 ghost use mathlib.Core.Bool.{cond};
-ghost use Prim.Native.Nat.{ℕ, _+_, _-_, _≤_};
+ghost use Prim.Native.Nat.{_+_, _-_, _≤_};
 ghost use lib.ListN.{length, take, drop};
 ghost use Rattle.classes.specs.Classes.{Classes};
 ghost use Rattle.text.specs.Tokens.{run, run-token, mark-of, place, reserved, same-letters};

@@ -1,6 +1,6 @@
 // Unpacking by the number of slots and how many values each has. These are not entry points: the table was tested before.
 ghost use mathlib.Core.Path.{_≡_};
-ghost use Prim.Native.Nat.{ℕ, _≤_};
+ghost use Prim.Native.Nat.{_≤_};
 ghost use Rattle.table.specs.Limits.{slot-limit};
 ghost use Rattle.cards.specs.Answers.{refused};
 ghost use Rattle.cards.specs.Forms.{read-card, read-slip};

@@ -57,12 +57,12 @@ fn text_of(program: &Program) -> String {
 
 /// Whether the library finds a table in order exactly where a function did not say 31.
 fn agrees_on_31(table: &Table, number: u8) -> bool {
-    unsafe { raw::rl_is_sound(*table) == (number != 31) }
+    raw::is_sound(table) == (number != 31)
 }
 
 impl Engine for Proved {
     fn read(&mut self, text: &[u8]) -> (Option<Refusal>, Box<Table>) {
-        let read = unsafe { raw::rl_read(text.as_ptr(), text.len()) };
+        let read = raw::read(text);
         let fits = read.number == 0 || read.table == *Table::empty();
         (checked(fits, given(read.number, read.second, ())).err(), Box::new(read.table))
     }
@@ -74,22 +74,22 @@ impl Engine for Proved {
     }
 
     fn slot_name(&mut self, text: &[u8], table: &Table, slot: u8) -> Result<Name, Refusal> {
-        place(unsafe { raw::rl_slot_name(text.as_ptr(), text.len(), *table, slot.into()) })
+        place(raw::slot_name(text, table, slot.into()))
     }
 
     fn value_name(&mut self, text: &[u8], table: &Table, slot: u8, value: u8) -> Result<Name, Refusal> {
-        place(unsafe { raw::rl_value_name(text.as_ptr(), text.len(), *table, slot.into(), value.into()) })
+        place(raw::value_name(text, table, slot.into(), value.into()))
     }
 
     fn unpack_card(&mut self, table: &Table, card: &[u8]) -> Result<Vec<u8>, Refusal> {
-        let read = unsafe { raw::rl_unpack_card(*table, card.as_ptr(), card.len()) };
+        let read = raw::unpack_card(table, card);
         let (values, unused) = read.card.values.split_at(read.card.count);
         let empty = unused.iter().all(|value| *value == 0) && (read.number == 0 || values.is_empty());
         checked(empty && agrees_on_31(table, read.number), given(read.number, read.second, values.to_vec()))
     }
 
     fn unpack_slip(&mut self, table: &Table, slip: &[u8]) -> Result<Vec<Pair>, Refusal> {
-        let read = unsafe { raw::rl_unpack_slip(*table, slip.as_ptr(), slip.len()) };
+        let read = raw::unpack_slip(table, slip);
         let pairs: Vec<Pair> = read.slip.changes.iter().map(|change| (change.slot, change.value)).collect();
         let (changes, unused) = pairs.split_at(read.slip.count);
         let empty = unused.iter().all(|pair| *pair == (0, 0)) && (read.number == 0 || changes.is_empty());
@@ -101,7 +101,7 @@ impl Engine for Proved {
         for (to, from) in card.values.iter_mut().zip(values) {
             *to = *from;
         }
-        let packed = unsafe { raw::rl_pack_card(*table, card, output.as_mut_ptr(), output.len()) };
+        let packed = raw::pack_card(table, card, output);
         checked(packed.number == 0 || packed.length == 0, given(packed.number, packed.second, packed.length))
     }
 
@@ -110,7 +110,7 @@ impl Engine for Proved {
         for (to, from) in slip.changes.iter_mut().zip(changes) {
             *to = Change { slot: from.0, value: from.1 };
         }
-        let packed = unsafe { raw::rl_pack_slip(*table, slip, output.as_mut_ptr(), output.len()) };
+        let packed = raw::pack_slip(table, slip, output);
         checked(packed.number == 0 || packed.length == 0, given(packed.number, packed.second, packed.length))
     }
 
@@ -124,22 +124,8 @@ impl Engine for Proved {
     ) -> (Tally, Result<usize, Refusal>) {
         let count = |n: u32| u16::try_from(n).expect("a tally of two bytes");
         let Outputs { card: renewed, changes, fired } = outputs;
-        let response = unsafe {
-            raw::rl_respond(
-                *table,
-                raw::Tally { answered: count(tally.answered), refused: count(tally.refused) },
-                card.as_ptr(),
-                card.len(),
-                slip.as_ptr(),
-                slip.len(),
-                renewed.as_mut_ptr(),
-                renewed.len(),
-                changes.as_mut_ptr(),
-                changes.len(),
-                fired.as_mut_ptr(),
-                fired.len(),
-            )
-        };
+        let before = raw::Tally { answered: count(tally.answered), refused: count(tally.refused) };
+        let response = raw::respond(table, before, card, slip, renewed, changes, fired);
         let fits = response.number == 0 || (response.length, response.fired) == (0, 0);
         self.fired = response.fired;
         self.record = if response.number == 0 { (table.count + 7) / 8 } else { 0 };

@@ -102,22 +102,22 @@ fn case(input: &mut Input) -> String {
     match kind {
         0 => {
             let bytes = input.stretch();
-            let read = unsafe { raw::rl_unpack_card(table, bytes.as_ptr(), bytes.len()) };
+            let read = raw::unpack_card(&table, bytes);
             unpacked(read.number, read.second, read.card.count, read.card.values.into_iter())
         }
         1 => {
             let bytes = input.stretch();
-            let read = unsafe { raw::rl_unpack_slip(table, bytes.as_ptr(), bytes.len()) };
+            let read = raw::unpack_slip(&table, bytes);
             let places = read.slip.changes.into_iter().flat_map(|change| [change.slot, change.value]);
             unpacked(read.number, read.second, read.slip.count, places)
         }
         2 => {
             let card = input.card();
-            packed(input, |out| unsafe { raw::rl_pack_card(table, card, out.as_mut_ptr(), out.len()) })
+            packed(input, |out| raw::pack_card(&table, card, out))
         }
         3 => {
             let slip = input.slip();
-            packed(input, |out| unsafe { raw::rl_pack_slip(table, slip, out.as_mut_ptr(), out.len()) })
+            packed(input, |out| raw::pack_slip(&table, slip, out))
         }
         _ => panic!("no kind of case: {kind}"),
     }
