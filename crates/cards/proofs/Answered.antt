@@ -13,9 +13,9 @@ use Rattle.soundness.specs.Sound.{sound}
 use Rattle.cards.specs.declared.Card.{Card}
 use Rattle.cards.specs.declared.Slip.{Slip}
 use Rattle.cards.specs.declared.Packing.the-variants as packing
-use Rattle.cards.specs.Answers.{passed, fault, OrRefused, taken, refused, after}
+use Rattle.laws.specs.Answers.{passed, fault, OrRefused, taken, refused, after, output-of}
 use Rattle.cards.specs.Forms.{card-bits, slip-bits, card-bytes, slip-bytes, card-test, slip-test, read-card, read-slip, write-card, write-slip}
-use Rattle.cards.specs.Cards.{values-of, changes-of, if-sound, unpacked-card, unpacked-slip, packed-card, packed-slip, packing-of, output-of}
+use Rattle.cards.specs.Cards.{values-of, changes-of, if-sound, unpacked-card, unpacked-slip, packed-card, packed-slip, packing-of}
 use Rattle.cards.proofs.Formed.{card-length, slip-length}
 
 -- What the code gives for a refusal, and for bytes that are written.

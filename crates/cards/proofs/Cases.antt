@@ -8,7 +8,7 @@ use Rattle.laws.specs.Words.{bit}
 use Rattle.laws.specs.Tabulated.{tabulate}
 use Rattle.laws.specs.Packed.{bits, number-of, field-bits, byte-bits, byte-at, pack, pack-fields, field-at}
 use Rattle.model.specs.Result.{pair}
-use Rattle.cards.specs.Answers.{taken, refused, after}
+use Rattle.laws.specs.Answers.{taken, refused, after}
 use Rattle.cards.specs.Forms.{card-fields, change-fields, slip-fields, card-bytes, slip-bytes, values-in, changes-in, values-test, card-test, change-fault, changes-test, read-card, read-slip}
 
 -- The slots x, y and z, with the values 0 and 1.

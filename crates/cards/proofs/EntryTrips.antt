@@ -19,7 +19,7 @@ use Rattle.table.specs.Link.{value-counts}
 use Rattle.soundness.specs.Sound.{sound}
 use Rattle.cards.specs.declared.Card.{Card}
 use Rattle.cards.specs.declared.Slip.{Slip}
-use Rattle.cards.specs.Answers.{Verdict, passed, fault, OrRefused, taken, refused, after}
+use Rattle.laws.specs.Answers.{Verdict, passed, fault, OrRefused, taken, refused, after}
 use Rattle.cards.specs.Forms.{card-bits, slip-bits, card-bytes, slip-bytes, card-test, change-fault, changes-test, slip-test, read-card, read-slip, write-card, write-slip}
 use Rattle.cards.specs.Cards.{values-of, card-of, changes-of, slip-of, pair-of, change-of, no-change, if-sound, unpacked-card, unpacked-slip, packed-card, packed-slip}
 use Rattle.cards.proofs.Formed.{card-length, card-at, slip-length, slip-at}

@@ -12,7 +12,7 @@ use borrow.Author.Tests.{eqb-true, eq-eqb, le-ltb}
 use Rattle.laws.proofs.Truth.{or-e}
 use Rattle.model.specs.Rules.{Pair, same, among}
 use Rattle.model.proofs.Pairs.{same-eq}
-use Rattle.cards.specs.Answers.{Verdict, passed, fault, taken}
+use Rattle.laws.specs.Answers.{Verdict, passed, fault, taken}
 use Rattle.cards.specs.Forms.{values-test, card-test, change-fault, changes-test, slip-test, read-card, read-slip}
 use Rattle.cards.proofs.Tested.{change-right, no-fault, no-pair}
 use Rattle.cards.proofs.RoundTrip.{card-accepted, slip-accepted}

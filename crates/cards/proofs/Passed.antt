@@ -22,7 +22,7 @@ use Rattle.soundness.proofs.Sound.{sound-width, sound-values}
 use Rattle.cards.specs.declared.Card.{Card}
 use Rattle.cards.specs.declared.Slip.{Slip}
 use Rattle.cards.specs.declared.Outcome.the-variants as outcome
-use Rattle.cards.specs.Answers.{Verdict, passed, fault}
+use Rattle.laws.specs.Answers.{Verdict, passed, fault}
 use Rattle.cards.specs.Forms.{values-test, card-test, change-fault, changes-test, slip-test}
 use Rattle.cards.specs.Cards.{counts-in, values-of, changes-of, outcome-of, CardFits, SlipFits}
 use Rattle.cards.proofs.Tested.{no-pair, change-right}

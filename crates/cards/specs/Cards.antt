@@ -20,7 +20,7 @@ use Rattle.cards.specs.declared.CardRead.{CardRead}
 use Rattle.cards.specs.declared.SlipRead.{SlipRead}
 use Rattle.cards.specs.declared.Packing.{Packing}
 use Rattle.cards.specs.declared.Packing.the-variants as packing
-use Rattle.cards.specs.Answers.{Verdict, passed, fault, OrRefused, taken, refused, written}
+use Rattle.laws.specs.Answers.{Verdict, passed, fault, OrRefused, taken, refused}
 use Rattle.cards.specs.Forms.{read-card, read-slip, write-card, write-slip}
 
 -- How many values each of the first n slots has, by an array.
@@ -108,11 +108,6 @@ outcome-of (fault k s) = outcome.Refused k s
 unfoldable pub packing-of : OrRefused (List ℕ) → Packing
 packing-of (taken ys) = packing.Packed (length ys)
 packing-of (refused k s) = packing.Refused k s
-
--- The output after a packing: a refusal leaves all.
-unfoldable pub output-of : OrRefused (List ℕ) → List ℕ → List ℕ
-output-of (taken ys) out = written ys out
-output-of (refused k s) out = out
 
 -- The number of a refusal, 0 for none, and its second number.
 abbrev pub refusal-number : Outcome → ℕ

@@ -9,7 +9,7 @@ use Rattle.laws.specs.Tabulated.{tabulate}
 use Rattle.laws.specs.Packed.{Field, field, byte-count, pack-fields, field-at}
 use Rattle.model.specs.Rules.{Pair}
 use Rattle.model.specs.Result.{pair}
-use Rattle.cards.specs.Answers.{Verdict, passed, fault, OrRefused, taken, refused, after}
+use Rattle.laws.specs.Answers.{Verdict, passed, fault, OrRefused, taken, refused, after}
 
 -- A card: 6 bits, the slot count; then for each slot a field of 4 bits, 0 for no value, k for the k-th declared value.
 unfoldable pub card-fields : List ℕ → List Field

@@ -8,3 +8,4 @@ pub mod Filled
 pub mod Rearranged
 pub mod Quoted
 pub mod Packed
+pub mod Answers

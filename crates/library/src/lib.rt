@@ -1,10 +1,11 @@
 // The entry points for programs in C and Rust: each hands on exactly what the function of the crate below says, with numbers where that has an enum.
 ghost use mathlib.Core.Path.{_≡_};
 ghost use lib.ListN.{length};
+ghost use Rattle.laws.specs.Answers.{output-of};
 ghost use Rattle.names.specs.Names.{show-slot, show-value};
 ghost use Rattle.soundness.specs.Sound.{sound};
 ghost use Rattle.rule_file.specs.Whole.{reading};
-ghost use Rattle.cards.specs.Cards.{unpacked-card, unpacked-slip, packed-card, packed-slip, card-read, slip-read, packing-of, output-of};
+ghost use Rattle.cards.specs.Cards.{unpacked-card, unpacked-slip, packed-card, packed-slip, card-read, slip-read, packing-of};
 ghost use Rattle.response.specs.Respond.{rooms-of, outputs, outputs-after, answer-to, response-to};
 ghost use Rattle.library.specs.Results.{read-result, card-result, slip-result, packing-result, numbered, response-result};
 ghost use Rattle.library.specs.Places.{name-place, slot-place, value-place, ShowsPart};

@@ -3,7 +3,8 @@ pub mod pack;
 
 ghost use mathlib.Core.Path.{_≡_};
 ghost use lib.ListN.{length};
-ghost use Rattle.cards.specs.Cards.{packed-card, packed-slip, packing-of, output-of};
+ghost use Rattle.laws.specs.Answers.{output-of};
+ghost use Rattle.cards.specs.Cards.{packed-card, packed-slip, packing-of};
 use cards::Card;
 use cards::Outcome;
 use cards::Packing;

@@ -25,7 +25,7 @@ use Rattle.names.proofs.Names.{slot-inside, value-inside}
 use Rattle.soundness.specs.Sound.{has-pair}
 use Rattle.grammar.specs.Files.{Slot, File, no-slot, slot-counts}
 use Rattle.rule_file.proofs.Declared.{has-some, Declared}
-use Rattle.cards.specs.Answers.{passed}
+use Rattle.laws.specs.Answers.{passed}
 use Rattle.cards.specs.Forms.{card-test, slip-test}
 use Rattle.cards.proofs.Tested.{same-count, no-pair}
 use Rattle.cards.proofs.Passed.{Slots, values-pass, card-pass}

@@ -9,7 +9,7 @@ use Rattle.grammar.specs.Files.{File}
 use Rattle.grammar.specs.Meaning.{Is-file}
 use Rattle.rule_file.specs.Whole.{reading}
 use Rattle.rule_file.proofs.Answers.{reading-no-refusal}
-use Rattle.cards.specs.Answers.{OrRefused, taken, refused}
+use Rattle.laws.specs.Answers.{OrRefused, taken, refused}
 use Rattle.tally.specs.declared.Tally.{Tally}
 use Rattle.response.specs.Ending.{Answer}
 use Rattle.response.specs.Respond.{Outputs, rooms-of, refusal-number, second-number, outcome-of, answer-to, response-to, outputs-after}

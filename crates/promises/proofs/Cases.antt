@@ -17,7 +17,7 @@ use Rattle.model.specs.Rules.{assigns, each-once}
 use Rattle.rule_file.specs.Whole.{reading}
 use Rattle.rule_file.proofs.Cases.{runs, case-text}
 use Rattle.cards.specs.Cards.{if-sound}
-use Rattle.cards.specs.Answers.{taken, refused, after}
+use Rattle.laws.specs.Answers.{taken, refused, after}
 use Rattle.cards.specs.Forms.{card-fields, change-fields, slip-fields, card-bytes, slip-bytes, values-in, changes-in, values-test, card-test, change-fault, changes-test, read-card, read-slip}
 use Rattle.results.specs.Record.{ones-in}
 use Rattle.response.specs.Ending.{fired-record, answer-of, unless-conflict, answer-by-firing}

@@ -11,7 +11,7 @@ use lib.ListN.{length}
 use borrow.Author.Tests.{ne-eqb, lt-leb}
 use Rattle.laws.specs.Truth.{_∨ᵇ_}
 use Rattle.laws.proofs.Truth.{le-or-lt, or-l, or-r}
-use Rattle.cards.specs.Answers.{OrRefused, taken, refused}
+use Rattle.laws.specs.Answers.{OrRefused, taken, refused}
 use Rattle.tally.specs.declared.Tally.{Tally}
 use Rattle.response.specs.Ending.{Answer}
 use Rattle.response.specs.Respond.{answer-by-table, answer-to, counted, tally-after, response-to}

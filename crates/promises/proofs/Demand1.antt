@@ -32,9 +32,9 @@ use Rattle.reader.specs.Tables.{table-for}
 use Rattle.reader.specs.declared.Outcome.the-variants.{Accepted, Refused}
 use Rattle.reader.specs.declared.FileRead.{FileRead}
 use Rattle.rule_file.specs.Whole.{layered, answered-whole, reading}
-use Rattle.cards.specs.Answers.{OrRefused, taken, refused}
+use Rattle.laws.specs.Answers.{OrRefused, taken, refused, output-of}
 use Rattle.cards.specs.Forms.{read-card, read-slip, write-card, write-slip}
-use Rattle.cards.specs.Cards.{values-of, changes-of, if-sound, unpacked-card, unpacked-slip, packed-card, packed-slip, output-of}
+use Rattle.cards.specs.Cards.{values-of, changes-of, if-sound, unpacked-card, unpacked-slip, packed-card, packed-slip}
 use Rattle.tally.specs.declared.Tally.{Tally}
 use Rattle.tally.specs.Counting.{is-full, one-refused}
 use Rattle.response.specs.Respond.{Rooms, answer-to, counted, tally-after, response-to, outputs-after}

@@ -14,7 +14,7 @@ use Rattle.reader.specs.declared.Outcome.the-variants.{Accepted}
 use Rattle.rule_file.specs.Whole.{reading}
 use Rattle.rule_file.proofs.Declared.{Declared, read-declared}
 use Rattle.rule_file.proofs.Answers.{reading-accepted-iff}
-use Rattle.cards.specs.Answers.{taken, refused}
+use Rattle.laws.specs.Answers.{taken, refused}
 use Rattle.cards.proofs.Having.{card-tested, slip-tested}
 use Rattle.response.specs.Ending.{Answer, answer-by-firing}
 use Rattle.promises.specs.Agreement.{Shows, LowestConflict, Agreed, Demand3}

@@ -23,7 +23,7 @@ use Rattle.model.proofs.Results.{conflict-e, conflict-i, conflict-slot-right, c
 use Rattle.table.specs.Limits.{row}
 use Rattle.grammar.specs.Files.{File, slot-counts}
 use Rattle.rule_file.proofs.Declared.{Declared}
-use Rattle.cards.specs.Answers.{passed, taken}
+use Rattle.laws.specs.Answers.{passed, taken}
 use Rattle.cards.specs.Forms.{card-test, slip-test, read-card, read-slip}
 use Rattle.cards.proofs.Passed.{card-pass}
 use Rattle.cards.proofs.Having.{Has}

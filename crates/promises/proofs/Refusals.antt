@@ -18,7 +18,7 @@ use Rattle.table.specs.Limits.{row}
 use Rattle.table.specs.Link.{rules-of, value-counts}
 use Rattle.soundness.specs.Sound.{sound}
 use Rattle.cards.specs.Cards.{if-sound}
-use Rattle.cards.specs.Answers.{Verdict, passed, fault, OrRefused, taken, refused, after}
+use Rattle.laws.specs.Answers.{Verdict, passed, fault, OrRefused, taken, refused, after}
 use Rattle.cards.specs.Forms.{count-in, card-bits, slip-bits, padding, values-in, changes-in, values-test, card-test, change-fault, changes-test, slip-test, card-bytes, slip-bytes, read-card, read-slip, write-card, write-slip}
 use Rattle.response.specs.Ending.{answer-of, unless-conflict, answer-by-firing}
 use Rattle.tally.specs.declared.Tally.{Tally}

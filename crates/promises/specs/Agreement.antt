@@ -19,7 +19,7 @@ use Rattle.grammar.specs.Meaning.{Is-file}
 use Rattle.grammar.specs.Pieces.{Rearranges}
 use Rattle.reader.specs.declared.Outcome.the-variants.{Accepted}
 use Rattle.rule_file.specs.Whole.{reading}
-use Rattle.cards.specs.Answers.{OrRefused, taken, refused}
+use Rattle.laws.specs.Answers.{OrRefused, taken, refused}
 use Rattle.cards.specs.Forms.{read-card, read-slip}
 use Rattle.tally.specs.declared.Tally.{Tally}
 use Rattle.results.specs.Record.{ones-in}

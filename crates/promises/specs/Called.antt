@@ -9,7 +9,7 @@ use Rattle.reader.specs.Tables as reader
 use Rattle.rule_file.specs.Whole.{reading}
 use Rattle.results.specs.Record.{ones-in}
 use Rattle.tally.specs.declared.Tally.{Tally}
-use Rattle.cards.specs.Answers.{written}
+use Rattle.laws.specs.Answers.{written}
 use Rattle.response.specs.declared.Response.{Response}
 use Rattle.response.specs.declared.Outcome.the-variants.{Answered}
 use Rattle.response.specs.Ending.{Answer}

@@ -4,7 +4,7 @@ use mathlib.Core.Bool.{cond}
 use mathlib.Core.List.{List, [], _∷_}
 use lib.Dec.{eqb}
 use Rattle.table.specs.declared.Table.{Table}
-use Rattle.cards.specs.Answers.{OrRefused, taken, refused}
+use Rattle.laws.specs.Answers.{OrRefused, taken, refused}
 use Rattle.tally.specs.declared.Tally.{Tally}
 use Rattle.response.specs.Ending.{Answer}
 use Rattle.response.specs.Respond.{Rooms, answer-to, response-to}

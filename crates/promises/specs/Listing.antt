@@ -10,7 +10,7 @@ use Rattle.names.specs.Names.{show-slot, show-value}
 use Rattle.reader.specs.declared.Outcome as reader
 use Rattle.reader.specs.declared.Outcome.the-variants.{Accepted, Refused}
 use Rattle.rule_file.specs.Whole.{reading}
-use Rattle.cards.specs.Answers.{OrRefused, taken, refused}
+use Rattle.laws.specs.Answers.{OrRefused, taken, refused}
 use Rattle.cards.specs.Forms.{changes-in}
 use Rattle.tally.specs.declared.Tally.{Tally}
 use Rattle.response.specs.Ending.{Answer}

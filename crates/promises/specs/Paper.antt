@@ -17,7 +17,7 @@ use Rattle.table.specs.declared.Table.{Table}
 use Rattle.table.specs.Shape.{Shaped}
 use Rattle.reader.specs.declared.Outcome.the-variants.{Accepted, Refused}
 use Rattle.rule_file.specs.Whole.{reading}
-use Rattle.cards.specs.Answers.{taken, refused}
+use Rattle.laws.specs.Answers.{taken, refused}
 use Rattle.cards.specs.Forms.{read-card, read-slip}
 use Rattle.cards.specs.Cards.{card-of, slip-of, unpacked-card, unpacked-slip, packed-card, packed-slip}
 use Rattle.tally.specs.declared.Tally.{Tally}

@@ -9,8 +9,8 @@ use Rattle.table.specs.Empty.{empty-table}
 use Rattle.names.specs.Names.{show-slot, show-value}
 use Rattle.cards.specs.declared.Card.{Card}
 use Rattle.cards.specs.declared.Slip.{Slip}
-use Rattle.cards.specs.Answers.{OrRefused, taken, refused}
-use Rattle.cards.specs.Cards.{unpacked-card, unpacked-slip, packed-card, packed-slip, output-of}
+use Rattle.laws.specs.Answers.{OrRefused, taken, refused, output-of}
+use Rattle.cards.specs.Cards.{unpacked-card, unpacked-slip, packed-card, packed-slip}
 use Rattle.reader.specs.declared.Outcome.the-variants.{Accepted, Refused}
 use Rattle.rule_file.specs.Whole.{reading}
 use Rattle.tally.specs.declared.Tally.{Tally}

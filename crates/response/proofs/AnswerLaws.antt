@@ -35,7 +35,7 @@ use Rattle.table.specs.Flat.{set-of, add-pairs}
 use Rattle.table.proofs.Link.{rules-length}
 use Rattle.cards.specs.declared.Card.{Card}
 use Rattle.cards.specs.declared.Slip.{Slip}
-use Rattle.cards.specs.Answers.{taken, refused, written}
+use Rattle.laws.specs.Answers.{taken, refused, written}
 use Rattle.cards.specs.Forms.{card-bits, slip-bits, card-bytes, slip-bytes}
 use Rattle.cards.specs.Cards.{CardFits, SlipFits, no-change, pair-of, change-of, values-of, changes-of, card-of, slip-of}
 use Rattle.cards.proofs.Formed.{slip-length}

@@ -21,7 +21,7 @@ use Rattle.cards.specs.declared.Card.{Card}
 use Rattle.cards.specs.declared.Slip.{Slip}
 use Rattle.cards.specs.declared.CardRead.{CardRead}
 use Rattle.cards.specs.declared.SlipRead.{SlipRead}
-use Rattle.cards.specs.Answers.{OrRefused, taken, refused}
+use Rattle.laws.specs.Answers.{OrRefused, taken, refused}
 use Rattle.cards.specs.Forms.{card-bits, card-test, slip-test, read-card, read-slip}
 use Rattle.cards.specs.Cards.{CardFits, SlipFits, card-of, slip-of, card-read, slip-read, if-sound}
 use Rattle.cards.proofs.Passed.{slots-length, sound-slots, card-pass, card-fits, slip-fits}

@@ -12,7 +12,7 @@ use Rattle.model.specs.Strata.{strict}
 use Rattle.model.specs.Response.{response}
 use Rattle.model.specs.Result.{conflict-slot, new-card, changes-slip}
 use Rattle.table.specs.Limits.{row}
-use Rattle.cards.specs.Answers.{OrRefused, taken, refused}
+use Rattle.laws.specs.Answers.{OrRefused, taken, refused}
 use Rattle.cards.specs.Forms.{card-bytes, slip-bytes}
 
 -- The bytes of an answer: the new card, the changes and the fired record.

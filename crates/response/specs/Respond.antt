@@ -10,7 +10,7 @@ use Rattle.model.specs.Rules.{Rule}
 use Rattle.table.specs.declared.Table.{Table}
 use Rattle.table.specs.Link.{rules-of, value-counts}
 use Rattle.soundness.specs.Sound.{sound}
-use Rattle.cards.specs.Answers.{OrRefused, taken, refused, written}
+use Rattle.laws.specs.Answers.{OrRefused, taken, refused, written}
 use Rattle.cards.specs.Cards.{if-sound}
 use Rattle.cards.specs.Forms.{card-bits, read-card, read-slip}
 use Rattle.tally.specs.declared.Tally.{Tally}

@@ -2,7 +2,7 @@
 ghost use mathlib.Core.Path.{_≡_};
 ghost use Prim.Native.Nat.{_≤_};
 ghost use Rattle.table.specs.Limits.{slot-limit};
-ghost use Rattle.cards.specs.Answers.{refused};
+ghost use Rattle.laws.specs.Answers.{refused};
 ghost use Rattle.cards.specs.Forms.{read-card, read-slip};
 ghost use Rattle.cards.specs.Cards.{counts-in, card-read, slip-read};
 use cards::Card;

@@ -12,7 +12,7 @@ use Rattle.table.proofs.Shape.{shaped}
 use Rattle.soundness.specs.Sound.{sound}
 use Rattle.soundness.proofs.Sound.{sound-width}
 use Rattle.model.specs.Rules.{Pair}
-use Rattle.cards.specs.Answers.{taken}
+use Rattle.laws.specs.Answers.{taken}
 use Rattle.cards.specs.Forms.{read-card, read-slip}
 use Rattle.cards.specs.Cards.{counts-in, values-of, changes-of, card-of, slip-of, card-read, slip-read}
 use Rattle.cards.proofs.Passed.{counts-all, slots-length}

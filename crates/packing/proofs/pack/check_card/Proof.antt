@@ -4,7 +4,7 @@ use mathlib.Core.Path.{_≡_, sym, ap, _∙_}
 use Prim.Native.Nat.{_-_, _≤_, _<_}
 use lib.ListN.{length, getD}
 use Rattle.table.specs.Limits.{slot-limit}
-use Rattle.cards.specs.Answers.{passed, fault}
+use Rattle.laws.specs.Answers.{passed, fault}
 use Rattle.cards.specs.Cards.{counts-in, values-of, outcome-of}
 use Rattle.cards.proofs.Tested.{ValuesLeft, values-start, values-next, values-fault, values-end, other-count, same-count, counts-length, count-at}
 use Rattle.cards.proofs.Formed.{card-length, card-at}

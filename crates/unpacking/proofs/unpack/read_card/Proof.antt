@@ -6,7 +6,7 @@ use lib.ListN.{length, getD}
 use Rattle.laws.specs.Filled.{filled}
 use Rattle.laws.specs.Packed.{byte-count}
 use Rattle.table.specs.Limits.{slot-limit}
-use Rattle.cards.specs.Answers.{passed, fault}
+use Rattle.laws.specs.Answers.{passed, fault}
 use Rattle.cards.specs.Forms.{card-bits, count-in, values-in, padding, card-test}
 use Rattle.cards.specs.Cards.{counts-in, card-read, card-of}
 use Rattle.cards.proofs.Tested.{ValuesLeft, values-start, values-next, values-fault, values-end, other-count, same-count, counts-length, count-at}

@@ -6,7 +6,7 @@ use lib.ListN.{length, getD}
 use Rattle.laws.specs.Packed.{byte-count}
 use Rattle.model.specs.Result.{pair}
 use Rattle.table.specs.Limits.{slot-limit}
-use Rattle.cards.specs.Answers.{passed}
+use Rattle.laws.specs.Answers.{passed}
 use Rattle.cards.specs.Forms.{slip-bits, count-in, changes-in, padding, change-fault, slip-test}
 use Rattle.cards.specs.Cards.{counts-in, no-change, change-of, slip-read, slip-of}
 use Rattle.cards.proofs.Tested.{no-pair, ChangesLeft, changes-start, changes-next, changes-fault, changes-end, Right, change-right, counts-length}
