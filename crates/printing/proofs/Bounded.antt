@@ -1,0 +1,134 @@
+-- How long a print can be.
+-- Assumes nothing.
+use Prim.Native.Nat.{ℕ, _+_, _*_, _≤_}
+use native.Mathlib.Omega.{arith}
+use native.Mathlib.Nat.{suc-mul}
+use mathlib.Core.Path.{ap}
+use mathlib.Core.Bool.{Bool, true, false}
+use mathlib.Core.List.{List, [], _∷_, _++_, map}
+use lib.ListN.{length, length-append, length-map}
+use Rattle.laws.specs.Quoted.{bytes-from, bytes}
+use Rattle.text.specs.Tokens.{Name}
+use Rattle.model.specs.Rules.{Pair, Literal, Rule}
+use Rattle.grammar.specs.Limits.{max-slots, max-values, max-rules, max-literals, max-assignments}
+use Rattle.grammar.specs.Files.{Slot, File, spellings}
+use Rattle.grammar.specs.Meaning.{Is-file}
+use Rattle.printed.specs.Layout.{Each}
+use Rattle.printed.specs.Printed.{slot-named, value-named, print, Named, Well-named}
+use Rattle.printing.specs.Puts.{longest}
+use Rattle.printing.specs.Written.{followed, separated, pair-bytes, test-bytes, literal-bytes, condition-bytes, assign-bytes, rule-bytes, line-bytes, slot-bytes, joined, written}
+use Rattle.printed.proofs.Formed.{file-formed}
+use Rattle.printed.proofs.Trees.{Declared, Rule-declared, rules-declared, Valued, slots-valued}
+use Rattle.printed.proofs.Spelled.{each-map, slot-formed, value-formed}
+use Rattle.printing.proofs.Written.{print-written}
+
+each-imply : {A : Type 0} (P Q : A → Type 0) (xs : List A) → ((x : A) → P x → Q x) → Each P xs → Each Q xs
+each-imply P Q [] k h = tt
+each-imply P Q (x ∷ xs) k h = (k x (h .0), each-imply P Q xs k (h .1))
+
+-- Parts of at most `m` bytes, each after a separator.
+followed-le : (sep : List ℕ) (m : ℕ) (xs : List (List ℕ)) → Each (λ (x : List ℕ). length x ≤ m) xs → length (followed sep xs) ≤ length xs * (length sep + m)
+unfolding followed
+followed-le sep m [] h = omega arith
+followed-le sep m (x ∷ xs) h =
+    let r = followed-le sep m xs (h .1) in
+    let a = length-append sep (x ++ followed sep xs) in
+    let b = length-append x (followed sep xs) in
+    let g = h .0 in
+    let k = suc-mul (length xs) (length sep + m) in
+    omega arith
+
+-- Parts of at most `m` bytes with a separator between them.
+separated-le : {A : Type 0} (sep : List ℕ) (m : ℕ) (part : A → List ℕ) (xs : List A) → Each (λ (x : A). length (part x) ≤ m) xs → length (separated sep (map part xs)) ≤ length xs * (length sep + m)
+unfolding separated
+separated-le sep m part [] h = omega arith
+separated-le {A} sep m part (x ∷ xs) h =
+    let r = followed-le sep m (map part xs) (each-map (λ (y : A). length (part y) ≤ m) (λ (y : List ℕ). length y ≤ m) part xs (λ y k. k) (h .1)) in
+    let s : length (followed sep (map part xs)) ≤ length xs * (length sep + m) = rw (← length-map xs part) r in
+    let a = length-append (part x) (followed sep (map part xs)) in
+    let g = h .0 in
+    let k = suc-mul (length xs) (length sep + m) in
+    omega arith
+
+module _ (slots : List Slot) (formed : Each Well-named slots) where
+  pair-le : (mark : List ℕ) (p : Pair) → Declared slots p → length (pair-bytes slots mark p) ≤ 48 + length mark
+  unfolding pair-bytes
+  pair-le mark p d =
+      let s = slot-formed slots formed p d .0 .short in
+      let v = value-formed slots formed p d .short in
+      let a = length-append (slot-named slots p .letters) (mark ++ value-named slots p .letters) in
+      let b = length-append mark (value-named slots p .letters) in
+      omega arith
+
+  literal-le : (m : Literal) → Declared slots (m .pair) → length (literal-bytes (pair-bytes slots) m) ≤ 56
+  unfolding literal-bytes test-bytes bytes bytes-from
+  literal-le m d = go (m .becomes) (m .negated)
+    where
+      go : (b n : Bool) → length (literal-bytes (pair-bytes slots) (record { becomes = b; negated = n; pair = m .pair })) ≤ 56
+      go true true = let h = pair-le (bytes " *= ") (m .pair) d in omega arith
+      go true false = let h = pair-le (bytes " *= ") (m .pair) d in omega arith
+      go false true = let h = pair-le (bytes " |= ") (m .pair) d in omega arith
+      go false false = let h = pair-le (bytes " |= ") (m .pair) d in omega arith
+
+  condition-le : (ms : List Literal) → Each (λ (m : Literal). Declared slots (m .pair)) ms → length (condition-bytes (pair-bytes slots) ms) ≤ 4 + length ms * 61
+  unfolding condition-bytes bytes bytes-from
+  condition-le [] d = omega arith
+  condition-le (m ∷ ms) d =
+      let r : length (separated (bytes " AND ") (map (literal-bytes (pair-bytes slots)) (m ∷ ms))) ≤ length (m ∷ ms) * 61 =
+      separated-le (bytes " AND ") 56 (literal-bytes (pair-bytes slots)) (m ∷ ms) (each-imply (λ (x : Literal). Declared slots (x .pair)) (λ (x : Literal). length (literal-bytes (pair-bytes slots) x) ≤ 56) (m ∷ ms) literal-le d) in
+      omega arith
+
+  assign-le : (ps : List Pair) → Each (Declared slots) ps → length (assign-bytes (pair-bytes slots) ps) ≤ 4 + length ps * 54
+  unfolding assign-bytes bytes bytes-from
+  assign-le [] d = omega arith
+  assign-le (p ∷ []) d = let h = pair-le (bytes " := ") p (d .0) in omega arith
+  assign-le (p ∷ q ∷ qs) d =
+      let list = separated (bytes ", ") (map (pair-bytes slots (bytes " := ")) (p ∷ q ∷ qs)) in
+      let r : length list ≤ length (p ∷ q ∷ qs) * 54 =
+      separated-le (bytes ", ") 52 (pair-bytes slots (bytes " := ")) (p ∷ q ∷ qs) (each-imply (Declared slots) (λ (x : Pair). length (pair-bytes slots (bytes " := ") x) ≤ 52) (p ∷ q ∷ qs) (pair-le (bytes " := ")) d) in
+      let a = length-append list (bytes " }") in
+      omega arith
+
+  rule-le : (x : Rule) → Rule-declared slots x → length (rule-bytes (pair-bytes slots) x) ≤ 781
+  unfolding rule-bytes bytes bytes-from max-literals max-assignments
+  rule-le x d =
+      let p = pair-bytes slots (bytes " *= ") (x .trigger) in
+      let c = condition-bytes (pair-bytes slots) (x .literals) in
+      let s = assign-bytes (pair-bytes slots) (x .assignments) in
+      let i = length-append p (bytes " IF " ++ (c ++ (bytes " THEN " ++ (s ++ bytes ";\n")))) in
+      let j = length-append c (bytes " THEN " ++ (s ++ bytes ";\n")) in
+      let k = length-append s (bytes ";\n") in
+      omega (arith, i, j, k, pair-le (bytes " *= ") (x .trigger) (d .trigger-is), condition-le (x .literals) (d .literals-are), assign-le (x .assignments) (d .assignments-are .all-declared), d .few-literals, d .few-assignments)
+
+slot-le : (s : Slot) → Well-named s → Valued s → length (slot-bytes s) ≤ 426
+unfolding line-bytes bytes bytes-from max-values
+slot-le s n v =
+    let list = separated (bytes ", ") (spellings (s .values)) in
+    let r : length list ≤ length (s .values) * 26 =
+    separated-le (bytes ", ") 24 (λ (m : Name). m .letters) (s .values) (each-imply Named (λ (m : Name). length (m .letters) ≤ 24) (s .values) (λ m h. h .short) (n .1)) in
+    let i = length-append (s .name .letters) (bytes " { " ++ (list ++ bytes " };\n")) in
+    let j = length-append list (bytes " };\n") in
+    omega (arith, r, i, j, n .0 .short, v .1)
+
+-- Lines of at most `m` bytes.
+joined-le : {A : Type 0} (m : ℕ) (line : A → List ℕ) (xs : List A) → Each (λ (x : A). length (line x) ≤ m) xs → length (joined (map line xs)) ≤ length xs * m
+unfolding joined
+joined-le m line [] h = omega arith
+joined-le m line (x ∷ xs) h = omega (arith, joined-le m line xs (h .1), h .0, length-append (line x) (joined (map line xs)), suc-mul (length xs) m)
+
+slots-le : (ss : List Slot) → Each Well-named ss → Each Valued ss → Each (λ (s : Slot). length (slot-bytes s) ≤ 426) ss
+slots-le [] n v = tt
+slots-le (s ∷ ss) n v = (slot-le s (n .0) (v .0), slots-le ss (n .1) (v .1))
+
+-- THE PRINT OF AN ACCEPTED TEXT'S FILE is bounded.
+pub print-bounded : (text : List ℕ) (f : File) → Is-file text f → length (print f) ≤ longest
+unfolding written max-slots max-rules
+print-bounded text f a =
+    let n = file-formed text f a in
+    let lines = map slot-bytes (f .slots) in
+    let rules = map (rule-bytes (pair-bytes (f .slots))) (f .rules) in
+    let h = joined-le 426 slot-bytes (f .slots) (slots-le (f .slots) n (slots-valued (a .tree) f (a .means))) in
+    let k = joined-le 781 (rule-bytes (pair-bytes (f .slots))) (f .rules)
+    (each-imply (Rule-declared (f .slots)) (λ (x : Rule). length (rule-bytes (pair-bytes (f .slots)) x) ≤ 781) (f .rules) (rule-le (f .slots) n) (rules-declared (a .tree) f (a .means))) in
+    let e = ap length (print-written text f a) in
+    omega (arith, h, k, e, length-append (joined lines) (joined rules), a .means .few-slots, a .means .few-rules)

@@ -1,0 +1,6 @@
+pub mod Written
+pub mod Bounded
+pub mod Putting
+pub mod Clauses
+pub mod Lines
+pub mod Tabled

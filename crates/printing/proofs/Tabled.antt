@@ -1,0 +1,152 @@
+-- The names of a table of a text's slots, by their spans.
+-- Assumes nothing.
+use Prim.Native.Nat.{ℕ, zero, suc, _+_, _-_, _*_, _/_, _%_, _≤_, _<_}
+use native.Mathlib.Omega.{arith}
+use native.Mathlib.Numerals.{add-one}
+use mathlib.Core.Path.{_≡_, refl, sym, ap, ap₂, subst, _∙_}
+use mathlib.Core.List.{List, [], _∷_, _++_, map}
+use lib.ListN.{length, take, drop, getD, set, replicate, length-map, List·getD-map, List·getD-append}
+use lib.Seq.{sets, take-suc, length-take-le}
+use Rattle.laws.specs.Filled.{filled}
+use Rattle.laws.proofs.Filled.{filled-length}
+use Rattle.laws.proofs.Lists.{any-default}
+use Rattle.classes.specs.Classes.{class-of}
+use Rattle.text.specs.Tokens.{Name}
+use Rattle.text.specs.Cut.{Stands}
+use Rattle.grammar.specs.Limits.{max-text, max-values}
+use Rattle.grammar.specs.Files.{Slot, no-slot}
+use Rattle.grammar.specs.Standing.{Names-stand, Slots-stand}
+use Rattle.table.specs.declared.Name as stretch
+use Rattle.table.specs.declared.Slot as tabled
+use Rattle.table.specs.declared.Table.{Table}
+use Rattle.table.specs.Limits.{slot-limit, value-limit, row}
+use Rattle.table.specs.Shape as zero-values
+use Rattle.table.specs.Shape.{no-name}
+use Rattle.table.specs.Empty.{unused-slot}
+use Rattle.steps.specs.Spans.{span, Span-lies}
+use Rattle.lines.specs.Index.{span-name, span-names, span-slot, Spanned, Indexed, name-for, slot-for}
+use Rattle.lines.specs.Lines.{Values-lie}
+use Rattle.lines.proofs.Index.{indexed-more}
+use Rattle.printed.specs.Layout.{Is-name, Each}
+use Rattle.printed.specs.Printed.{Named, Well-named}
+use Rattle.printing.specs.Tabled.{span-of, SmallName, SmallNames, Tabled}
+
+-- A name has a letter.
+name-some : (letters : List ℕ) → Is-name letters → 0 < length letters
+unfolding class-of
+name-some [] n = absurd (let z : 0 ≡ 2 = n .begins in omega arith)
+name-some (x ∷ xs) n = omega arith
+
+-- A name that stands in the text is the one at its span.
+name-span : (text : List ℕ) (n : Name) → Stands text n → Named n → (0 < span-of (name-for n)) × Span-lies text (span-of (name-for n)) × (span-name text (span-of (name-for n)) ≡ n)
+name-span text n st nm =
+    let l = nm .short in
+    let s = name-some (n .letters) nm in
+    let a : span (n .start) (length (n .letters)) / 32 ≡ n .start = omega arith in
+    let b : span (n .start) (length (n .letters)) % 32 ≡ length (n .letters) = omega arith in
+    (omega arith, rw (a, b) (st .inside), rw (a, b) (ap (λ (ys : List ℕ). record { start = n .start; letters = ys }) (st .there)))
+
+-- Names in their places, and the places that are not used, by their spans.
+unused-spanned : (text : List ℕ) (r : ℕ) → Spanned text (map span-of (replicate r no-name)) []
+unused-spanned text zero = tt
+unused-spanned text (suc r) = (refl, unused-spanned text r)
+
+names-spanned : (text : List ℕ) (ns : List Name) (r : ℕ) → Names-stand text ns → Each Named ns → Spanned text (map span-of (map name-for ns ++ replicate r no-name)) ns
+names-spanned text [] r st nm = unused-spanned text r
+names-spanned text (n ∷ ns) r st nm = let w = name-span text n (st .0) (nm .0) in (w .0, w .1, w .2, names-spanned text ns r (st .1) (nm .1))
+
+-- The names at the spans used.
+spanned-are : (text ks : List ℕ) (ns : List Name) → Spanned text ks ns → span-names text ks (length ns) ≡ ns
+spanned-are text [] [] S = refl
+spanned-are text [] (n ∷ ns) S = absurd S
+spanned-are text (k ∷ ks) [] S = refl
+spanned-are text (k ∷ ks) (n ∷ ns) S = ap₂ (λ (x : Name) (xs : List Name). x ∷ xs) (S .2) (spanned-are text ks ns (S .3))
+
+-- Names that stand in a text within the limit are small, and so are places that are not used.
+name-small : (text : List ℕ) (n : Name) → length text ≤ max-text → Stands text n → Named n → SmallName (name-for n)
+name-small text n h st nm = let i = st .inside in let l = nm .short in (omega arith, omega arith)
+
+unused-small : (r i : ℕ) → SmallName (getD (replicate r no-name) i no-name)
+unused-small zero i = (omega arith, omega arith)
+unused-small (suc r) zero = (omega arith, omega arith)
+unused-small (suc r) (suc i) = unused-small r i
+
+names-small : (text : List ℕ) (ns : List Name) (r : ℕ) → length text ≤ max-text → Names-stand text ns → Each Named ns → SmallNames (map name-for ns ++ replicate r no-name)
+names-small text [] r h st nm i = unused-small r i
+names-small text (n ∷ ns) r h st nm zero = name-small text n h (st .0) (nm .0)
+names-small text (n ∷ ns) r h st nm (suc i) = names-small text ns r h (st .1) (nm .1) i
+
+-- What is said of each slot of a list holds at each place.
+slot-at : (text : List ℕ) (ss : List Slot) (i : ℕ) → Slots-stand text ss → i < length ss → Stands text (getD ss i no-slot .name) × Names-stand text (getD ss i no-slot .values)
+slot-at text [] i h l = absurd (omega arith)
+slot-at text (s ∷ ss) zero h l = h .0
+slot-at text (s ∷ ss) (suc i) h l = slot-at text ss i (h .1) (omega arith)
+
+each-at : {A : Type 0} (P : A → Type 0) (xs : List A) (i : ℕ) (d : A) → Each P xs → i < length xs → P (getD xs i d)
+each-at P [] i d h l = absurd (omega arith)
+each-at P (x ∷ xs) zero d h l = h .0
+each-at P (x ∷ xs) (suc i) d h l = each-at P xs i d (h .1) (omega arith)
+
+module _ (text : List ℕ) (slots : List Slot) (t : Table) (T : Tabled text slots t) (i : ℕ) (h : i < length slots) where
+  -- The slot of the file, and that of the table.
+  abbrev filed : Slot
+  filed = getD slots i no-slot
+
+  abbrev placed : tabled.Slot
+  placed = getD (t .slots) i zero-values.no-slot
+
+  pub slot-there : placed ≡ slot-for filed
+  unfolding filled
+  slot-there =
+      let l : i < length (map slot-for slots) = rw length-map h in
+      rw (T .slots-are)
+      (List·getD-append (map slot-for slots) (replicate (slot-limit - length (map slot-for slots)) unused-slot) zero-values.no-slot i l
+      ∙ any-default (map slot-for slots) i zero-values.no-slot (slot-for no-slot) l
+      ∙ List·getD-map slot-for slots i no-slot)
+
+  stand : Stands text (filed .name) × Names-stand text (filed .values)
+  stand = slot-at text slots i (T .stand) h
+
+  named : Well-named filed
+  named = each-at Well-named slots i no-slot (T .well-named) h
+
+  few : length (filed .values) ≤ max-values
+  few = each-at (λ (s : Slot). length (s .values) ≤ max-values) slots i no-slot (T .few-values) h
+
+  -- Its names are small.
+  pub slot-small : SmallName (placed .name)
+  slot-small = rw slot-there (name-small text (filed .name) (T .short) (stand .0) (named .0))
+
+  pub values-small : SmallNames (placed .values)
+  unfolding filled
+  values-small = rw slot-there (names-small text (filed .values) (value-limit - length (map name-for (filed .values))) (T .short) (stand .1) (named .1))
+
+  -- The spans of its values.
+  abbrev spans : List ℕ
+  spans = map span-of (slot-for filed .values)
+
+  values-spanned : Spanned text spans (filed .values)
+  unfolding filled
+  values-spanned = names-spanned text (filed .values) (value-limit - length (map name-for (filed .values))) (stand .1) (named .1)
+
+  values-are : span-names text spans (length (filed .values)) ≡ filed .values
+  values-are = spanned-are text spans (filed .values) values-spanned
+
+  values-lie : Values-lie text spans (length (filed .values))
+  unfolding max-values
+  values-lie =
+      let l : length (map name-for (filed .values)) ≤ value-limit = rw length-map few in
+      record {
+        few = few;
+        places = length-map (filled value-limit no-name (map name-for (filed .values))) span-of ∙ filled-length value-limit no-name (map name-for (filed .values)) l;
+        spanned = rw values-are values-spanned;
+      }
+
+  -- ENTERED BY ITS SPANS, it is the next slot of the file.
+  pub entered-next : (ss vs : List ℕ) → Indexed text (take i slots) ss vs → Indexed text (take (i + 1) slots) (set ss i (span-of (placed .name))) (sets vs (i * row + 1) (map span-of (placed .values)))
+  entered-next ss vs I =
+      let w = name-span text (filed .name) (stand .0) (named .0) in
+      let k = length-take-le i slots (omega arith) in
+      let e : take i slots ++ span-slot text (span-of (name-for (filed .name))) spans (length (filed .values)) ∷ [] ≡ take (i + 1) slots =
+      ap₂ (λ (n : Name) (ns : List Name). take i slots ++ record { name = n; values = ns } ∷ []) (w .2) values-are ∙ sym (take-suc slots i no-slot h) ∙ rw (add-one i) in
+      rw (slot-there, ← e) (indexed-more text ss vs spans (take i slots) i (span-of (name-for (filed .name))) (length (filed .values)) I (sym k) (omega (arith, h, T .few)) (w .0) (w .1) values-lie)

@@ -1,0 +1,5 @@
+pub mod Printing
+pub mod Puts
+pub mod Written
+pub mod Spelled
+pub mod Tabled
