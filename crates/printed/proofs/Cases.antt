@@ -9,11 +9,11 @@ use Rattle.text.specs.Covering.{spelling}
 use Rattle.grammar.specs.Reading.{Answer, accepted, refused, read}
 use Rattle.grammar.proofs.Cases.{reads}
 use Rattle.printed.specs.Layout.{token-bytes, tight, gap, layout}
-use Rattle.printed.specs.Printed.{grown, print}
+use Rattle.printed.specs.Printed.{print}
 
 -- `unfolding prints` opens all that a print runs.
 unfoldable pub prints : Unit {0}
-unfolding reads spelling token-bytes tight gap layout grown print
+unfolding reads spelling token-bytes tight gap layout print
 prints = tt
 
 -- The print of what was read; of a refusal, its number after a byte that no print begins with.

@@ -2,7 +2,6 @@ pub mod Laid
 pub mod Formed
 pub mod Letters
 pub mod Trees
-pub mod Read
 pub mod Spelled
 pub mod Bare
 pub mod Agreement
