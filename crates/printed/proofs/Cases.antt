@@ -7,7 +7,7 @@ use mathlib.Core.List.{List, [], _∷_, _++_}
 use Rattle.laws.specs.Quoted.{bytes}
 use Rattle.text.specs.Covering.{spelling}
 use Rattle.grammar.specs.Reading.{Answer, accepted, refused, read}
-use Rattle.grammar.proofs.Cases.{reads}
+use Rattle.grammar.proofs.Cases.{reads, after-slots}
 use Rattle.printed.specs.Layout.{token-bytes, tight, gap, layout}
 use Rattle.printed.specs.Printed.{print}
 
@@ -49,43 +49,40 @@ pub case-empty : (shown (read []) ≡ []) × (shown (read (bytes "  ")) ≡ [])
 unfolding prints
 case-empty = (refl, refl)
 
--- A text of the lettered cases, and its print.
-abbrev case-text : String → List ℕ
-case-text s = bytes "SLOT x {0,1}; SLOT y {0,1}; SLOT z {0,1};" ++ bytes s
-
+-- The print of a text after the slots of document 01's cases.
 abbrev case-print : List String → List ℕ
 case-print ss = lines ("SLOT x { 0, 1 };" ∷ "SLOT y { 0, 1 };" ∷ "SLOT z { 0, 1 };" ∷ ss)
 
 -- Cases A (G), B, C (F, K, L), D, E, H, and I, which prints as A does. J is refused with 12.
-pub case-A : shown (read (case-text "WHEN x *= 1 IF y |= 0 THEN z := 1;")) ≡ case-print ("WHEN x *= 1 IF y |= 0 THEN z := 1;" ∷ [])
+pub case-A : shown (read (after-slots "WHEN x *= 1 IF y |= 0 THEN z := 1;")) ≡ case-print ("WHEN x *= 1 IF y |= 0 THEN z := 1;" ∷ [])
 unfolding prints
 case-A = refl
 
-pub case-B : shown (read (case-text "WHEN z *= 1 IF y |= 0 THEN y := 1;")) ≡ case-print ("WHEN z *= 1 IF y |= 0 THEN y := 1;" ∷ [])
+pub case-B : shown (read (after-slots "WHEN z *= 1 IF y |= 0 THEN y := 1;")) ≡ case-print ("WHEN z *= 1 IF y |= 0 THEN y := 1;" ∷ [])
 unfolding prints
 case-B = refl
 
-pub case-C : shown (read (case-text "WHEN x *= 1 IF y |= 0 THEN z := 1;WHEN z *= 1 IF y |= 0 THEN y := 1;")) ≡ case-print ("WHEN x *= 1 IF y |= 0 THEN z := 1;" ∷ "WHEN z *= 1 IF y |= 0 THEN y := 1;" ∷ [])
+pub case-C : shown (read (after-slots "WHEN x *= 1 IF y |= 0 THEN z := 1;WHEN z *= 1 IF y |= 0 THEN y := 1;")) ≡ case-print ("WHEN x *= 1 IF y |= 0 THEN z := 1;" ∷ "WHEN z *= 1 IF y |= 0 THEN y := 1;" ∷ [])
 unfolding prints
 case-C = refl
 
-pub case-D : shown (read (case-text "WHEN x *= 1 IF y |= 0 THEN z := 1;WHEN z *= 1 IF y |= 0 THEN x := 1;")) ≡ case-print ("WHEN x *= 1 IF y |= 0 THEN z := 1;" ∷ "WHEN z *= 1 IF y |= 0 THEN x := 1;" ∷ [])
+pub case-D : shown (read (after-slots "WHEN x *= 1 IF y |= 0 THEN z := 1;WHEN z *= 1 IF y |= 0 THEN x := 1;")) ≡ case-print ("WHEN x *= 1 IF y |= 0 THEN z := 1;" ∷ "WHEN z *= 1 IF y |= 0 THEN x := 1;" ∷ [])
 unfolding prints
 case-D = refl
 
-pub case-E : shown (read (case-text "WHEN y *= 1 IF NOT x *= 1 THEN z := 1;WHEN y *= 1 IF x |= 0 THEN x := 1;")) ≡ case-print ("WHEN y *= 1 IF NOT x *= 1 THEN z := 1;" ∷ "WHEN y *= 1 IF x |= 0 THEN x := 1;" ∷ [])
+pub case-E : shown (read (after-slots "WHEN y *= 1 IF NOT x *= 1 THEN z := 1;WHEN y *= 1 IF x |= 0 THEN x := 1;")) ≡ case-print ("WHEN y *= 1 IF NOT x *= 1 THEN z := 1;" ∷ "WHEN y *= 1 IF x |= 0 THEN x := 1;" ∷ [])
 unfolding prints
 case-E = refl
 
-pub case-H : shown (read (case-text "WHEN x *= 1 IF TRUE THEN x := 0;")) ≡ case-print ("WHEN x *= 1 IF TRUE THEN x := 0;" ∷ [])
+pub case-H : shown (read (after-slots "WHEN x *= 1 IF TRUE THEN x := 0;")) ≡ case-print ("WHEN x *= 1 IF TRUE THEN x := 0;" ∷ [])
 unfolding prints
 case-H = refl
 
-pub case-I : shown (read (case-text "WHEN x *= 1 IF TRUE AND y |= 0 THEN z := 1;")) ≡ case-print ("WHEN x *= 1 IF y |= 0 THEN z := 1;" ∷ [])
+pub case-I : shown (read (after-slots "WHEN x *= 1 IF TRUE AND y |= 0 THEN z := 1;")) ≡ case-print ("WHEN x *= 1 IF y |= 0 THEN z := 1;" ∷ [])
 unfolding prints
 case-I = refl
 
-pub case-J : shown (read (case-text "WHEN x *= 1 IF y |= 0 AND TRUE THEN z := 1;")) ≡ 0 ∷ 12 ∷ []
+pub case-J : shown (read (after-slots "WHEN x *= 1 IF y |= 0 AND TRUE THEN z := 1;")) ≡ 0 ∷ 12 ∷ []
 unfolding prints
 case-J = refl
 
