@@ -5,4 +5,5 @@ pub mod Letters
 pub mod Trees
 pub mod Spelled
 pub mod Unplaced
+pub mod Tidied
 pub mod Prints

@@ -21,6 +21,8 @@ use Rattle.grammar.specs.Reading.{accepted, read}
 use Rattle.grammar.proofs.Accepts.{accepts-iff, one-meaning}
 use Rattle.printed.specs.Layout.{by-letters}
 use Rattle.printed.specs.Printed.{print, Agree}
+use Rattle.printed.proofs.Trees.{canonical-means}
+use Rattle.printed.proofs.Tidied.{canonical-tidy, tidy-print}
 use Rattle.printed.proofs.Prints.{print-tokens, print-read, agree-print, print-agree}
 use Rattle.reader.specs.declared.Outcome.the-variants.{Accepted}
 use Rattle.rule_file.specs.Whole.{reading}
@@ -112,7 +114,15 @@ module _ (text : List ℕ) (room : ℕ) (bytes : List ℕ) (e : printed text roo
   style =
       let c = reading-carries text is-accepted in
       let p = is-print ∙ print-is text (c .file) (c .is-file) in
-      record { file = c .file; is-file = c .is-file; laid-out = p; tokens-are = ap (λ (b : List ℕ). by-letters (tokens b)) p ∙ print-tokens text (c .file) (c .is-file) }
+      record {
+        file = c .file;
+        is-file = c .is-file;
+        means = canonical-means (c .is-file .tree) (c .file) (c .is-file .means);
+        tidy = canonical-tidy (c .file);
+        laid-out = p;
+        tokens-are = ap (λ (b : List ℕ). by-letters (tokens b)) p ∙ print-tokens text (c .file) (c .is-file);
+        no-other = λ t m d. tidy-print t (c .file) m d ∙ sym p;
+      }
 
   back : (reading bytes .outcome ≡ Accepted) × Alike text bytes
   back = subst (λ (b : List ℕ). (reading b .outcome ≡ Accepted) × Alike text b) (sym is-print) (reads-back text is-accepted (subst (λ (b : List ℕ). length b ≤ max-text) is-print short))

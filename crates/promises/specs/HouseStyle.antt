@@ -9,13 +9,14 @@ use Rattle.laws.specs.Answers.{taken, refused}
 use Rattle.text.specs.Tokens.{tokens}
 use Rattle.grammar.specs.Limits.{max-text}
 use Rattle.grammar.specs.Files.{File}
-use Rattle.grammar.specs.Grammar.{spell}
-use Rattle.grammar.specs.Meaning.{Is-file}
+use Rattle.grammar.specs.Grammar.{FileTree, spell}
+use Rattle.grammar.specs.Meaning.{Means, Is-file}
 use Rattle.grammar.specs.Reading.{read}
 use Rattle.table.specs.Link.{rules-of, carried-strata, value-counts}
 use Rattle.names.specs.Names.{show-slot, show-value}
 use Rattle.printed.specs.Layout.{layout, by-letters}
 use Rattle.printed.specs.Printed.{canonical}
+use Rattle.printed.specs.Tidy.{Tidy}
 use Rattle.reader.specs.declared.Outcome.the-variants.{Accepted, Refused}
 use Rattle.rule_file.specs.Whole.{reading}
 use Rattle.printing.specs.Printing.{print-of, printed}
@@ -32,12 +33,16 @@ pub record Alike (text text′ : List ℕ) : Type 0 where
   pub same-rules : rules-of (reading text .table) ≡ rules-of (reading text′ .table)
   pub same-strata : carried-strata (reading text .table) ≡ carried-strata (reading text′ .table)
 
--- Bytes are in the house style what a text says: the text is a file, the bytes are the tokens of the file's one tree, laid out, and those tokens are what they are read as.
+-- Bytes are in the house style what a text says. The text is a file; the file's canonical tree means it and is tidy (cancelled NOTs gone, TRUE only in an empty condition, braces only for two or more assignments);
+-- the bytes are that tree's tokens laid out, and these tokens are what they are read as. There is no other form: any tidy tree that means the file is laid out as these bytes.
 pub record InStyle (text bytes : List ℕ) : Type 0 where
   pub file : File
   pub is-file : Is-file text file
+  pub means : Means (canonical file) file
+  pub tidy : Tidy (canonical file)
   pub laid-out : bytes ≡ layout (spell (canonical file))
   pub tokens-are : by-letters (tokens bytes) ≡ by-letters (spell (canonical file))
+  pub no-other : (t : FileTree) → Means t file → Tidy t → layout (spell t) ≡ bytes
 
 pub record HouseStyle : Type 0 where
   -- What is printed is in the style.
