@@ -21,7 +21,7 @@ unfolding bytes-from bytes class-of reserved mark-of run-token run token-here mo
 reads = tt
 
 -- The slots of document 01's cases.
-abbrev slots-text : String
+abbrev pub slots-text : String
 slots-text = "SLOT x {0,1}; SLOT y {0,1}; SLOT z {0,1};"
 
 -- A name at its place.
@@ -35,8 +35,8 @@ slots-read =
     ∷ record { name = at 19 "y"; values = at 22 "0" ∷ at 24 "1" ∷ [] }
     ∷ record { name = at 33 "z"; values = at 36 "0" ∷ at 38 "1" ∷ [] } ∷ []
 
--- What is said of a text that follows those slots.
-abbrev after-slots : String → List ℕ
+-- A text after those slots.
+abbrev pub after-slots : String → List ℕ
 after-slots s = bytes slots-text ++ bytes s
 
 -- Case I: TRUE may open a condition and be followed by AND.

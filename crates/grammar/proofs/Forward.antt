@@ -11,9 +11,9 @@ use Rattle.text.specs.Tokens.{Name, Token, word, name, SLOT, WHEN, IF, THEN, AN
 use Rattle.model.specs.Rules.{Pair, Literal, Rule, assigns}
 use Rattle.grammar.specs.Limits.{max-text, max-slots, max-values, max-rules, max-literals, max-assignments}
 use Rattle.grammar.specs.Files.{Slot, File, place-in, slot-names}
-use Rattle.grammar.specs.Grammar.{RuleTree, rule, trigger, ConditionTree, LiteralTree, not-literal, becomes-value, has-value, AssignTree, AssignmentListTree, AssignmentTree, gets-value, ValueListTree, LineTree, line, spell-literal, spell-condition, spell-assignment, spell-assignments, spell-assign, spell-rule, spell-rules, spell-values, spell-line, spell-lines}
+use Rattle.grammar.specs.Grammar.{RuleTree, rule, trigger, ConditionTree, LiteralTree, not-literal, becomes-value, has-value, AssignTree, AssignmentListTree, AssignmentTree, gets-value, ValueListTree, LineTree, line, FileTree, spell, spell-literal, spell-condition, spell-assignment, spell-assignments, spell-assign, spell-rule, spell-rules, spell-values, spell-line, spell-lines}
 use Rattle.grammar.specs.Reading.{Part, took, stop, accepted, _then_, expects, fork, a-name, begins-with, if-next, new, new-name, known-slot, known-value, unassigned, read-slot, read-value, read-target, read-list, plain-literal, read-literal, no-literal, read-literals, read-condition, read-assignment, no-assignment, read-assignments, read-assign, read-rule, no-value, read-values, read-line, go-on, read-rules, read-lines, read-tokens, read}
-use Rattle.grammar.specs.Meaning.{Names, turned, nots, tests-change, slot-in, value-in, Means-literal, Means-condition, means-and, means-one, means-true, Means-assignment, means-assignment, Means-assignments, means-first, means-comma, Means-assign, means-alone, means-braces, means-trigger, Means-rule, means-rule, Means-rules, no-rules, more-rules, Means-values, means-value, means-values, Means-line, means-line, Means-lines, no-lines, more-lines, Is-file}
+use Rattle.grammar.specs.Meaning.{Names, turned, nots, tests-change, slot-in, value-in, Means-literal, Means-condition, means-and, means-one, means-true, Means-assignment, means-assignment, Means-assignments, means-first, means-comma, Means-assign, means-alone, means-braces, means-trigger, Means-rule, means-rule, Means-rules, no-rules, more-rules, Means-values, means-value, means-values, Means-line, means-line, Means-lines, no-lines, more-lines, Means, Is-file}
 
 pub took-then : {A B : Type 0} (a : A) (ts : List Token) (f : A → List Token → Part B) → (took a ts then f) ≡ f a ts
 unfolding _then_
@@ -242,10 +242,14 @@ lines-read before ts all us (suc room) (more-lines {t = line n vs} {s = s} {ts =
     rw (line-read before (line n vs) s (spell-lines ws (spell-rules us [])) g)
     (lines-read (before ++ s ∷ []) ws all us room gs (let x = length-append before (s ∷ []) in omega arith))
 
+-- The tokens of a tree are read as what the tree means, whatever the length of a text that has them.
+pub tree-read : (t : FileTree) (f : File) → Means t f → read-tokens (spell t) ≡ accepted f
+unfolding read-tokens
+tree-read t f m =
+    lines-read [] (t .lines) (f .slots) (t .rules) max-slots (m .lines-are) (let x = m .few-slots in omega arith)
+    ∙ rules-read (f .slots) (t .rules) (f .rules) [] max-rules (m .rules-are) (m .few-rules)
+
 -- A text that is a file is read as that file.
 pub file-read : (text : List ℕ) (f : File) → Is-file text f → read text ≡ accepted f
-unfolding read read-tokens
-file-read text f h =
-    rw (le-leb (length text) max-text (h .short), ← h .derives)
-    (lines-read [] (h .tree .lines) (f .slots) (h .tree .rules) max-slots (h .means .lines-are) (let x = h .means .few-slots in omega arith)
-    ∙ rules-read (f .slots) (h .tree .rules) (f .rules) [] max-rules (h .means .rules-are) (h .means .few-rules))
+unfolding read
+file-read text f h = rw (le-leb (length text) max-text (h .short), ← h .derives) (tree-read (h .tree) f (h .means))

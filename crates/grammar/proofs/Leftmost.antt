@@ -4,17 +4,12 @@ use Prim.Native.Nat.{ℕ}
 use mathlib.Core.Path.{_≡_, refl, sym, ap, _∙_}
 use mathlib.Core.List.{List, [], _∷_, _++_}
 use Rattle.text.specs.Tokens.{Name, Token, word, name, AND, COMMA}
-use Rattle.grammar.specs.Grammar.{ConditionTree, and-literal, one-literal, true-alone, LiteralTree, AssignmentListTree, one-assignment, comma-assignment, AssignmentTree, ValueListTree, one-value, comma-value, spell-literal, spell-condition, spell-assignment, spell-assignments, spell-values}
+use Rattle.grammar.specs.Grammar.{ConditionTree, and-literal, one-literal, true-alone, LiteralTree, AssignmentListTree, one-assignment, comma-assignment, AssignmentTree, ValueListTree, one-value, comma-value, spell-literal, spell-condition, spell-assignment, spell-assignments, spell-values, grown}
 
 -- Parts with `sep` before each.
 abbrev pub spell-more : {A : Type 0} → (A → List Token → List Token) → ℕ → List A → List Token → List Token
 spell-more spell-one sep [] r = r
 spell-more spell-one sep (a ∷ xs) r = word sep ∷ spell-one a (spell-more spell-one sep xs r)
-
--- A tree grown by parts.
-abbrev pub grown : {A T : Type 0} → (T → A → T) → T → List A → T
-grown grow t [] = t
-grown grow t (a ∷ xs) = grown grow (grow t a) xs
 
 pub grown-last : {A T : Type 0} (grow : T → A → T) (t : T) (xs : List A) (a : A) → grown grow t (xs ++ a ∷ []) ≡ grow (grown grow t xs) a
 grown-last grow t [] a = refl

@@ -9,12 +9,12 @@ use Rattle.text.specs.Tokens.{Name, Token, word, name, SLOT, WHEN, IF, THEN, AN
 use Rattle.model.specs.Rules.{Pair}
 use Rattle.grammar.specs.Limits.{max-values, max-literals, max-assignments}
 use Rattle.grammar.specs.Files.{Slot, slot-names}
-use Rattle.grammar.specs.Grammar.{RuleTree, rule, trigger, ConditionTree, and-literal, one-literal, true-alone, LiteralTree, AssignTree, one-alone, braces, AssignmentListTree, one-assignment, comma-assignment, AssignmentTree, gets-value, ValueListTree, one-value, comma-value, LineTree, line, spell-literal, spell-condition, spell-assignment, spell-assignments, spell-assign, spell-rule, spell-values, spell-line}
+use Rattle.grammar.specs.Grammar.{RuleTree, rule, trigger, ConditionTree, and-literal, one-literal, true-alone, LiteralTree, AssignTree, one-alone, braces, AssignmentListTree, one-assignment, comma-assignment, AssignmentTree, gets-value, ValueListTree, one-value, comma-value, LineTree, line, spell-literal, spell-condition, spell-assignment, spell-assignments, spell-assign, spell-rule, spell-values, spell-line, grown}
 use Rattle.grammar.specs.Reading.{took, _then_, expects, fork, new-name, read-slot, read-value, read-target, read-literals, read-condition, read-assignment, no-assignment, read-assignments, read-assign, read-rule, no-value, read-values, read-line}
 use Rattle.model.specs.Result.{pair}
 use Rattle.grammar.proofs.Forward.{no-true, no-open}
 use Rattle.grammar.proofs.Backward.{no-assignment-back, no-value-back}
-use Rattle.grammar.proofs.Leftmost.{grown, Opening, with-literal, with-true, opened, condition-leftmost, spells-condition, assignments-leftmost, spells-assignments, values-leftmost, spells-values}
+use Rattle.grammar.proofs.Leftmost.{Opening, with-literal, with-true, opened, condition-leftmost, spells-condition, assignments-leftmost, spells-assignments, values-leftmost, spells-values}
 use Rattle.grammar.proofs.Stopping.{Written, Language, Reader, nothing, reader-took, both, reader-then, the-word, reader-expects, a-single-name, reader-name, reader-full}
 use Rattle.grammar.proofs.Choosing.{reader-along, either, reader-fork, perhaps, reader-next, list-of, reader-list}
 use Rattle.grammar.proofs.Parts.{slot-name-read, value-name-read, new-name-read, target-name-read, full-assignment-read, full-value-read, x-name, literal-append, literal-written, literals, reader-literals}

@@ -6,8 +6,8 @@ use mathlib.Core.Path.{_≡_, refl, sym, ap, ap₂, _∙_}
 use mathlib.Core.List.{List, [], _∷_}
 use lib.ListN.{drop}
 use Rattle.text.specs.Tokens.{Name, Token, word, name, SLOT, WHEN, IF, THEN, AND, NOT, TRUE, OPEN, CLOSE, COMMA, SEMICOLON, BECOMES, HAS}
-use Rattle.grammar.specs.Grammar.{RuleTree, rule, TriggerTree, trigger, ConditionTree, and-literal, LiteralTree, not-literal, becomes-value, has-value, AssignTree, one-alone, braces, AssignmentListTree, one-assignment, comma-assignment, AssignmentTree, gets-value, ValueListTree, one-value, comma-value, LineTree, line, FileTree, spell, spell-literal, spell-condition, spell-assignment, spell-assignments, spell-assign, spell-trigger, spell-rule, spell-rules, spell-values, spell-line, spell-lines}
-use Rattle.grammar.proofs.Leftmost.{spell-more, grown, Opening, with-literal, with-true, opened, condition-leftmost, spells-condition, assignments-leftmost, spells-assignments, spell-name, values-leftmost, spells-values}
+use Rattle.grammar.specs.Grammar.{RuleTree, rule, TriggerTree, trigger, ConditionTree, and-literal, LiteralTree, not-literal, becomes-value, has-value, AssignTree, one-alone, braces, AssignmentListTree, one-assignment, comma-assignment, AssignmentTree, gets-value, ValueListTree, one-value, comma-value, LineTree, line, FileTree, spell, spell-literal, spell-condition, spell-assignment, spell-assignments, spell-assign, spell-trigger, spell-rule, spell-rules, spell-values, spell-line, spell-lines, grown}
+use Rattle.grammar.proofs.Leftmost.{spell-more, Opening, with-literal, with-true, opened, condition-leftmost, spells-condition, assignments-leftmost, spells-assignments, spell-name, values-leftmost, spells-values}
 
 pub other-word : {C : Type 0} (v w : ℕ) (xs ys : List Token) → word v ∷ xs ≡ word w ∷ ys → (v ≡ w → ⊥) → C
 other-word v w xs ys e h = let z : v ≡ w = cc in absurd (h z)

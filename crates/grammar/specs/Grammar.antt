@@ -51,6 +51,11 @@ pub record FileTree : Type 0 where
   pub lines : List LineTree
   pub rules : List RuleTree
 
+-- A tree of a list that is derived from its right end, as r_cond, assignment-list and value-list are, grown there by more parts.
+abbrev pub grown : {A T : Type 0} → (T → A → T) → T → List A → T
+grown grow t [] = t
+grown grow t (a ∷ xs) = grown grow (grow t a) xs
+
 -- The tokens that a literal derives, followed by `rest`.
 abbrev pub spell-literal : LiteralTree → List Token → List Token
 spell-literal (not-literal l) rest = word NOT ∷ spell-literal l rest

@@ -5,7 +5,7 @@ use native.Mathlib.Omega.{arith}
 use native.Mathlib.Numerals.{add-one}
 use mathlib.Core.Path.{_≡_, refl, sym, ap, _∙_}
 use mathlib.Core.List.{List, [], _∷_, _++_, append-assoc}
-use lib.ListN.{length, getD, length-append, take, drop, set, replicate, length-set, length-replicate, take-append-drop}
+use lib.ListN.{length, getD, length-append, take, drop, set, replicate, length-set, length-replicate, take-append-drop, List·getD-append}
 use lib.Seq.{length-take-le, take-suc-set, take-append-seam}
 use Rattle.laws.specs.Filled.{filled, Filled}
 
@@ -72,6 +72,11 @@ filled-length n unused xs h = length-append xs (replicate (n - length xs) unused
 pub filled-front : {A : Type 0} (n : ℕ) (unused : A) (xs : List A) → take (length xs) (filled n unused xs) ≡ xs
 unfolding filled
 filled-front n unused xs = take-append-seam xs (replicate (n - length xs) unused)
+
+-- What stands at a used place.
+pub filled-at : {A : Type 0} (n : ℕ) (unused : A) (xs : List A) (i : ℕ) (d : A) → i < length xs → getD (filled n unused xs) i d ≡ getD xs i d
+unfolding filled
+filled-at n unused xs i d h = List·getD-append xs (replicate (n - length xs) unused) d i h
 
 replicated : {A : Type 0} (P : A → Type 0) (u d : A) (k i : ℕ) → P u → i < k → P (getD (replicate k u) i d)
 replicated P u d zero i p h = absurd (omega arith)

@@ -1,4 +1,4 @@
--- Laws of tests over lists, and of going through the first elements of a list one after the other.
+-- Laws of tests and properties over lists, and of going through the first elements of a list one after the other.
 -- Assumes nothing.
 use Prim.Native.Nat.{ℕ, zero, suc, _+_, _≤_, _<_}
 use native.Mathlib.Numerals.{add-one}
@@ -10,7 +10,7 @@ use lib.Dec.{T}
 use lib.ListN.{length, getD, take, drop, length-map, length-take, drop-of-length-le, List·getD-map}
 use lib.Seq.{drop-cons, getD-take}
 use Rattle.laws.specs.Truth.{_∧ᵇ_}
-use Rattle.laws.specs.Listed.{all-of}
+use Rattle.laws.specs.Listed.{all-of, Each}
 use Rattle.laws.proofs.Truth.{and-l, and-r, and-i}
 
 -- What is left of the images of the first m elements begins with that of the next.
@@ -49,3 +49,19 @@ pub all-same : {A : Type 0} (f g : A → Bool) (xs : List A) → ((x : A) → f 
 unfolding all-of
 all-same f g [] h = refl
 all-same f g (x ∷ xs) h = rw (h x, all-same f g xs h)
+
+-- A property that each element has is that of the element at each place.
+pub each-at : {A : Type 0} (P : A → Type 0) (xs : List A) (i : ℕ) (d : A) → Each P xs → i < length xs → P (getD xs i d)
+each-at P [] i d h l = absurd (omega arith)
+each-at P (x ∷ xs) zero d h l = h .0
+each-at P (x ∷ xs) (suc i) d h l = each-at P xs i d (h .1) (omega arith)
+
+-- What follows of each element has each image.
+pub each-map : {A B : Type 0} (P : A → Type 0) (Q : B → Type 0) (f : A → B) (xs : List A) → ((x : A) → P x → Q (f x)) → Each P xs → Each Q (map f xs)
+each-map P Q f [] k h = tt
+each-map P Q f (x ∷ xs) k h = (k x (h .0), each-map P Q f xs k (h .1))
+
+-- An element more at the end.
+pub each-last : {A : Type 0} (P : A → Type 0) (xs : List A) (x : A) → Each P xs → P x → Each P (xs ++ x ∷ [])
+each-last P [] x h g = (g, tt)
+each-last P (y ∷ xs) x h g = (h .0, each-last P xs x (h .1) g)

@@ -1,4 +1,4 @@
--- Texts printed by evaluation: every form that the print leaves out, the lettered cases of document 01, and the empty file.
+-- Texts printed by evaluation: every form that the print leaves out, the lettered cases of document 01, the empty file and the example.
 -- Assumes nothing.
 use Prim.Native.Nat.{ℕ}
 use Prim.Native.String.{String}
@@ -7,19 +7,19 @@ use mathlib.Core.List.{List, [], _∷_, _++_}
 use Rattle.laws.specs.Quoted.{bytes}
 use Rattle.text.specs.Covering.{spelling}
 use Rattle.grammar.specs.Reading.{Answer, accepted, refused, read}
-use Rattle.grammar.proofs.Cases.{reads}
+use Rattle.grammar.proofs.Cases.{reads, after-slots}
 use Rattle.printed.specs.Layout.{token-bytes, tight, gap, layout}
-use Rattle.printed.specs.Printed.{grown, print}
+use Rattle.printed.specs.Printed.{print}
 
 -- `unfolding prints` opens all that a print runs.
 unfoldable pub prints : Unit {0}
-unfolding reads spelling token-bytes tight gap layout grown print
+unfolding reads spelling token-bytes tight gap layout print
 prints = tt
 
 -- The print of what was read; of a refusal, its number after a byte that no print begins with.
-abbrev printed : Answer → List ℕ
-printed (accepted f) = print f
-printed (refused k n) = 0 ∷ k ∷ []
+abbrev shown : Answer → List ℕ
+shown (accepted f) = print f
+shown (refused k n) = 0 ∷ k ∷ []
 
 -- Lines, byte 10 after each.
 abbrev lines : List String → List ℕ
@@ -30,7 +30,7 @@ lines (s ∷ ss) = bytes s ++ 10 ∷ lines ss
 abbrev untidy : List ℕ
 untidy = bytes "SLOT x{0,1}\t;SLOT y {0 , 1-a};WHEN x*=1 IF TRUE THEN{y:=0};WHEN x *= 1 IF TRUE AND NOT NOT y|=0 AND NOT NOT NOT x *=0 THEN{y:=1-a ,x:=0} ; WHEN y*=0   IF NOT y|=0 AND NOT y|=0 THEN x:=1; "
 
-pub case-untidy : printed (read untidy)
+pub case-untidy : shown (read untidy)
     ≡ lines ("SLOT x { 0, 1 };"
     ∷ "SLOT y { 0, 1-a };"
     ∷ "WHEN x *= 1 IF TRUE THEN y := 0;"
@@ -40,51 +40,99 @@ unfolding prints
 case-untidy = refl
 
 -- The print of the print.
-pub case-again : printed (read (printed (read untidy))) ≡ printed (read untidy)
+pub case-again : shown (read (shown (read untidy))) ≡ shown (read untidy)
 unfolding prints
 case-again = refl
 
 -- Nothing but white prints as no bytes.
-pub case-empty : (printed (read []) ≡ []) × (printed (read (bytes "  ")) ≡ [])
+pub case-empty : (shown (read []) ≡ []) × (shown (read (bytes "  ")) ≡ [])
 unfolding prints
 case-empty = (refl, refl)
 
--- A text of the lettered cases, and its print.
-abbrev case-text : String → List ℕ
-case-text s = bytes "SLOT x {0,1}; SLOT y {0,1}; SLOT z {0,1};" ++ bytes s
-
+-- The print of a text after the slots of document 01's cases.
 abbrev case-print : List String → List ℕ
 case-print ss = lines ("SLOT x { 0, 1 };" ∷ "SLOT y { 0, 1 };" ∷ "SLOT z { 0, 1 };" ∷ ss)
 
 -- Cases A (G), B, C (F, K, L), D, E, H, and I, which prints as A does. J is refused with 12.
-pub case-A : printed (read (case-text "WHEN x *= 1 IF y |= 0 THEN z := 1;")) ≡ case-print ("WHEN x *= 1 IF y |= 0 THEN z := 1;" ∷ [])
+pub case-A : shown (read (after-slots "WHEN x *= 1 IF y |= 0 THEN z := 1;")) ≡ case-print ("WHEN x *= 1 IF y |= 0 THEN z := 1;" ∷ [])
 unfolding prints
 case-A = refl
 
-pub case-B : printed (read (case-text "WHEN z *= 1 IF y |= 0 THEN y := 1;")) ≡ case-print ("WHEN z *= 1 IF y |= 0 THEN y := 1;" ∷ [])
+pub case-B : shown (read (after-slots "WHEN z *= 1 IF y |= 0 THEN y := 1;")) ≡ case-print ("WHEN z *= 1 IF y |= 0 THEN y := 1;" ∷ [])
 unfolding prints
 case-B = refl
 
-pub case-C : printed (read (case-text "WHEN x *= 1 IF y |= 0 THEN z := 1;WHEN z *= 1 IF y |= 0 THEN y := 1;")) ≡ case-print ("WHEN x *= 1 IF y |= 0 THEN z := 1;" ∷ "WHEN z *= 1 IF y |= 0 THEN y := 1;" ∷ [])
+pub case-C : shown (read (after-slots "WHEN x *= 1 IF y |= 0 THEN z := 1;WHEN z *= 1 IF y |= 0 THEN y := 1;")) ≡ case-print ("WHEN x *= 1 IF y |= 0 THEN z := 1;" ∷ "WHEN z *= 1 IF y |= 0 THEN y := 1;" ∷ [])
 unfolding prints
 case-C = refl
 
-pub case-D : printed (read (case-text "WHEN x *= 1 IF y |= 0 THEN z := 1;WHEN z *= 1 IF y |= 0 THEN x := 1;")) ≡ case-print ("WHEN x *= 1 IF y |= 0 THEN z := 1;" ∷ "WHEN z *= 1 IF y |= 0 THEN x := 1;" ∷ [])
+pub case-D : shown (read (after-slots "WHEN x *= 1 IF y |= 0 THEN z := 1;WHEN z *= 1 IF y |= 0 THEN x := 1;")) ≡ case-print ("WHEN x *= 1 IF y |= 0 THEN z := 1;" ∷ "WHEN z *= 1 IF y |= 0 THEN x := 1;" ∷ [])
 unfolding prints
 case-D = refl
 
-pub case-E : printed (read (case-text "WHEN y *= 1 IF NOT x *= 1 THEN z := 1;WHEN y *= 1 IF x |= 0 THEN x := 1;")) ≡ case-print ("WHEN y *= 1 IF NOT x *= 1 THEN z := 1;" ∷ "WHEN y *= 1 IF x |= 0 THEN x := 1;" ∷ [])
+pub case-E : shown (read (after-slots "WHEN y *= 1 IF NOT x *= 1 THEN z := 1;WHEN y *= 1 IF x |= 0 THEN x := 1;")) ≡ case-print ("WHEN y *= 1 IF NOT x *= 1 THEN z := 1;" ∷ "WHEN y *= 1 IF x |= 0 THEN x := 1;" ∷ [])
 unfolding prints
 case-E = refl
 
-pub case-H : printed (read (case-text "WHEN x *= 1 IF TRUE THEN x := 0;")) ≡ case-print ("WHEN x *= 1 IF TRUE THEN x := 0;" ∷ [])
+pub case-H : shown (read (after-slots "WHEN x *= 1 IF TRUE THEN x := 0;")) ≡ case-print ("WHEN x *= 1 IF TRUE THEN x := 0;" ∷ [])
 unfolding prints
 case-H = refl
 
-pub case-I : printed (read (case-text "WHEN x *= 1 IF TRUE AND y |= 0 THEN z := 1;")) ≡ case-print ("WHEN x *= 1 IF y |= 0 THEN z := 1;" ∷ [])
+pub case-I : shown (read (after-slots "WHEN x *= 1 IF TRUE AND y |= 0 THEN z := 1;")) ≡ case-print ("WHEN x *= 1 IF y |= 0 THEN z := 1;" ∷ [])
 unfolding prints
 case-I = refl
 
-pub case-J : printed (read (case-text "WHEN x *= 1 IF y |= 0 AND TRUE THEN z := 1;")) ≡ 0 ∷ 12 ∷ []
+pub case-J : shown (read (after-slots "WHEN x *= 1 IF y |= 0 AND TRUE THEN z := 1;")) ≡ 0 ∷ 12 ∷ []
 unfolding prints
 case-J = refl
+
+-- The rules of the example, examples/dialect/rules.txt, and their print.
+abbrev dialect : List ℕ
+dialect =
+    lines ("SLOT class {noun, verb, adjective};"
+    ∷ "SLOT first-attested {before-1600, 1600s, 1700s, 1800s, 1900s};"
+    ∷ "SLOT last-attested {before-1800, 1800s, 1900s, in-use};"
+    ∷ "SLOT status {current, rare, obsolete};"
+    ∷ "SLOT region {north, west, east, isles};"
+    ∷ "SLOT spread {one-county, several, wide};"
+    ∷ "SLOT spelling {modern, old, phonetic};"
+    ∷ "SLOT origin {norse, french, gaelic, unknown};"
+    ∷ "SLOT register {plain, slang, trade};"
+    ∷ "SLOT source {book, letter, tape};"
+    ∷ "SLOT label {no-label, dated, local};"
+    ∷ "SLOT page {draft, proof, set};"
+    ∷ ""
+    ∷ "WHEN last-attested *= before-1800 IF NOT source |= tape THEN status := obsolete;"
+    ∷ "WHEN last-attested *= 1800s IF NOT source |= tape THEN status := rare;"
+    ∷ "WHEN status *= obsolete IF NOT label |= local THEN {label := dated, spelling := old};"
+    ∷ "WHEN status *= rare IF spelling |= modern THEN spelling := old;"
+    ∷ "WHEN region *= isles IF TRUE THEN {origin := norse, spread := one-county};"
+    ∷ "WHEN spread *= one-county IF NOT status *= obsolete THEN label := local;"
+    ∷ "WHEN label *= local IF page |= set THEN page := proof;"
+    ∷ "WHEN label *= dated IF page |= set THEN page := proof;"
+    ∷ "WHEN spelling *= old IF class |= noun AND NOT page *= proof THEN register := plain;" ∷ [])
+
+pub case-dialect : shown (read dialect)
+    ≡ lines ("SLOT class { noun, verb, adjective };"
+    ∷ "SLOT first-attested { before-1600, 1600s, 1700s, 1800s, 1900s };"
+    ∷ "SLOT last-attested { before-1800, 1800s, 1900s, in-use };"
+    ∷ "SLOT status { current, rare, obsolete };"
+    ∷ "SLOT region { north, west, east, isles };"
+    ∷ "SLOT spread { one-county, several, wide };"
+    ∷ "SLOT spelling { modern, old, phonetic };"
+    ∷ "SLOT origin { norse, french, gaelic, unknown };"
+    ∷ "SLOT register { plain, slang, trade };"
+    ∷ "SLOT source { book, letter, tape };"
+    ∷ "SLOT label { no-label, dated, local };"
+    ∷ "SLOT page { draft, proof, set };"
+    ∷ "WHEN last-attested *= before-1800 IF NOT source |= tape THEN status := obsolete;"
+    ∷ "WHEN last-attested *= 1800s IF NOT source |= tape THEN status := rare;"
+    ∷ "WHEN status *= obsolete IF NOT label |= local THEN { label := dated, spelling := old };"
+    ∷ "WHEN status *= rare IF spelling |= modern THEN spelling := old;"
+    ∷ "WHEN region *= isles IF TRUE THEN { origin := norse, spread := one-county };"
+    ∷ "WHEN spread *= one-county IF NOT status *= obsolete THEN label := local;"
+    ∷ "WHEN label *= local IF page |= set THEN page := proof;"
+    ∷ "WHEN label *= dated IF page |= set THEN page := proof;"
+    ∷ "WHEN spelling *= old IF class |= noun AND NOT page *= proof THEN register := plain;" ∷ [])
+unfolding prints
+case-dialect = refl

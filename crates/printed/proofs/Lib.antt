@@ -1,9 +1,9 @@
+pub mod Cases
 pub mod Laid
 pub mod Formed
 pub mod Letters
 pub mod Trees
-pub mod Read
 pub mod Spelled
-pub mod Bare
-pub mod Agreement
-pub mod Cases
+pub mod Unplaced
+pub mod Tidied
+pub mod Prints

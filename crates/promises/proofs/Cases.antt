@@ -15,7 +15,8 @@ use Rattle.names.specs.Names.{show-name, has-slot, has-value, show-slot, show-v
 use Rattle.soundness.specs.Sound.{within-limits, slots-have-values, has-pair, named, names-its-own, assigns-once, carries-least, well-formed, sound}
 use Rattle.model.specs.Rules.{assigns, each-once}
 use Rattle.rule_file.specs.Whole.{reading}
-use Rattle.rule_file.proofs.Cases.{runs, case-text}
+use Rattle.grammar.proofs.Cases.{after-slots}
+use Rattle.rule_file.proofs.Cases.{runs}
 use Rattle.cards.specs.Cards.{if-sound}
 use Rattle.laws.specs.Answers.{taken, refused, after}
 use Rattle.cards.specs.Forms.{card-fields, change-fields, slip-fields, card-bytes, slip-bytes, values-in, changes-in, values-test, card-test, change-fault, changes-test, read-card, read-slip}
@@ -86,7 +87,7 @@ x-to-0 = 0x04 ∷ 0x02 ∷ []
 
 -- The text of case C: the rules a and b.
 abbrev pub text-C : List ℕ
-text-C = case-text rule-a ++ bytes rule-b
+text-C = after-slots rule-a ++ bytes rule-b
 
 -- The lines of a rule, and of a change.
 abbrev fired : ℕ → RuleLine
@@ -116,16 +117,16 @@ case text card slip u = record { text = text; card = card; slip = slip; comes-to
 -- F: a, b, card 0C 00 00: only x changes. G: a, slip x to 0: no rule fires. H: 40, slot 0. I: TRUE AND y |= 0 reads. J: y |= 0 AND TRUE is 12. K: card 0C 44 C0 is 22, slot 2. L: 0C 44 41 is 23.
 abbrev pub lettered : List Case
 lettered =
-    case (case-text rule-a) all-0 x-to-1 (answered (fired 1 ∷ []) (change "x" "1" ∷ change "z" "1" ∷ []) (0x0C ∷ 0x84 ∷ 0x80 ∷ []))
-    ∷ case (case-text rule-b) all-0 x-to-1 (answered (idle 1 ∷ []) (change "x" "1" ∷ []) (0x0C ∷ 0x84 ∷ 0x40 ∷ []))
+    case (after-slots rule-a) all-0 x-to-1 (answered (fired 1 ∷ []) (change "x" "1" ∷ change "z" "1" ∷ []) (0x0C ∷ 0x84 ∷ 0x80 ∷ []))
+    ∷ case (after-slots rule-b) all-0 x-to-1 (answered (idle 1 ∷ []) (change "x" "1" ∷ []) (0x0C ∷ 0x84 ∷ 0x40 ∷ []))
     ∷ case text-C all-0 x-to-1 (answered (fired 1 ∷ fired 2 ∷ []) (change "x" "1" ∷ change "y" "1" ∷ change "z" "1" ∷ []) (0x0C ∷ 0x88 ∷ 0x80 ∷ []))
-    ∷ case (case-text rule-a ++ bytes rule-c) all-0 x-to-1 (refusal 18 1)
-    ∷ case (case-text rule-d ++ bytes rule-e) all-0 y-to-1 (answered (idle 2 ∷ fired 1 ∷ []) (change "x" "1" ∷ change "y" "1" ∷ []) (0x0C ∷ 0x88 ∷ 0x40 ∷ []))
+    ∷ case (after-slots rule-a ++ bytes rule-c) all-0 x-to-1 (refusal 18 1)
+    ∷ case (after-slots rule-d ++ bytes rule-e) all-0 y-to-1 (answered (idle 2 ∷ fired 1 ∷ []) (change "x" "1" ∷ change "y" "1" ∷ []) (0x0C ∷ 0x88 ∷ 0x40 ∷ []))
     ∷ case text-C no-values x-to-1 (answered (idle 1 ∷ idle 2 ∷ []) (change "x" "1" ∷ []) (0x0C ∷ 0x80 ∷ 0x00 ∷ []))
-    ∷ case (case-text rule-a) all-0 x-to-0 (answered (idle 1 ∷ []) (change "x" "0" ∷ []) all-0)
-    ∷ case (case-text "WHEN x *= 1 IF TRUE THEN x := 0;") all-0 x-to-1 (refusal 40 0)
-    ∷ case (case-text "WHEN x *= 1 IF TRUE AND y |= 0 THEN z := 1;") all-0 x-to-1 (answered (fired 1 ∷ []) (change "x" "1" ∷ change "z" "1" ∷ []) (0x0C ∷ 0x84 ∷ 0x80 ∷ []))
-    ∷ case (case-text "WHEN x *= 1 IF y |= 0 AND TRUE THEN z := 1;") all-0 x-to-1 (refusal 12 0)
+    ∷ case (after-slots rule-a) all-0 x-to-0 (answered (idle 1 ∷ []) (change "x" "0" ∷ []) all-0)
+    ∷ case (after-slots "WHEN x *= 1 IF TRUE THEN x := 0;") all-0 x-to-1 (refusal 40 0)
+    ∷ case (after-slots "WHEN x *= 1 IF TRUE AND y |= 0 THEN z := 1;") all-0 x-to-1 (answered (fired 1 ∷ []) (change "x" "1" ∷ change "z" "1" ∷ []) (0x0C ∷ 0x84 ∷ 0x80 ∷ []))
+    ∷ case (after-slots "WHEN x *= 1 IF y |= 0 AND TRUE THEN z := 1;") all-0 x-to-1 (refusal 12 0)
     ∷ case text-C (0x0C ∷ 0x44 ∷ 0xC0 ∷ []) x-to-1 (refusal 22 2)
     ∷ case text-C (0x0C ∷ 0x44 ∷ 0x41 ∷ []) x-to-1 (refusal 23 0)
     ∷ []

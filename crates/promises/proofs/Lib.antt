@@ -1,5 +1,7 @@
 pub mod Cases
+pub mod CasePrints
 pub mod Refusals
+pub mod Fitted
 pub mod Engines
 pub mod Day
 pub mod Ends
@@ -11,3 +13,5 @@ pub mod Demand3
 pub mod Demand1
 pub mod Called
 pub mod Demand2
+pub mod Alike
+pub mod HouseStyle

@@ -4,3 +4,4 @@ pub mod Paper
 pub mod Day
 pub mod Listing
 pub mod Called
+pub mod HouseStyle

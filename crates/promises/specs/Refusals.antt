@@ -13,6 +13,7 @@ use Rattle.laws.specs.Answers.{OrRefused, taken, refused, output-of}
 use Rattle.cards.specs.Cards.{unpacked-card, unpacked-slip, packed-card, packed-slip}
 use Rattle.reader.specs.declared.Outcome.the-variants.{Accepted, Refused}
 use Rattle.rule_file.specs.Whole.{reading}
+use Rattle.printing.specs.Printing.{printed}
 use Rattle.tally.specs.declared.Tally.{Tally}
 use Rattle.tally.specs.Counting.{one-refused}
 use Rattle.response.specs.Respond.{Rooms, Outputs, answer-to, response-to, outputs-after}
@@ -30,6 +31,10 @@ Only P (refused k s) = P k
 -- The refusals of a rule file.
 abbrev pub of-file : List ℕ
 of-file = 10 ∷ 11 ∷ 12 ∷ 13 ∷ 14 ∷ 15 ∷ 16 ∷ 17 ∷ 18 ∷ []
+
+-- Those of a print: the rule file's, and then its own.
+abbrev pub of-print : List ℕ
+of-print = 34 ∷ 33 ∷ of-file
 
 -- Those of a card's bytes, and of a slip's.
 abbrev pub of-card : List ℕ
@@ -55,10 +60,13 @@ of-response = 32 ∷ 31 ∷ of-rules
 pub record Demand1 : Type 0 where
   -- A rule file: accepted, or one refusal and the table without slots or rules.
   pub rule-file : (text : List ℕ) → (reading text .outcome ≡ Accepted) ⊎ ((k : ℕ) × (n : ℕ) × OneOf of-file k × (reading text ≡ record { outcome = Refused k n; table = empty-table }))
+  -- A rule file that is printed; 34 and 33 have no second number.
+  pub file-printed : (text : List ℕ) (room : ℕ) → Only (OneOf of-print) (printed text room)
+  pub no-second : (text : List ℕ) (room k s : ℕ) → printed text room ≡ refused k s → OneOf (34 ∷ 33 ∷ []) k → s ≡ 0
   -- Unpacking.
   pub card-unpacked : (t : Table) (ys : List ℕ) → Only (OneOf (31 ∷ of-card)) (unpacked-card t ys)
   pub slip-unpacked : (t : Table) (ys : List ℕ) → Only (OneOf (31 ∷ of-slip)) (unpacked-slip t ys)
-  -- Packing, whose output keeps its contents after a refusal.
+  -- Packing, whose output, as that of a print, keeps its contents after a refusal.
   pub card-packed : (t : Table) (c : Card) (room : ℕ) → Only (OneOf of-card-packed) (packed-card t c room)
   pub slip-packed : (t : Table) (c : Slip) (room : ℕ) → Only (OneOf of-slip-packed) (packed-slip t c room)
   pub output-kept : (u : OrRefused (List ℕ)) (k s : ℕ) (out : List ℕ) → u ≡ refused k s → output-of u out ≡ out

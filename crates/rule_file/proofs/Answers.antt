@@ -13,6 +13,7 @@ use Rattle.model.specs.Strata.{strict, Strata}
 use Rattle.model.specs.Circles.{circle-of}
 use Rattle.model.specs.Least.{strata-of}
 use Rattle.model.proofs.Strata.{no-circle, no-strata, least-strata}
+use Rattle.table.specs.declared.Table.{Table}
 use Rattle.table.specs.Empty.{empty-table}
 use Rattle.table.specs.Fits.{TableFits}
 use Rattle.text.specs.Tokens.{Token}
@@ -22,6 +23,8 @@ use Rattle.grammar.specs.Reading.{Answer, accepted, refused, read}
 use Rattle.grammar.specs.Refusals.{Fault, no-token, no-place, ends-inside, too-long, in-place}
 use Rattle.grammar.proofs.Accepts.{accepts-iff}
 use Rattle.grammar.proofs.Refusals.{refusal-stands}
+use Rattle.grammar.proofs.Stands.{file-stands}
+use Rattle.names.specs.Names.{show-slot, show-value}
 use Rattle.strata.specs.declared.Outcome as found
 use Rattle.strata.specs.declared.Outcome.the-variants.{Layered, Circle}
 use Rattle.strata.specs.declared.Layering.{Layering}
@@ -38,6 +41,7 @@ use Rattle.rule_file.specs.Carries.{Carries}
 use Rattle.rule_file.specs.Whole.{layered, answered-whole, reading}
 use Rattle.rule_file.proofs.Declared.{read-declared}
 use Rattle.rule_file.proofs.FileTable.{file-rules, file-counts, file-shaped, file-well-formed}
+use Rattle.rule_file.proofs.Shown.{slots-show, values-show}
 
 -- The reading's answer for that of the strata.
 abbrev outcome-for : found.Outcome → Outcome
@@ -143,6 +147,11 @@ reading-accepted-iff text = (there, λ o. back o (read text) refl)
         by-circle false q = absurd (outcomes-differ _ _ (sym o ∙ ap (λ (a : FileRead). a .outcome) (reading-file text f e ∙ layered-circle f (eqb-false (circle-of strict (f .rules)) 0 q))))
     back o (refused k n) e = absurd (outcomes-differ k n (sym o ∙ ap (λ (a : FileRead). a .outcome) (reading-refused text k n e)))
 
+-- Strata change no name that is shown.
+with-strata-shown : (text : List ℕ) (t : Table) → ((s : ℕ) → show-slot text (with-strata t) s ≡ show-slot text t s) × ((s v : ℕ) → show-value text (with-strata t) s v ≡ show-value text t s v)
+unfolding with-strata show-slot show-value
+with-strata-shown text t = (λ s. refl, λ s v. refl)
+
 -- An accepted text's table carries its file.
 pub reading-carries : (text : List ℕ) → reading text .outcome ≡ Accepted → Carries text (reading text .table)
 reading-carries text o =
@@ -158,6 +167,8 @@ reading-carries text o =
       is-file = w .1;
       rules-are = same-rules (table-for f) fits sh ∙ file-rules f;
       counts-are = same-counts (table-for f) fits sh ∙ file-counts f;
+      slots-shown = λ s. with-strata-shown text (table-for f) .0 s ∙ slots-show text f (file-stands text f e) s;
+      values-shown = λ s v. with-strata-shown text (table-for f) .1 s v ∙ values-show text f (file-stands text f e) s v;
       strata-are = λ n i. stratum-now (table-for f) fits sh n (rw (file-rules f) i) ∙ ap (λ (rs : List model.Rule). strata-of strict rs n) (file-rules f);
       no-circle = z;
     })

@@ -14,7 +14,7 @@ use Rattle.laws.specs.Filled.{filled}
 use Rattle.laws.proofs.Truth.{and-i, and-l, and-r}
 use Rattle.laws.proofs.Equations.{is-true}
 use Rattle.laws.proofs.Listed.{all-e, all-append}
-use Rattle.laws.proofs.Filled.{filled-length, filled-front, filled-each}
+use Rattle.laws.proofs.Filled.{filled-length, filled-front, filled-each, filled-at}
 use Rattle.model.specs.Rules as model
 use Rattle.model.specs.Orders as orders
 use Rattle.table.specs.declared.Literal.{Literal}
@@ -27,7 +27,6 @@ use Rattle.table.specs.Link.{literal-of, assignment-of, rule-of, rules-of, valu
 use Rattle.names.specs.Names.{has-slot}
 use Rattle.names.proofs.Names.{slot-inside, value-inside}
 use Rattle.table.proofs.Link.{count-is}
-use lib.Seq.{getD-take}
 use Rattle.grammar.specs.Files as files
 use Rattle.grammar.specs.Files.{File, slot-counts}
 use Rattle.soundness.specs.Sound.{has-pair, named, rule-right, well-formed}
@@ -49,6 +48,12 @@ assignments-kept (p ∷ ps) = ap (λ (xs : List model.Pair). p ∷ xs) (assignme
 -- The first places of a filled array are the images of the list.
 used-of : {A B : Type 0} (n : ℕ) (unused : B) (f : A → B) (xs : List A) → take (length xs) (filled n unused (map f xs)) ≡ map f xs
 used-of n unused f xs = ap (λ (k : ℕ). take k (filled n unused (map f xs))) (sym (length-map xs f)) ∙ filled-front n unused (map f xs)
+
+-- What stands at a used place, whatever reading past the end would give.
+pub image-at : {A B : Type 0} (n : ℕ) (unused d : B) (f : A → B) (xs : List A) (i : ℕ) (e : A) → i < length xs → getD (filled n unused (map f xs)) i d ≡ f (getD xs i e)
+image-at n unused d f xs i e h =
+    let l : i < length (map f xs) = omega (arith, h, length-map xs f) in
+    filled-at n unused (map f xs) i d l ∙ any-default (map f xs) i d (f e) l ∙ List·getD-map f xs i e
 
 literals-back : (r : model.Rule) → rule-of (rule-for r) .literals ≡ r .literals
 literals-back r = ap (map literal-of) (used-of literal-limit no-literal literal-for (r .literals)) ∙ literals-kept (r .literals)
@@ -172,11 +177,7 @@ module _ (f : File) (D : Declared f) where
   -- The rule at a place used, and the number of values of a slot.
   rule-here : (i : ℕ) → i < length (f .rules) → getD (table-for f .rules) i no-rule ≡ rule-for (getD (f .rules) i orders.no-rule)
   unfolding table-for
-  rule-here i h =
-      sym (getD-take (length (f .rules)) (filled rule-limit unused-rule (map rule-for (f .rules))) i no-rule h)
-      ∙ ap (λ (rs : List Rule). getD rs i no-rule) (used-of rule-limit unused-rule rule-for (f .rules))
-      ∙ any-default (map rule-for (f .rules)) i no-rule (rule-for orders.no-rule) (omega (arith, h, length-map (f .rules) rule-for))
-      ∙ List·getD-map rule-for (f .rules) i orders.no-rule
+  rule-here i h = image-at rule-limit unused-rule no-rule rule-for (f .rules) i orders.no-rule h
 
   same-width : table-for f .width ≡ length (f .slots)
   unfolding table-for

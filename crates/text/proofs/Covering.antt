@@ -9,6 +9,7 @@ use lib.Dec.{eqb, ltb}
 use lib.ListN.{length, take, drop, getD, length-drop, take-append-drop}
 use lib.Seq.{length-take-le}
 use borrow.Author.Tests.{eqb-true, eqb-false, ne-eqb, ltb-true}
+use Rattle.laws.specs.Listed.{Each}
 use Rattle.classes.specs.Classes.{one-of, between, class-of}
 use Rattle.text.specs.Tokens.{word, long, bad, run, run-token, word-or-name, same-letters, one-further, place, reserved, mark-of, token-here, more-bytes, tokens-from, tokens}
 use Rattle.text.specs.Covering.{marks, spelling, Spells, Covers, done, white, token}
@@ -16,7 +17,7 @@ use Rattle.text.proofs.Cut.{bytes-le}
 use Rattle.text.proofs.Position.{tokens-skip}
 
 -- Names compared as the same are the same.
-same-letters-eq : (a b : List ℕ) → same-letters a b ≡ true → a ≡ b
+pub same-letters-eq : (a b : List ℕ) → same-letters a b ≡ true → a ≡ b
 same-letters-eq [] [] e = refl
 same-letters-eq [] (y ∷ ys) e = absurd (let z : _≡_ {A = ℕ} 0 1 = cc in omega arith)
 same-letters-eq (x ∷ xs) [] e = absurd (let z : _≡_ {A = ℕ} 0 1 = cc in omega arith)
@@ -26,8 +27,8 @@ same-letters-eq (x ∷ xs) (y ∷ ys) e = go (eqb x y) refl (same-letters-eq xs 
     go true f r g = let z = eqb-true x y f in rw (z, r g)
     go false f r g = absurd (let z : _≡_ {A = ℕ} 0 1 = cc in omega arith)
 
--- A name at a place of a list of words is the word there.
-place-spelled : (n : List ℕ) (ms more : List (List ℕ)) (k : ℕ) → place n ms ≡ suc k → n ≡ getD (ms ++ more) k []
+-- A name at a place of a list of words is the word there, whatever words follow the list.
+pub place-spelled : (n : List ℕ) (ms more : List (List ℕ)) (k : ℕ) → place n ms ≡ suc k → n ≡ getD (ms ++ more) k []
 place-spelled n [] more k e = absurd (omega arith)
 place-spelled n (m ∷ ms) more k e = go (same-letters n m) refl (place n ms) (place-spelled n ms more) k e
   where
@@ -69,15 +70,10 @@ class-listed x =
     go false false false false false false true = (λ h. absurd (omega arith), λ h. refl)
     go false false false false false false false = (λ h. absurd (omega arith), λ h. absurd (omega arith))
 
--- A property has each of the listed bytes.
-abbrev Each : (ℕ → Type 0) → List ℕ → Type 0
-Each P [] = Unit
-Each P (k ∷ ks) = P k × Each P ks
-
--- A test of each listed byte is a test of the byte.
-each : (P : ℕ → Type 0) (x : ℕ) (ks : List ℕ) → one-of ks x ≡ true → Each P ks → P x
-each P x [] e h = absurd (let z : _≡_ {A = ℕ} 0 1 = cc in omega arith)
-each P x (k ∷ ks) e h = go (eqb x k) refl (λ f. each P x ks f (h .1)) e
+-- What each listed number has, a listed number has.
+pub each-listed : (P : ℕ → Type 0) (x : ℕ) (ks : List ℕ) → one-of ks x ≡ true → Each P ks → P x
+each-listed P x [] e h = absurd (let z : _≡_ {A = ℕ} 0 1 = cc in omega arith)
+each-listed P x (k ∷ ks) e h = go (eqb x k) refl (λ f. each-listed P x ks f (h .1)) e
   where
     go : (t : Bool) → eqb x k ≡ t → (one-of ks x ≡ true → P x) → cond t true (one-of ks x) ≡ true → P x
     go true f r g = subst P (sym (eqb-true x k f)) (h .0)
@@ -85,11 +81,11 @@ each P x (k ∷ ks) e h = go (eqb x k) refl (λ f. each P x ks f (h .1)) e
 
 single-spelled : (x : ℕ) → class-of x ≡ 4 → x ∷ [] ≡ spelling (mark-of x)
 unfolding spelling mark-of reserved
-single-spelled x e = each (λ (y : ℕ). y ∷ [] ≡ spelling (mark-of y)) x (123 ∷ 125 ∷ 44 ∷ 59 ∷ []) (class-listed x .0 e) (refl, (refl, (refl, (refl, tt))))
+single-spelled x e = each-listed (λ (y : ℕ). y ∷ [] ≡ spelling (mark-of y)) x (123 ∷ 125 ∷ 44 ∷ 59 ∷ []) (class-listed x .0 e) (refl, (refl, (refl, (refl, tt))))
 
 double-spelled : (x : ℕ) → class-of x ≡ 5 → x ∷ 61 ∷ [] ≡ spelling (mark-of x)
 unfolding spelling mark-of reserved
-double-spelled x e = each (λ (y : ℕ). y ∷ 61 ∷ [] ≡ spelling (mark-of y)) x (42 ∷ 124 ∷ 58 ∷ []) (class-listed x .1 e) (refl, (refl, (refl, tt)))
+double-spelled x e = each-listed (λ (y : ℕ). y ∷ 61 ∷ [] ≡ spelling (mark-of y)) x (42 ∷ 124 ∷ 58 ∷ []) (class-listed x .1 e) (refl, (refl, (refl, tt)))
 
 -- The token that begins with a byte spells that byte and those that belong to it.
 spells-two : (p x : ℕ) (xs : List ℕ) → class-of x ≡ 2 → Spells p (token-here p x xs) (x ∷ take (more-bytes x xs) xs)

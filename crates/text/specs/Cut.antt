@@ -5,6 +5,7 @@ use mathlib.Core.Bool.{Bool, false, cond}
 use mathlib.Core.List.{List, [], _∷_}
 use lib.Dec.{eqb}
 use lib.ListN.{length, take, drop}
+use Rattle.laws.specs.Listed.{Each}
 use Rattle.text.specs.Tokens.{Name, Token, word, name, long, bad, SEMICOLON}
 
 -- The same name, its place taken elsewhere.
@@ -50,14 +51,17 @@ pub record Stands (s : List ℕ) (n : Name) : Type 0 where
   pub inside : n .start + length (n .letters) ≤ length s
   pub there : take (length (n .letters)) (drop (n .start) s) ≡ n .letters
 
+-- A token, where it is a name, has a property of names.
+abbrev pub Of-name : (Name → Type 0) → Token → Type 0
+Of-name P (word w) = Unit
+Of-name P (name n) = P n
+Of-name P long = Unit
+Of-name P bad = Unit
+
 -- A token that is a name stands so in the text.
 abbrev pub Token-stands : List ℕ → Token → Type 0
-Token-stands s (word w) = Unit
-Token-stands s (name n) = Stands s n
-Token-stands s long = Unit
-Token-stands s bad = Unit
+Token-stands s = Of-name (Stands s)
 
 -- Every name among the tokens stands so in the text.
 abbrev pub All-stand : List ℕ → List Token → Type 0
-All-stand s [] = Unit
-All-stand s (t ∷ ts) = Token-stands s t × All-stand s ts
+All-stand s = Each (Token-stands s)

@@ -1,0 +1,165 @@
+-- What the reading and the printing of a rule file come to.
+-- Assumes nothing.
+use Prim.Native.Nat.{ℕ, _≤_, _<_}
+use native.Mathlib.Omega.{arith}
+use native.Mathlib.Nat.{eq-or-lt-of-le}
+use mathlib.Core.Path.{_≡_, refl, sym, ap, _∙_}
+use mathlib.Core.Bool.{Bool, true, false, cond}
+use mathlib.Core.List.{List, [], _∷_}
+use mathlib.Core.Logic.{_⊎_, inl, inr, ⊎-elim}
+use lib.Dec.{eqb}
+use lib.ListN.{length}
+use borrow.Author.Tests.{lt-ltb, le-ltb}
+use Rattle.laws.specs.Answers.{OrRefused, taken, refused}
+use Rattle.laws.proofs.Truth.{le-or-lt}
+use Rattle.text.specs.Tokens.{Token}
+use Rattle.model.specs.Strata.{strict}
+use Rattle.model.specs.Circles.{circle-of}
+use Rattle.table.specs.Empty.{empty-table}
+use Rattle.grammar.specs.Limits.{max-text}
+use Rattle.grammar.specs.Files.{File}
+use Rattle.grammar.specs.Reading as grammar
+use Rattle.grammar.specs.Reading.{Answer, accepted, read}
+use Rattle.grammar.specs.Refusals.{Fault, no-token, no-place, ends-inside, too-long, in-place}
+use Rattle.grammar.proofs.Refusals.{refusal-stands}
+use Rattle.strata.specs.Layered.{with-strata}
+use Rattle.reader.specs.Tables.{table-for}
+use Rattle.reader.specs.declared.Outcome.the-variants.{Accepted, Refused}
+use Rattle.reader.specs.declared.FileRead.{FileRead}
+use Rattle.rule_file.specs.Whole.{layered, answered-whole, reading}
+use Rattle.printing.specs.Printing.{print-of, fitted, after-reading, printed}
+use Rattle.promises.specs.Refusals.{OneOf, Only, of-file, of-print}
+use Rattle.promises.proofs.Refusals.{one-of, one-of-more, one-of-other}
+
+-- 14 to 17 are refusals of a rule file.
+in-file : (k : ℕ) → 14 ≤ k → k ≤ 17 → OneOf of-file k
+in-file k low high = ⊎-elim (λ (e : k ≡ 17). rw e (one-of of-file 17 tt)) (λ l. ⊎-elim (λ (e : k ≡ 16). rw e (one-of of-file 16 tt)) (λ m. ⊎-elim (λ (e : k ≡ 15). rw e (one-of of-file 15 tt))
+    (λ n. let e : k ≡ 14 = omega arith in rw e (one-of of-file 14 tt)) (eq-or-lt-of-le (let w : k ≤ 15 = omega (arith, m) in w))) (eq-or-lt-of-le (let w : k ≤ 16 = omega (arith, l) in w))) (eq-or-lt-of-le high)
+
+fault-number : (k : ℕ) (before after : List Token) → Fault k before after → OneOf of-file k
+fault-number k before after no-token = one-of of-file 11 tt
+fault-number k before after (no-place u) = one-of of-file 12 tt
+fault-number k before after (ends-inside u) = one-of of-file 12 tt
+fault-number k before after (too-long u) = one-of of-file 13 tt
+fault-number k before after (in-place low high u) = in-file k low high
+
+-- What a reading comes to.
+abbrev Reads : FileRead → Type 0
+Reads r = (r .outcome ≡ Accepted) ⊎ ((k : ℕ) × (n : ℕ) × OneOf of-file k × (r ≡ record { outcome = Refused k n; table = empty-table }))
+
+file-comes : (f : File) → Reads (layered f)
+unfolding layered
+file-comes f = go (eqb (circle-of strict (f .rules)) 0)
+  where
+    go : (b : Bool) → Reads (cond b (record { outcome = Accepted; table = with-strata (table-for f) }) (record { outcome = Refused 18 (circle-of strict (f .rules)); table = empty-table }))
+    go true = inl refl
+    go false = inr (18, circle-of strict (f .rules), one-of of-file 18 tt, refl)
+
+pub text-comes : (text : List ℕ) → Reads (reading text)
+unfolding reading answered-whole
+text-comes text = go (read text) refl
+  where
+    go : (a : Answer) → read text ≡ a → Reads (answered-whole a)
+    go (accepted f) e = file-comes f
+    go (grammar.refused k n) e = inr (k, n, ⊎-elim (λ h. rw (h .0) (one-of of-file 10 tt)) (λ h. fault-number k (h .1 .before) (h .1 .after) (h .1 .fault)) (refusal-stands text k n e), refl)
+
+-- Bytes for an output: 34, then 33, else all of them.
+fitted-34 : (ys : List ℕ) (room : ℕ) → max-text < length ys → fitted ys room ≡ refused 34 0
+unfolding fitted
+fitted-34 ys room l = rw (lt-ltb max-text (length ys) l)
+
+fitted-33 : (ys : List ℕ) (room : ℕ) → length ys ≤ max-text → room < length ys → fitted ys room ≡ refused 33 0
+unfolding fitted
+fitted-33 ys room l s = rw (le-ltb max-text (length ys) l, lt-ltb room (length ys) s)
+
+fitted-all : (ys : List ℕ) (room : ℕ) → length ys ≤ max-text → length ys ≤ room → fitted ys room ≡ taken ys
+unfolding fitted
+fitted-all ys room l s = rw (le-ltb max-text (length ys) l, le-ltb room (length ys) s)
+
+-- The reading's refusals stay, and an accepted text's print is fitted.
+pub refused-first : (text : List ℕ) (room k n : ℕ) → reading text .outcome ≡ Refused k n → printed text room ≡ refused k n
+unfolding printed after-reading
+refused-first text room k n o = rw o
+
+then-fitted : (text : List ℕ) (room : ℕ) → reading text .outcome ≡ Accepted → printed text room ≡ fitted (print-of (read text)) room
+unfolding printed after-reading
+then-fitted text room o = rw o
+
+module _ (text : List ℕ) (room : ℕ) where
+  -- The print of the text, whatever its length.
+  abbrev whole : List ℕ
+  whole = print-of (read text)
+
+  -- What a print can come to, and where.
+  data Prints : OrRefused (List ℕ) → Type 0 where
+    own-refusal : {k n : ℕ} → OneOf of-file k → reading text .outcome ≡ Refused k n → Prints (refused k n)
+    over : reading text .outcome ≡ Accepted → max-text < length whole → Prints (refused 34 0)
+    short : reading text .outcome ≡ Accepted → length whole ≤ max-text → room < length whole → Prints (refused 33 0)
+    all : reading text .outcome ≡ Accepted → length whole ≤ max-text → length whole ≤ room → Prints (taken whole)
+
+  pub comes-34 : (reading text .outcome ≡ Accepted) × (max-text < length whole) → printed text room ≡ refused 34 0
+  comes-34 h = then-fitted text room (h .0) ∙ fitted-34 whole room (h .1)
+
+  pub comes-33 : (reading text .outcome ≡ Accepted) × (length whole ≤ max-text) × (room < length whole) → printed text room ≡ refused 33 0
+  comes-33 h = then-fitted text room (h .0) ∙ fitted-33 whole room (h .1) (h .2)
+
+  pub comes-whole : (reading text .outcome ≡ Accepted) × (length whole ≤ max-text) × (length whole ≤ room) → printed text room ≡ taken whole
+  comes-whole h = then-fitted text room (h .0) ∙ fitted-all whole room (h .1) (h .2)
+
+  prints : Prints (printed text room)
+  prints = ⊎-elim accepts (λ w. rw (refused-first text room (w .0) (w .1) (ap (λ (r : FileRead). r .outcome) (w .3))) (own-refusal (w .2) (ap (λ (r : FileRead). r .outcome) (w .3)))) (text-comes text)
+    where
+      accepts : reading text .outcome ≡ Accepted → Prints (printed text room)
+      accepts o =
+          ⊎-elim (λ l. ⊎-elim (λ s. rw (comes-whole (o, l, s)) (all o l s)) (λ s. rw (comes-33 (o, l, s)) (short o l s)) (le-or-lt (length whole) room))
+          (λ l. rw (comes-34 (o, l)) (over o l)) (le-or-lt (length whole) max-text)
+
+  -- Each answer tells what it comes from.
+  from-34 : (u : OrRefused (List ℕ)) → Prints u → u ≡ refused 34 0 → (reading text .outcome ≡ Accepted) × (max-text < length whole)
+  from-34 u (own-refusal {k = k} {n = n} h o) e = absurd (one-of-other of-file 34 tt k h (let z : k ≡ 34 = cc in z))
+  from-34 u (over o l) e = (o, l)
+  from-34 u (short o l s) e = absurd (let z : _≡_ {A = ℕ} 33 34 = cc in omega arith)
+  from-34 u (all o l s) e = absurd (let z : _≡_ {A = ℕ} 0 1 = cc in omega arith)
+
+  from-33 : (u : OrRefused (List ℕ)) → Prints u → u ≡ refused 33 0 → (reading text .outcome ≡ Accepted) × (length whole ≤ max-text) × (room < length whole)
+  from-33 u (own-refusal {k = k} {n = n} h o) e = absurd (one-of-other of-file 33 tt k h (let z : k ≡ 33 = cc in z))
+  from-33 u (over o l) e = absurd (let z : _≡_ {A = ℕ} 33 34 = cc in omega arith)
+  from-33 u (short o l s) e = (o, l, s)
+  from-33 u (all o l s) e = absurd (let z : _≡_ {A = ℕ} 0 1 = cc in omega arith)
+
+  from-taken : (u : OrRefused (List ℕ)) (bytes : List ℕ) → Prints u → u ≡ taken bytes → (reading text .outcome ≡ Accepted) × (bytes ≡ whole) × (length bytes ≤ max-text) × (length bytes ≤ room)
+  from-taken u bytes (own-refusal h o) e = absurd (let z : _≡_ {A = ℕ} 0 1 = cc in omega arith)
+  from-taken u bytes (over o l) e = absurd (let z : _≡_ {A = ℕ} 0 1 = cc in omega arith)
+  from-taken u bytes (short o l s) e = absurd (let z : _≡_ {A = ℕ} 0 1 = cc in omega arith)
+  from-taken u bytes (all o l s) e = let z : bytes ≡ whole = cc in rw z (o, refl, l, s)
+
+  pub is-34 : printed text room ≡ refused 34 0 → (reading text .outcome ≡ Accepted) × (max-text < length whole)
+  is-34 e = from-34 (printed text room) prints e
+
+  pub is-33 : printed text room ≡ refused 33 0 → (reading text .outcome ≡ Accepted) × (length whole ≤ max-text) × (room < length whole)
+  is-33 e = from-33 (printed text room) prints e
+
+  pub is-whole : (bytes : List ℕ) → printed text room ≡ taken bytes → (reading text .outcome ≡ Accepted) × (bytes ≡ whole) × (length bytes ≤ max-text) × (length bytes ≤ room)
+  is-whole bytes e = from-taken (printed text room) bytes prints e
+
+  only-prints : (u : OrRefused (List ℕ)) → Prints u → Only (OneOf of-print) u
+  only-prints u (own-refusal {k = k} h o) = one-of-more of-file of-print tt k h
+  only-prints u (over o l) = one-of of-print 34 tt
+  only-prints u (short o l s) = one-of of-print 33 tt
+  only-prints u (all o l s) = tt
+
+  no-seconds : (u : OrRefused (List ℕ)) (k s : ℕ) → Prints u → u ≡ refused k s → OneOf (34 ∷ 33 ∷ []) k → s ≡ 0
+  no-seconds u k s (own-refusal {k = j} {n = n} h o) e m =
+      let z : j ≡ k = cc in
+      absurd (⊎-elim (λ (q : k ≡ 34). one-of-other of-file 34 tt j h (z ∙ q)) (λ r. ⊎-elim (λ (q : k ≡ 33). one-of-other of-file 33 tt j h (z ∙ q)) (λ b. b) r) m)
+  no-seconds u k s (over o l) e m = let z : 0 ≡ s = cc in sym z
+  no-seconds u k s (short o l q) e m = let z : 0 ≡ s = cc in sym z
+  no-seconds u k s (all o l q) e m = absurd (let z : _≡_ {A = ℕ} 0 1 = cc in omega arith)
+
+-- A print is its bytes or one refusal from the list,
+pub print-refused : (text : List ℕ) (room : ℕ) → Only (OneOf of-print) (printed text room)
+print-refused text room = only-prints text room (printed text room) (prints text room)
+
+-- and 34 and 33 have second number 0.
+pub print-second : (text : List ℕ) (room k s : ℕ) → printed text room ≡ refused k s → OneOf (34 ∷ 33 ∷ []) k → s ≡ 0
+print-second text room k s e m = no-seconds text room (printed text room) k s (prints text room) e m

@@ -1,0 +1,170 @@
+-- The house style: what is printed, read back, printed alike, and refused.
+-- Assumes nothing.
+use Prim.Native.Nat.{ℕ, _≤_}
+use mathlib.Core.Path.{_≡_, sym, ap, subst, _∙_}
+use mathlib.Core.List.{List}
+use mathlib.Core.Logic.{_↔_}
+use lib.ListN.{length}
+use Rattle.laws.specs.Answers.{OrRefused, taken}
+use Rattle.laws.proofs.Equations.{is-true}
+use Rattle.text.specs.Tokens.{tokens}
+use Rattle.model.specs.Rules.{Rule}
+use Rattle.model.specs.Strata.{strict}
+use Rattle.model.specs.Circles.{circle-of}
+use Rattle.model.specs.Least.{strata-of}
+use Rattle.model.proofs.Strata.{least-strata}
+use Rattle.soundness.specs.Sound.{sound}
+use Rattle.grammar.specs.Limits.{max-text}
+use Rattle.grammar.specs.Files.{File}
+use Rattle.grammar.specs.Meaning.{Is-file}
+use Rattle.grammar.specs.Reading.{accepted, read}
+use Rattle.grammar.proofs.Accepts.{accepts-iff, one-meaning}
+use Rattle.printed.specs.Layout.{by-letters}
+use Rattle.printed.specs.Printed.{print, Agree}
+use Rattle.printed.proofs.Trees.{canonical-means}
+use Rattle.printed.proofs.Tidied.{canonical-tidy, tidy-print}
+use Rattle.printed.proofs.Prints.{print-tokens, print-read, agree-print, print-agree}
+use Rattle.reader.specs.declared.Outcome.the-variants.{Accepted}
+use Rattle.rule_file.specs.Whole.{reading}
+use Rattle.rule_file.specs.Carries.{Carries}
+use Rattle.rule_file.proofs.Answers.{reading-accepted-iff, reading-carries, reading-passes}
+use Rattle.printing.specs.Printing.{print-of, printed}
+use Rattle.cards.specs.Cards.{if-sound}
+use Rattle.tally.specs.declared.Tally.{Tally}
+use Rattle.response.specs.Ending.{Answer}
+use Rattle.response.specs.Respond.{Rooms, answer-by-table, answer-to, outcome-of, tally-after, response-to}
+use Rattle.promises.specs.Agreement.{responds}
+use Rattle.promises.specs.HouseStyle.{Alike, InStyle, HouseStyle}
+use Rattle.promises.proofs.Fitted.{refused-first, comes-34, comes-33, comes-whole, is-34, is-33, is-whole}
+use Rattle.promises.proofs.Alike.{agree-alike, alike-agree}
+
+-- What is printed of an accepted text is the print of its file.
+print-is : (text : List ℕ) (f : File) → Is-file text f → print-of (read text) ≡ print f
+unfolding print-of
+print-is text f h = ap print-of (accepts-iff text f .1 h)
+
+-- Two accepted texts print alike exactly when they are alike.
+alike-iff : (text text′ : List ℕ) → reading text .outcome ≡ Accepted → reading text′ .outcome ≡ Accepted → (print-of (read text) ≡ print-of (read text′)) ↔ Alike text text′
+alike-iff text text′ o o′ = (there, back)
+  where
+    c : Carries text (reading text .table)
+    c = reading-carries text o
+
+    c′ : Carries text′ (reading text′ .table)
+    c′ = reading-carries text′ o′
+
+    f : File
+    f = c .file
+
+    g : File
+    g = c′ .file
+
+    there : print-of (read text) ≡ print-of (read text′) → Alike text text′
+    there e = agree-alike text text′ c c′
+        (print-agree text text′ f g (accepts-iff text f .1 (c .is-file)) (accepts-iff text′ g .1 (c′ .is-file)) (sym (print-is text f (c .is-file)) ∙ e ∙ print-is text′ g (c′ .is-file)))
+
+    back : Alike text text′ → print-of (read text) ≡ print-of (read text′)
+    back a = print-is text f (c .is-file) ∙ agree-print f g (alike-agree text text′ c c′ a) ∙ sym (print-is text′ g (c′ .is-file))
+
+-- A print within the limit is accepted, and alike.
+reads-back : (text : List ℕ) → reading text .outcome ≡ Accepted → length (print-of (read text)) ≤ max-text
+    → (reading (print-of (read text)) .outcome ≡ Accepted) × Alike text (print-of (read text))
+reads-back text o l = subst (λ (b : List ℕ). (reading b .outcome ≡ Accepted) × Alike text b) (sym p) (o′, agree-alike text (print f) c c′ (subst (Agree f) (one-meaning (print f) g (c′ .file) h (c′ .is-file)) (r .2)))
+  where
+    c : Carries text (reading text .table)
+    c = reading-carries text o
+
+    f : File
+    f = c .file
+
+    p : print-of (read text) ≡ print f
+    p = print-is text f (c .is-file)
+
+    r : (g : File) × (read (print f) ≡ accepted g) × Agree f g
+    r = print-read text f (accepts-iff text f .1 (c .is-file)) (subst (λ (b : List ℕ). length b ≤ max-text) p l)
+
+    g : File
+    g = r .0
+
+    h : Is-file (print f) g
+    h = accepts-iff (print f) g .0 (r .1)
+
+    z : circle-of strict (g .rules) ≡ 0
+    z = sym (ap (λ (rs : List Rule). circle-of strict rs) (r .2 .same-rules)) ∙ c .no-circle
+
+    o′ : reading (print f) .outcome ≡ Accepted
+    o′ = reading-accepted-iff (print f) .0 (g, h, (strata-of strict (g .rules), least-strata strict (g .rules) z))
+
+    c′ : Carries (print f) (reading (print f) .table)
+    c′ = reading-carries (print f) o′
+
+-- What is printed is the text's print, and so all that is said of it.
+module _ (text : List ℕ) (room : ℕ) (bytes : List ℕ) (e : printed text room ≡ taken bytes) where
+  is-accepted : reading text .outcome ≡ Accepted
+  is-accepted = is-whole text room bytes e .0
+
+  is-print : bytes ≡ print-of (read text)
+  is-print = is-whole text room bytes e .1
+
+  short : length bytes ≤ max-text
+  short = is-whole text room bytes e .2
+
+  style : InStyle text bytes
+  unfolding print
+  style =
+      let c = reading-carries text is-accepted in
+      let p = is-print ∙ print-is text (c .file) (c .is-file) in
+      record {
+        file = c .file;
+        is-file = c .is-file;
+        means = canonical-means (c .is-file .tree) (c .file) (c .is-file .means);
+        tidy = canonical-tidy (c .file);
+        laid-out = p;
+        tokens-are = ap (λ (b : List ℕ). by-letters (tokens b)) p ∙ print-tokens text (c .file) (c .is-file);
+        no-other = λ t m d. tidy-print t (c .file) m d ∙ sym p;
+      }
+
+  back : (reading bytes .outcome ≡ Accepted) × Alike text bytes
+  back = subst (λ (b : List ℕ). (reading b .outcome ≡ Accepted) × Alike text b) (sym is-print) (reads-back text is-accepted (subst (λ (b : List ℕ). length b ≤ max-text) is-print short))
+
+  once-more : (room′ : ℕ) → length bytes ≤ room′ → printed bytes room′ ≡ taken bytes
+  once-more room′ l =
+      let p : print-of (read bytes) ≡ bytes = sym (alike-iff text bytes is-accepted (back .0) .1 (back .1)) ∙ sym is-print in
+      comes-whole bytes room′ (back .0, rw p short, rw p l) ∙ ap taken p
+
+  other : (text′ : List ℕ) → reading text′ .outcome ≡ Accepted → (printed text′ room ≡ taken bytes) ↔ Alike text text′
+  other text′ o′ = (λ d. alike-iff text text′ is-accepted o′ .0 (sym is-print ∙ is-whole text′ room bytes d .1), λ a. same (is-print ∙ alike-iff text text′ is-accepted o′ .1 a))
+    where
+      same : bytes ≡ print-of (read text′) → printed text′ room ≡ taken bytes
+      same p = comes-whole text′ room (o′, subst (λ (b : List ℕ). length b ≤ max-text) p short, subst (λ (b : List ℕ). length b ≤ room) p (is-whole text room bytes e .3)) ∙ ap taken (sym p)
+
+-- Tables that have the same counts and rules, and pass 31, answer alike.
+answers-alike : (text text′ : List ℕ) → Alike text text′ → (y : Tally) (card slip : List ℕ) (rooms : Rooms) → responds text y card slip rooms ≡ responds text′ y card slip rooms
+unfolding answer-to answer-by-table if-sound
+answers-alike text text′ a y card slip rooms =
+    rw (is-true (sound (reading text .table)) (reading-passes text), is-true (sound (reading text′ .table)) (reading-passes text′), a .same-counts, a .same-rules)
+
+responses-alike : (text text′ : List ℕ) → Alike text text′ → (y : Tally) (card slip : List ℕ) (rooms : Rooms)
+    → response-to (reading text .table) y card slip rooms ≡ response-to (reading text′ .table) y card slip rooms
+unfolding response-to
+responses-alike text text′ a y card slip rooms = ap (λ (u : OrRefused Answer). record { outcome = outcome-of u; tally = tally-after y u }) (answers-alike text text′ a y card slip rooms)
+
+-- THE HOUSE STYLE.
+pub house-style : HouseStyle
+house-style = record {
+  in-style = style;
+  read-back = back;
+  again = once-more;
+  print-alike = alike-iff;
+  same-print = λ text text′ room bytes e o′. other text room bytes e text′ o′;
+  same-answers = answers-alike;
+  same-responses = responses-alike;
+  own-refusal = refused-first;
+  exactly-34 = λ text room. (is-34 text room, comes-34 text room);
+  exactly-33 = λ text room. (is-33 text room, comes-33 text room);
+  exactly-printed = λ text room bytes. (is-whole text room bytes, λ h. full text room bytes h);
+}
+  where
+    full : (text : List ℕ) (room : ℕ) (bytes : List ℕ) → (reading text .outcome ≡ Accepted) × (bytes ≡ print-of (read text)) × (length bytes ≤ max-text) × (length bytes ≤ room) → printed text room ≡ taken bytes
+    full text room bytes h =
+        comes-whole text room (h .0, subst (λ (b : List ℕ). length b ≤ max-text) (h .1) (h .2), subst (λ (b : List ℕ). length b ≤ room) (h .1) (h .3)) ∙ ap taken (sym (h .1))
