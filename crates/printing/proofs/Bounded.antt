@@ -13,16 +13,17 @@ use Rattle.model.specs.Rules.{Pair, Literal, Rule}
 use Rattle.grammar.specs.Limits.{max-slots, max-values, max-rules, max-literals, max-assignments}
 use Rattle.grammar.specs.Files.{Slot, File, spellings}
 use Rattle.grammar.specs.Meaning.{Is-file}
-use Rattle.printed.specs.Layout.{Each}
+use Rattle.laws.specs.Listed.{Each}
+use Rattle.laws.proofs.Listed.{each-map}
 use Rattle.printed.specs.Printed.{slot-named, value-named, print, Named, Well-named}
 use Rattle.printing.specs.Puts.{longest}
 use Rattle.printing.specs.Written.{followed, separated, pair-bytes, test-bytes, literal-bytes, condition-bytes, assign-bytes, rule-bytes, line-bytes, slot-bytes, joined, written}
 use Rattle.printed.proofs.Formed.{file-formed}
 use Rattle.printed.proofs.Trees.{Declared, Rule-declared, rules-declared, Valued, slots-valued}
-use Rattle.printed.proofs.Spelled.{each-map, slot-formed, value-formed}
+use Rattle.printed.proofs.Spelled.{slot-formed, value-formed}
 use Rattle.printing.proofs.Written.{print-written}
 
-each-imply : {A : Type 0} (P Q : A → Type 0) (xs : List A) → ((x : A) → P x → Q x) → Each P xs → Each Q xs
+pub each-imply : {A : Type 0} (P Q : A → Type 0) (xs : List A) → ((x : A) → P x → Q x) → Each P xs → Each Q xs
 each-imply P Q [] k h = tt
 each-imply P Q (x ∷ xs) k h = (k x (h .0), each-imply P Q xs k (h .1))
 

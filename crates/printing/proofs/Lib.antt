@@ -4,3 +4,5 @@ pub mod Putting
 pub mod Clauses
 pub mod Lines
 pub mod Tabled
+pub mod Filed
+pub mod Fitting

@@ -5,17 +5,18 @@ use native.Mathlib.Omega.{arith}
 use native.Mathlib.Numerals.{add-one}
 use mathlib.Core.Path.{_≡_, refl, sym, ap, ap₂, subst, _∙_}
 use mathlib.Core.List.{List, [], _∷_, _++_, map}
-use lib.ListN.{length, take, drop, getD, set, replicate, length-map, List·getD-map, List·getD-append}
+use lib.ListN.{length, take, drop, getD, set, replicate, length-map}
 use lib.Seq.{sets, take-suc, length-take-le}
 use Rattle.laws.specs.Filled.{filled}
+use Rattle.laws.specs.Listed.{Each}
 use Rattle.laws.proofs.Filled.{filled-length}
-use Rattle.laws.proofs.Lists.{any-default}
+use Rattle.laws.proofs.Listed.{each-at}
 use Rattle.classes.specs.Classes.{class-of}
 use Rattle.text.specs.Tokens.{Name}
 use Rattle.text.specs.Cut.{Stands}
 use Rattle.grammar.specs.Limits.{max-text, max-values}
 use Rattle.grammar.specs.Files.{Slot, no-slot}
-use Rattle.grammar.specs.Standing.{Names-stand, Slots-stand}
+use Rattle.grammar.specs.Standing.{Named-by}
 use Rattle.table.specs.declared.Name as stretch
 use Rattle.table.specs.declared.Slot as tabled
 use Rattle.table.specs.declared.Table.{Table}
@@ -27,7 +28,8 @@ use Rattle.steps.specs.Spans.{span, Span-lies}
 use Rattle.lines.specs.Index.{span-name, span-names, span-slot, Spanned, Indexed, name-for, slot-for}
 use Rattle.lines.specs.Lines.{Values-lie}
 use Rattle.lines.proofs.Index.{indexed-more}
-use Rattle.printed.specs.Layout.{Is-name, Each}
+use Rattle.rule_file.proofs.FileTable.{image-at}
+use Rattle.printed.specs.Layout.{Is-name}
 use Rattle.printed.specs.Printed.{Named, Well-named}
 use Rattle.printing.specs.Tabled.{span-of, SmallName, SmallNames, Tabled}
 
@@ -51,7 +53,7 @@ unused-spanned : (text : List ℕ) (r : ℕ) → Spanned text (map span-of (repl
 unused-spanned text zero = tt
 unused-spanned text (suc r) = (refl, unused-spanned text r)
 
-names-spanned : (text : List ℕ) (ns : List Name) (r : ℕ) → Names-stand text ns → Each Named ns → Spanned text (map span-of (map name-for ns ++ replicate r no-name)) ns
+names-spanned : (text : List ℕ) (ns : List Name) (r : ℕ) → Each (Stands text) ns → Each Named ns → Spanned text (map span-of (map name-for ns ++ replicate r no-name)) ns
 names-spanned text [] r st nm = unused-spanned text r
 names-spanned text (n ∷ ns) r st nm = let w = name-span text n (st .0) (nm .0) in (w .0, w .1, w .2, names-spanned text ns r (st .1) (nm .1))
 
@@ -71,21 +73,10 @@ unused-small zero i = (omega arith, omega arith)
 unused-small (suc r) zero = (omega arith, omega arith)
 unused-small (suc r) (suc i) = unused-small r i
 
-names-small : (text : List ℕ) (ns : List Name) (r : ℕ) → length text ≤ max-text → Names-stand text ns → Each Named ns → SmallNames (map name-for ns ++ replicate r no-name)
+names-small : (text : List ℕ) (ns : List Name) (r : ℕ) → length text ≤ max-text → Each (Stands text) ns → Each Named ns → SmallNames (map name-for ns ++ replicate r no-name)
 names-small text [] r h st nm i = unused-small r i
 names-small text (n ∷ ns) r h st nm zero = name-small text n h (st .0) (nm .0)
 names-small text (n ∷ ns) r h st nm (suc i) = names-small text ns r h (st .1) (nm .1) i
-
--- What is said of each slot of a list holds at each place.
-slot-at : (text : List ℕ) (ss : List Slot) (i : ℕ) → Slots-stand text ss → i < length ss → Stands text (getD ss i no-slot .name) × Names-stand text (getD ss i no-slot .values)
-slot-at text [] i h l = absurd (omega arith)
-slot-at text (s ∷ ss) zero h l = h .0
-slot-at text (s ∷ ss) (suc i) h l = slot-at text ss i (h .1) (omega arith)
-
-each-at : {A : Type 0} (P : A → Type 0) (xs : List A) (i : ℕ) (d : A) → Each P xs → i < length xs → P (getD xs i d)
-each-at P [] i d h l = absurd (omega arith)
-each-at P (x ∷ xs) zero d h l = h .0
-each-at P (x ∷ xs) (suc i) d h l = each-at P xs i d (h .1) (omega arith)
 
 module _ (text : List ℕ) (slots : List Slot) (t : Table) (T : Tabled text slots t) (i : ℕ) (h : i < length slots) where
   -- The slot of the file, and that of the table.
@@ -96,16 +87,10 @@ module _ (text : List ℕ) (slots : List Slot) (t : Table) (T : Tabled text slot
   placed = getD (t .slots) i zero-values.no-slot
 
   pub slot-there : placed ≡ slot-for filed
-  unfolding filled
-  slot-there =
-      let l : i < length (map slot-for slots) = rw length-map h in
-      rw (T .slots-are)
-      (List·getD-append (map slot-for slots) (replicate (slot-limit - length (map slot-for slots)) unused-slot) zero-values.no-slot i l
-      ∙ any-default (map slot-for slots) i zero-values.no-slot (slot-for no-slot) l
-      ∙ List·getD-map slot-for slots i no-slot)
+  slot-there = rw (T .slots-are) (image-at slot-limit unused-slot zero-values.no-slot slot-for slots i no-slot h)
 
-  stand : Stands text (filed .name) × Names-stand text (filed .values)
-  stand = slot-at text slots i (T .stand) h
+  stand : Named-by (Stands text) filed
+  stand = each-at (Named-by (Stands text)) slots i no-slot (T .stand) h
 
   named : Well-named filed
   named = each-at Well-named slots i no-slot (T .well-named) h

@@ -11,11 +11,12 @@ use Rattle.text.specs.Tokens.{Name, Token, word, name, THEN, AND, CLOSE, COMMA,
 use Rattle.text.specs.Covering.{spelling}
 use Rattle.model.specs.Rules.{Pair, Literal, Rule}
 use Rattle.grammar.specs.Files.{Slot, File, spellings}
-use Rattle.grammar.specs.Grammar.{and-literal, one-literal, LiteralTree, not-literal, becomes-value, has-value, one-assignment, comma-assignment, one-value, comma-value, LineTree, spell-literal, spell-condition, spell-assignment, spell-assignments, spell-assign, spell-rule, spell-rules, spell-values, spell-lines}
+use Rattle.grammar.specs.Grammar.{and-literal, one-literal, LiteralTree, not-literal, becomes-value, has-value, one-assignment, comma-assignment, one-value, comma-value, LineTree, spell-literal, spell-condition, spell-assignment, spell-assignments, spell-assign, spell-rule, spell-rules, spell-values, spell-lines, grown}
 use Rattle.grammar.specs.Meaning.{Is-file}
-use Rattle.grammar.proofs.Leftmost.{spell-more, spell-name}
-use Rattle.printed.specs.Layout.{token-bytes, tight, gap, layout, Each}
-use Rattle.printed.specs.Printed.{slot-named, value-named, grown, literal-tree, condition-tree, assign-tree, assignment-tree, rule-tree, values-tree, line-tree, print}
+use Rattle.grammar.proofs.Leftmost.{spell-more, spell-name, spells-grown}
+use Rattle.printed.specs.Layout.{token-bytes, tight, gap, layout}
+use Rattle.laws.specs.Listed.{Each}
+use Rattle.printed.specs.Printed.{slot-named, value-named, literal-tree, condition-tree, assign-tree, assignment-tree, rule-tree, values-tree, line-tree, print}
 use Rattle.printing.specs.Written.{followed, separated, pair-bytes, test-bytes, literal-bytes, condition-bytes, assign-bytes, rule-bytes, line-bytes, slot-bytes, joined, written}
 use Rattle.printed.proofs.Trees.{rules-declared, Rule-declared}
 
@@ -27,13 +28,6 @@ laying = tt
 -- Tokens laid out after a token that is not `;`: the gap before them, and they.
 unfoldable following : List Token → List ℕ
 following ts = cond (tight ts) [] (32 ∷ []) ++ layout ts
-
-spells-grown : {A T : Type 0} (grow : T → A → T) (spell-one : A → List Token → List Token) (spells : T → List Token → List Token) (sep : ℕ)
-    → ((t : T) (a : A) (r : List Token) → spells (grow t a) r ≡ spells t (word sep ∷ spell-one a r))
-    → (t : T) (xs : List A) (r : List Token) → spells (grown grow t xs) r ≡ spells t (spell-more spell-one sep xs r)
-unfolding grown
-spells-grown grow spell-one spells sep h t [] r = refl
-spells-grown grow spell-one spells sep h t (a ∷ xs) r = spells-grown grow spell-one spells sep h (grow t a) xs r ∙ h t a (spell-more spell-one sep xs r)
 
 -- Parts that are laid out as their bytes, with a separating token laid out as `sep`.
 more-laid : {X A : Type 0} (f : X → A) (spell-one : A → List Token → List Token) (w : ℕ) (part : X → List ℕ) (sep : List ℕ)

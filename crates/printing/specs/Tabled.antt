@@ -14,7 +14,7 @@ use Rattle.table.specs.Shape.{no-name}
 use Rattle.table.specs.Empty.{unused-slot}
 use Rattle.steps.specs.Spans.{span}
 use Rattle.lines.specs.Index.{slot-for}
-use Rattle.printed.specs.Layout.{Each}
+use Rattle.laws.specs.Listed.{Each}
 use Rattle.printed.specs.Printed.{Well-named}
 
 -- The span of a name of the table.

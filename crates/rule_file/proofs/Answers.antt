@@ -16,6 +16,7 @@ use Rattle.model.proofs.Strata.{no-circle, no-strata, least-strata}
 use Rattle.table.specs.declared.Table.{Table}
 use Rattle.table.specs.Empty.{empty-table}
 use Rattle.table.specs.Fits.{TableFits}
+use Rattle.table.specs.Link.{rules-of}
 use Rattle.text.specs.Tokens.{Token}
 use Rattle.grammar.specs.Files.{File}
 use Rattle.grammar.specs.Meaning.{Is-file}
@@ -151,6 +152,17 @@ reading-accepted-iff text = (there, λ o. back o (read text) refl)
 with-strata-shown : (text : List ℕ) (t : Table) → ((s : ℕ) → show-slot text (with-strata t) s ≡ show-slot text t s) × ((s v : ℕ) → show-value text (with-strata t) s v ≡ show-value text t s v)
 unfolding with-strata show-slot show-value
 with-strata-shown text t = (λ s. refl, λ s v. refl)
+
+-- An accepted text is read as a file; its table is the file's with the least strata, and has the file's rules.
+pub accepted-table : (text : List ℕ) → reading text .outcome ≡ Accepted → (f : File) × (read text ≡ accepted f) × (reading text .table ≡ with-strata (table-for f)) × (rules-of (reading text .table) ≡ f .rules)
+accepted-table text o =
+    let w = reading-accepted-iff text .1 o in
+    let f = w .0 in
+    let e = accepts-iff text f .1 (w .1) in
+    let D = read-declared text f e in
+    let sh = file-shaped f D in
+    let t = ap (λ (a : FileRead). a .table) (reading-file text f e ∙ layered-zero f (no-circle strict (f .rules) (w .2 .0) (w .2 .1))) in
+    (f, e, t, ap rules-of t ∙ same-rules (table-for f) (well-formed-fits (table-for f) sh (file-well-formed f D)) sh ∙ file-rules f)
 
 -- An accepted text's table carries its file.
 pub reading-carries : (text : List ℕ) → reading text .outcome ≡ Accepted → Carries text (reading text .table)

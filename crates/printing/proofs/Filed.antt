@@ -1,0 +1,185 @@
+-- The table of an accepted text: it fits, and its lines by the spans of the text are the print of the text's file.
+-- Assumes nothing.
+use Prim.Native.Nat.{ℕ, zero, suc, _+_, _-_, _*_, _/_, _%_, _≤_, _<_}
+use native.Mathlib.Omega.{arith}
+use mathlib.Core.Path.{_≡_, refl, sym, ap, ap₂, _∙_}
+use mathlib.Core.List.{List, [], _∷_, _++_, map}
+use lib.Dec.{T}
+use lib.ListN.{length, take, drop, getD, length-map, List·getD-map}
+use lib.Seq.{getD-take, getD-drop}
+use borrow.Author.Tests.{le-leb}
+use Rattle.laws.specs.Listed.{Each}
+use Rattle.laws.proofs.Listed.{each-at}
+use Rattle.laws.proofs.Truth.{and-l}
+use Rattle.laws.proofs.Tabulated.{is-tabulate}
+use Rattle.text.specs.Tokens.{Name}
+use Rattle.model.specs.Rules.{Pair, Literal, Rule}
+use Rattle.grammar.specs.Limits.{max-slots, max-values}
+use Rattle.grammar.specs.Files.{Slot, File, spellings, slot-names, values-of, no-slot}
+use Rattle.grammar.specs.Meaning.{Is-file}
+use Rattle.grammar.specs.Reading.{accepted, read}
+use Rattle.grammar.proofs.Accepts.{accepts-iff}
+use Rattle.grammar.proofs.Stands.{file-stands}
+use Rattle.table.specs.declared.Table.{Table}
+use Rattle.table.specs.Shape as zero-values
+use Rattle.table.specs.Shape.{Shaped}
+use Rattle.table.specs.Fits.{TableFits}
+use Rattle.table.specs.Limits.{slot-limit, value-limit, row}
+use Rattle.table.specs.Flat.{place-of}
+use Rattle.table.specs.Link.{rules-of}
+use Rattle.strata.specs.Layered.{with-strata}
+use Rattle.soundness.specs.Sound.{sound, well-formed, carries-least}
+use Rattle.soundness.proofs.WellFormed.{well-formed-fits}
+use Rattle.lines.specs.Index.{span-name, Spanned, row-of, Indexed, slot-for}
+use Rattle.reader.specs.Tables.{table-for}
+use Rattle.reader.specs.declared.Outcome.the-variants.{Accepted}
+use Rattle.rule_file.specs.Whole.{reading}
+use Rattle.rule_file.proofs.Answers.{accepted-table, reading-passes}
+use Rattle.printed.specs.Printed.{slot-named, value-named, print}
+use Rattle.printed.proofs.Formed.{file-formed}
+use Rattle.printed.proofs.Trees.{Declared, Rule-declared, rules-declared, Valued, slots-valued}
+use Rattle.printed.proofs.Spelled.{slot-inside, value-inside}
+use Rattle.printing.specs.Puts.{longest}
+use Rattle.printing.specs.Printing.{print-of}
+use Rattle.printing.specs.Written.{Pairing, followed, separated, test-bytes, literal-bytes, condition-bytes, assign-bytes, rule-bytes, line-bytes, slot-bytes, pair-bytes, joined, written}
+use Rattle.printing.specs.Spelled.{spelled, spelled-pair, spelled-values, spelled-line, spelled-lines, spelled-rules, spelled-file, SlotsFit}
+use Rattle.printing.specs.Tabled.{Tabled}
+use Rattle.printing.proofs.Tabled.{slot-there}
+use Rattle.printing.proofs.Written.{print-written}
+use Rattle.printing.proofs.Bounded.{each-imply, print-bounded}
+
+-- The name at a span among those of names.
+spanned-at : (text ks : List ℕ) (ns : List Name) (i : ℕ) → Spanned text ks ns → i < length ns → spelled text (getD ks i 0) ≡ getD ns i (no-slot .name) .letters
+unfolding spelled
+spanned-at text [] [] i S h = absurd (omega arith)
+spanned-at text [] (n ∷ ns) i S h = absurd S
+spanned-at text (k ∷ ks) [] i S h = absurd (omega arith)
+spanned-at text (k ∷ ks) (n ∷ ns) zero S h = rw (le-leb (k / 32 + k % 32) (length text) (S .1)) (ap (λ (m : Name). m .letters) (S .2))
+spanned-at text (k ∷ ks) (n ∷ ns) (suc i) S h = spanned-at text ks ns i (S .3) (omega arith)
+
+-- Two ways of writing pairs that agree on the pairs of a rule write the same line.
+module _ (slots : List Slot) (P Q : Pairing) (same : (mark : List ℕ) (p : Pair) → Declared slots p → P mark p ≡ Q mark p) where
+  maps-same : {A : Type 0} (ok : A → Type 0) (f g : A → List ℕ) → ((x : A) → ok x → f x ≡ g x) → (xs : List A) → Each ok xs → map f xs ≡ map g xs
+  maps-same ok f g e [] h = refl
+  maps-same ok f g e (x ∷ xs) h = ap₂ (λ (y : List ℕ) (ys : List (List ℕ)). y ∷ ys) (e x (h .0)) (maps-same ok f g e xs (h .1))
+
+  literal-same : (l : Literal) → Declared slots (l .pair) → literal-bytes P l ≡ literal-bytes Q l
+  unfolding literal-bytes test-bytes
+  literal-same l d = rw (same _ (l .pair) d)
+
+  condition-same : (ls : List Literal) → Each (λ (l : Literal). Declared slots (l .pair)) ls → condition-bytes P ls ≡ condition-bytes Q ls
+  unfolding condition-bytes
+  condition-same [] d = refl
+  condition-same (l ∷ ls) d = ap (separated _) (maps-same (λ (m : Literal). Declared slots (m .pair)) (literal-bytes P) (literal-bytes Q) literal-same (l ∷ ls) d)
+
+  assign-same : (ps : List Pair) → Each (Declared slots) ps → assign-bytes P ps ≡ assign-bytes Q ps
+  unfolding assign-bytes
+  assign-same [] d = refl
+  assign-same (p ∷ []) d = same _ p (d .0)
+  assign-same (p ∷ q ∷ qs) d = rw (maps-same (Declared slots) (P _) (Q _) (same _) (p ∷ q ∷ qs) d)
+
+  pub rule-same : (r : Rule) → Rule-declared slots r → rule-bytes P r ≡ rule-bytes Q r
+  unfolding rule-bytes
+  rule-same r d = rw (same _ (r .trigger) (d .trigger-is), condition-same (r .literals) (d .literals-are), assign-same (r .assignments) (d .assignments-are .all-declared))
+
+  pub rules-same : (rs : List Rule) → Each (Rule-declared slots) rs → map (rule-bytes P) rs ≡ map (rule-bytes Q) rs
+  rules-same rs d = maps-same (Rule-declared slots) (rule-bytes P) (rule-bytes Q) rule-same rs d
+
+module _ (text : List ℕ) (o : reading text .outcome ≡ Accepted) where
+  -- The file, and its table.
+  abbrev pub file : File
+  file = accepted-table text o .0
+
+  abbrev pub table : Table
+  table = reading text .table
+
+  is-file : Is-file text file
+  is-file = accepts-iff text file .0 (accepted-table text o .1)
+
+  valued : Each Valued (file .slots)
+  valued = slots-valued (is-file .tree) file (is-file .means)
+
+  -- Its print.
+  pub print-is : print-of (read text) ≡ print file
+  unfolding print-of
+  print-is = ap print-of (accepted-table text o .1)
+
+  pub tabled : Tabled text (file .slots) table
+  unfolding with-strata table-for max-slots
+  tabled =
+      rw (accepted-table text o .2) (record {
+        width-is = refl;
+        slots-are = refl;
+        few = is-file .means .few-slots;
+        few-values = each-imply Valued (λ (s : Slot). length (s .values) ≤ max-values) (file .slots) (λ s v. v .1) valued;
+        short = is-file .short;
+        stand = file-stands text file (accepted-table text o .1);
+        well-named = file-formed text file is-file;
+      })
+
+  -- How many values a slot of the table has.
+  count-is : (i : ℕ) → i < length (file .slots) → getD (table .slots) i zero-values.no-slot .count ≡ length (getD (file .slots) i no-slot .values)
+  count-is i h = rw (slot-there text (file .slots) table tabled i h)
+
+  pub slots-fit : SlotsFit table
+  unfolding max-values
+  slots-fit = record {
+    few = omega (arith, tabled .width-is, tabled .few);
+    some = λ i h. let k : i < length (file .slots) = omega (arith, tabled .width-is) in let v = each-at Valued (file .slots) i no-slot valued k in omega (arith, count-is i k, v .0);
+    within = λ i h. let k : i < length (file .slots) = omega (arith, tabled .width-is) in let v = each-at Valued (file .slots) i no-slot valued k in omega (arith, count-is i k, v .1);
+  }
+
+  pub table-fits : Shaped table → TableFits table
+  unfolding sound
+  table-fits sh = well-formed-fits table sh (and-l (well-formed table) (carries-least table) (reading-passes text))
+
+  module _ (ss vs : List ℕ) (I : Indexed text (file .slots) ss vs) where
+    slot-spelled : (s : ℕ) → s < length (file .slots) → spelled text (getD ss s 0) ≡ getD (file .slots) s no-slot .name .letters
+    slot-spelled s h =
+        let l : s < length (slot-names (file .slots)) = rw length-map h in
+        spanned-at text ss (slot-names (file .slots)) s (I .names) l ∙ ap (λ (n : Name). n .letters) (List·getD-map (λ (x : Slot). x .name) (file .slots) s no-slot)
+
+    value-spelled : (s j : ℕ) → s < length (file .slots) → j < length (values-of (file .slots) s) → spelled text (getD vs (s * row + 1 + j) 0) ≡ getD (values-of (file .slots) s) j (no-slot .name) .letters
+    unfolding max-values
+    value-spelled s j h k =
+        let v = each-at Valued (file .slots) s no-slot valued h in
+        let z : j < value-limit = omega (arith, v .1) in
+        ap (spelled text) (sym (getD-take value-limit (drop (s * row + 1) vs) j 0 z ∙ getD-drop (s * row + 1) vs j 0))
+        ∙ spanned-at text (row-of vs s) (values-of (file .slots) s) j (I .values s (omega (arith, tabled .few))) k
+
+    pair-spelled : (mark : List ℕ) (p : Pair) → Declared (file .slots) p → spelled-pair text ss vs mark p ≡ pair-bytes (file .slots) mark p
+    unfolding spelled-pair pair-bytes
+    pair-spelled mark p d =
+        let a = slot-inside (file .slots) p d in
+        let b = value-inside (file .slots) p d in
+        let z : place-of p ≡ p .slot * row + 1 + (p .value - 1) = omega (arith, d .value-there) in
+        ap₂ (λ (x y : List ℕ). x ++ (mark ++ y)) (slot-spelled (p .slot) a) (ap (λ (k : ℕ). spelled text (getD vs k 0)) z ∙ value-spelled (p .slot) (p .value - 1) a b)
+
+    values-spelled : (s : ℕ) → s < length (file .slots) → spellings (values-of (file .slots) s) ≡ spelled-values text vs s (length (values-of (file .slots) s))
+    unfolding spelled-values
+    values-spelled s h =
+        is-tabulate (λ (j : ℕ). spelled text (getD vs (s * row + 1 + j) 0)) (length (values-of (file .slots) s)) [] (spellings (values-of (file .slots) s)) (length-map (values-of (file .slots) s) (λ (n : Name). n .letters))
+        (λ j k. List·getD-map (λ (n : Name). n .letters) (values-of (file .slots) s) j (no-slot .name) ∙ sym (value-spelled s j h k))
+
+    line-spelled : (s : ℕ) → s < length (file .slots) → slot-bytes (getD (file .slots) s no-slot) ≡ spelled-line text ss vs s (getD (table .slots) s zero-values.no-slot .count)
+    line-spelled s h = ap₂ line-bytes (sym (slot-spelled s h)) (values-spelled s h ∙ ap (spelled-values text vs s) (sym (count-is s h)))
+
+    lines-spelled : map slot-bytes (file .slots) ≡ spelled-lines text ss vs table
+    unfolding spelled-lines
+    lines-spelled =
+        let e = tabled .width-is in
+        is-tabulate (λ (i : ℕ). spelled-line text ss vs i (getD (table .slots) i zero-values.no-slot .count)) (table .width) (slot-bytes no-slot) (map slot-bytes (file .slots)) (length-map (file .slots) slot-bytes ∙ sym e)
+        (λ i h. List·getD-map slot-bytes (file .slots) i no-slot ∙ line-spelled i (omega (arith, e)))
+
+    -- THE LINES BY THE SPANS of the text are the print of its file.
+    pub print-spelled : spelled-file text ss vs table ≡ print file
+    unfolding spelled-file spelled-rules written
+    print-spelled =
+        ap₂ (λ (xs ys : List (List ℕ)). joined xs ++ joined ys) (sym lines-spelled)
+        (ap (map (rule-bytes (spelled-pair text ss vs))) (accepted-table text o .3)
+        ∙ rules-same (file .slots) (spelled-pair text ss vs) (pair-bytes (file .slots)) pair-spelled (file .rules) (rules-declared (is-file .tree) file (is-file .means)))
+        ∙ sym (print-written text file is-file)
+
+    -- And are within the bound.
+    pub spelled-bounded : length (spelled-file text ss vs table) ≤ longest
+    spelled-bounded = rw print-spelled (print-bounded text file is-file)

@@ -1,0 +1,48 @@
+-- What comes of bytes for an output, and of a text that is read: 10 to 18, then 34, then 33.
+-- Assumes nothing.
+use Prim.Native.Nat.{ℕ, _≤_, _<_}
+use mathlib.Core.Path.{_≡_, sym, ap, _∙_}
+use mathlib.Core.List.{List}
+use lib.ListN.{length}
+use borrow.Author.Tests.{lt-ltb, le-ltb}
+use Rattle.laws.specs.Answers.{OrRefused, taken, refused, output-of}
+use Rattle.grammar.specs.Limits.{max-text}
+use Rattle.grammar.specs.Reading.{read}
+use Rattle.reader.specs.declared.Outcome.the-variants.{Accepted, Refused}
+use Rattle.rule_file.specs.Whole.{reading}
+use Rattle.printing.specs.declared.Printing.the-variants as printing
+use Rattle.printing.specs.Puts.{put-in}
+use Rattle.printing.specs.Printing.{print-of, fitted, after-reading, printed, printing-of}
+use Rattle.printing.proofs.Putting.{put-front}
+
+-- Bytes for an output: 34, then 33, else all of them.
+pub fitted-34 : (ys : List ℕ) (room : ℕ) → max-text < length ys → fitted ys room ≡ refused 34 0
+unfolding fitted
+fitted-34 ys room l = rw (lt-ltb max-text (length ys) l)
+
+pub fitted-33 : (ys : List ℕ) (room : ℕ) → length ys ≤ max-text → room < length ys → fitted ys room ≡ refused 33 0
+unfolding fitted
+fitted-33 ys room l s = rw (le-ltb max-text (length ys) l, lt-ltb room (length ys) s)
+
+pub fitted-all : (ys : List ℕ) (room : ℕ) → length ys ≤ max-text → length ys ≤ room → fitted ys room ≡ taken ys
+unfolding fitted
+fitted-all ys room l s = rw (le-ltb max-text (length ys) l, le-ltb room (length ys) s)
+
+-- The reading's refusals stay, and an accepted text's print is fitted.
+pub refused-first : (text : List ℕ) (room k n : ℕ) → reading text .outcome ≡ Refused k n → printed text room ≡ refused k n
+unfolding printed after-reading
+refused-first text room k n o = rw o
+
+pub then-fitted : (text : List ℕ) (room : ℕ) → reading text .outcome ≡ Accepted → printed text room ≡ fitted (print-of (read text)) room
+unfolding printed after-reading
+then-fitted text room o = rw o
+
+-- What the code answers to a refusal and leaves in the output.
+pub answer-refused : (u : OrRefused (List ℕ)) (k s : ℕ) (out : List ℕ) → u ≡ refused k s → (printing.Refused k s ≡ printing-of u) × (out ≡ output-of u out)
+unfolding printing-of output-of
+answer-refused u k s out e = (rw e, rw e)
+
+-- The same for bytes taken, which stand at the front of the output.
+pub answer-taken : (u : OrRefused (List ℕ)) (ys first out : List ℕ) (n : ℕ) → u ≡ taken ys → n ≡ length ys → out ≡ put-in first 0 ys → (printing.Printed n ≡ printing-of u) × (out ≡ output-of u first)
+unfolding printing-of output-of
+answer-taken u ys first out n e l p = (rw e (ap printing.Printed l), rw e (p ∙ put-front first ys))
