@@ -2,6 +2,8 @@
 use Prim.Native.Nat.{ℕ}
 use Rattle.reader.specs.declared.FileRead.{FileRead}
 use Rattle.reader.specs.Tables as reading
+use Rattle.printing.specs.declared.Printing.{Printing}
+use Rattle.printing.specs.Printing.{printing-refusal, printing-second, printing-length}
 use Rattle.cards.specs.declared.CardRead.{CardRead}
 use Rattle.cards.specs.declared.SlipRead.{SlipRead}
 use Rattle.cards.specs.declared.Packing.{Packing}
@@ -12,6 +14,7 @@ use Rattle.response.specs.declared.Outcome.the-variants.{Answered, Refused}
 use Rattle.response.specs.declared.Response.{Response}
 use Rattle.response.specs.Respond as responding
 use Rattle.library.specs.declared.RlRead.{RlRead}
+use Rattle.library.specs.declared.RlPrinted.{RlPrinted}
 use Rattle.library.specs.declared.RlCard.{RlCard}
 use Rattle.library.specs.declared.RlSlip.{RlSlip}
 use Rattle.library.specs.declared.RlPacked.{RlPacked}
@@ -20,6 +23,10 @@ use Rattle.library.specs.declared.RlResponse.{RlResponse}
 -- A reading: 'Refusals by who can cause them', the number, 0 for none, and the second number; the table as it is.
 abbrev pub read-result : FileRead → RlRead
 read-result r = record { number = reading.refusal-number (r .outcome); second = reading.second-number (r .outcome); table = r .table }
+
+-- A print.
+abbrev pub print-result : Printing → RlPrinted
+print-result p = record { number = printing-refusal p; second = printing-second p; length = printing-length p }
 
 -- An unpacked card.
 abbrev pub card-result : CardRead → RlCard

@@ -5,13 +5,15 @@ ghost use Rattle.laws.specs.Answers.{output-of};
 ghost use Rattle.names.specs.Names.{show-slot, show-value};
 ghost use Rattle.soundness.specs.Sound.{sound};
 ghost use Rattle.rule_file.specs.Whole.{reading};
+ghost use Rattle.printing.specs.Printing.{printed, printing-of};
 ghost use Rattle.cards.specs.Cards.{unpacked-card, unpacked-slip, packed-card, packed-slip, card-read, slip-read, packing-of};
 ghost use Rattle.response.specs.Respond.{rooms-of, outputs, outputs-after, answer-to, response-to};
-ghost use Rattle.library.specs.Results.{read-result, card-result, slip-result, packing-result, numbered, response-result};
+ghost use Rattle.library.specs.Results.{read-result, print-result, card-result, slip-result, packing-result, numbered, response-result};
 ghost use Rattle.library.specs.Places.{name-place, slot-place, value-place, ShowsPart};
 use cards::Card;
 use cards::Packing;
 use cards::Slip;
+use printing::Printing;
 use response::Outcome;
 use table::Name;
 use table::Table;
@@ -23,6 +25,14 @@ pub struct RlRead {
     pub number: u8,
     pub second: usize,
     pub table: Table,
+}
+
+// A print: the number of its refusal, 0 for none, its second number, and how many bytes are written.
+#[repr(C)]
+pub struct RlPrinted {
+    pub number: u8,
+    pub second: usize,
+    pub length: usize,
 }
 
 // Where a name stands in the text: 0, its start and its size; or 31, 0 and 0.
@@ -91,6 +101,38 @@ pub extern "C" fn rl_read(text: &[u8]) -> RlRead
             };
         }
     }
+}
+
+// A print by numbers.
+fn printed(printing: Printing) -> RlPrinted
+    ensures { λ r. ⌜ r ≡ print-result printing ⌝ }
+{
+    match printing {
+        Printing::Printed(length) => {
+            return RlPrinted {
+                number: 0,
+                second: 0,
+                length: length,
+            };
+        }
+        Printing::Refused(number, second) => {
+            return RlPrinted {
+                number: number,
+                second: second,
+                length: 0,
+            };
+        }
+    }
+}
+
+// Prints a rule text in the house style into the output: 10 to 18, then 34 and 33.
+#[no_mangle]
+pub extern "C" fn rl_print(text: &[u8], out: &mut [u8]) -> RlPrinted
+    ensures { λ r. ⌜ (r ≡ print-result (printing-of (printed (now (text .entry)) (length (now (out .entry))))))
+        × (now (out .exit) ≡ output-of (printed (now (text .entry)) (length (now (out .entry)))) (now (out .entry))) ⌝ }
+{
+    let result = printing::print(text, out);
+    printed(result)
 }
 
 // Whether a table is in order: where it is not, the other functions say 31.
