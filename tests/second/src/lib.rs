@@ -15,6 +15,7 @@ pub mod gen_text;
 pub mod listing;
 pub mod orders;
 pub mod print;
+pub mod print_lines;
 pub mod program_cases;
 #[path = "../../../examples/rust/raw.rs"]
 pub mod raw;
