@@ -96,7 +96,7 @@ fn damage_file(rng: &mut Rng, tokens: &mut Vec<String>, way: usize) {
 
 /// A file of any shape: most of them undamaged, others crowded, doubled, damaged or filled up, a few with a long print.
 pub fn any_file(rng: &mut Rng) -> File {
-    if rng.chance(1, 200) {
+    if rng.chance(1, 150) {
         return long_print(rng);
     }
     let mut sketch = any_sketch(rng);

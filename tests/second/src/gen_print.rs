@@ -51,7 +51,7 @@ pub fn long_print(rng: &mut Rng) -> File {
     let rules: Vec<Rule> = std::mem::take(&mut sketch.rules).iter().map(crowded).collect();
     let lines = length(rng, &sketch, None);
     let lengths: Vec<usize> = rules.iter().map(|rule| length(rng, &sketch, Some(rule)) - lines).collect();
-    let mut left = PRINT - 1 + *rng.pick(&[0, 1, 1, 2, 2, 1_000]) - lines;
+    let mut left = PRINT - 1 + *rng.pick(&[0, 1, 1, 2, 2, 300]) - lines;
     for (rule, length) in rules.iter().zip(&lengths).cycle().take(RULES) {
         if left < length + LEAST {
             break;
