@@ -13,10 +13,11 @@
 #define RL_LITERALS 8
 #define RL_ASSIGNMENTS 4
 
-/* Bytes that any card, any slip of 32 changes and any fired record fit in. */
+/* Bytes that any card, any slip of 32 changes, any fired record and any print fit in. */
 #define RL_CARD_BYTES 17
 #define RL_SLIP_BYTES 37
 #define RL_FIRED_BYTES 32
+#define RL_PRINT_BYTES 65535
 
 /* Where a name stands in the rule text. */
 typedef struct {
@@ -97,6 +98,13 @@ typedef struct {
     RlTable table;
 } RlRead;
 
+/* A print: how many bytes were written, 0 after a refusal. */
+typedef struct {
+    uint8_t number;
+    size_t second;
+    size_t length;
+} RlPrinted;
+
 /* Where a name stands: 0, its start and its size; or 31, 0 and 0. */
 typedef struct {
     uint8_t number;
@@ -139,6 +147,9 @@ typedef struct {
 /* Reads a rule text into a table, or refuses it with 10 to 18. */
 RlRead rl_read(const uint8_t *text, size_t text_length);
 
+/* Prints a rule text in the house style into the output, or refuses it with 10 to 18, 34 (the print would pass 65,535 bytes), 33 (the output is shorter than the print); bytes beyond the print, and all after a refusal, stay as they are. */
+RlPrinted rl_print(const uint8_t *text, size_t text_length, uint8_t *out, size_t out_length);
+
 /* Says whether a table is in order; with one that is not, the functions below that take it say 31, but for the names. */
 bool rl_is_sound(RlTable table);
 
@@ -169,6 +180,6 @@ _Static_assert(sizeof(RlSlot) == 264 && sizeof(RlLiteral) == 4 && sizeof(RlAssig
 _Static_assert(sizeof(RlRule) == 72 && sizeof(RlTable) == 26824 && sizeof(RlRead) == 26840, "layout");
 _Static_assert(sizeof(RlCardForm) == 40 && sizeof(RlSlipForm) == 72 && sizeof(RlTally) == 4, "layout");
 _Static_assert(sizeof(RlName) == 24 && sizeof(RlCard) == 56 && sizeof(RlSlip) == 88, "layout");
-_Static_assert(sizeof(RlPacked) == 24 && sizeof(RlResponse) == 40, "layout");
+_Static_assert(sizeof(RlPrinted) == 24 && sizeof(RlPacked) == 24 && sizeof(RlResponse) == 40, "layout");
 
 #endif

@@ -1,5 +1,5 @@
 #!/usr/bin/env python3
-"""The examples of the editors' guide, run by the program: each must get the refusal in whose row it stands; and the guide's listing must be that of examples/dialect.
+"""The examples of the editors' guide, run by the program: each must get the refusal in whose row it stands; every refusal must have its row, the guide's listing be that of examples/dialect, and its file in the house style the print of the file before it.
 
   tests/editors.py   needs target/bin/rl; exit status 1 where an example comes to something else
 """
@@ -8,6 +8,8 @@ import re
 import subprocess
 import sys
 import tempfile
+
+import print_cases
 
 TOP = os.path.dirname(os.path.dirname(os.path.abspath(__file__)))
 SLOTS = b'SLOT dating {before-1900, from-1900};\nSLOT status {current, obsolete};\n'
@@ -25,6 +27,13 @@ def examples(guide):
             yield row[0], (SLOTS, CARD, bytes.fromhex(found[2]))
         elif found:
             yield row[0], (SLOTS + found[2].encode(), CARD, SLIP)
+
+
+def styled(guide):
+    """The file of the section on the house style, and what it is said to print as."""
+    section = guide.split('\n## The house style\n')[1].split('\n## ')[0]
+    blocks = re.findall(r'(?:^    .*\n|^\n(?=    ))+', section, re.M)
+    return [re.sub(r'^    ', '', block, flags=re.M).lstrip('\n').encode() for block in blocks]
 
 
 def printed(files):
@@ -49,6 +58,14 @@ def main():
             wrong = 1
     if numbers != [*range(11, 19), *range(20, 29), 40]:
         print(f'examples stand for {numbers}')
+        wrong = 1
+    rows = [int(number) for number in re.findall(r'^\| (\d\d) \|', guide, re.M)]
+    if rows != [*range(10, 19), 34, *range(20, 29), 40, *range(30, 34)]:
+        print(f'rows stand for {rows}')
+        wrong = 1
+    before, after = styled(guide)
+    if b''.join(print_cases.printed(before, print_cases.LONGEST)) != after:
+        print('the file in the house style is not the print of the one before it')
         wrong = 1
     if not printed((SLOTS, CARD, SLIP)).startswith('change dating before-1900\n'):
         print('the card and the slip of the guide get no answer')

@@ -1,5 +1,5 @@
 #!/usr/bin/env python3
-"""Every entry point has an `ensures` and no `requires`; exit status 1 where one has not."""
+"""Every entry point has an `ensures` and no `requires`, and those of the library are the functions of include/rl.h and of docs/REFERENCE.md; exit status 1 where it is not so."""
 import os
 import re
 import sys
@@ -16,12 +16,22 @@ ENTRY_POINTS = {
     'unpacking': ['unpack_card', 'unpack_slip'],
     'packing': ['pack_card', 'pack_slip'],
     'response': ['respond'],
-    'library': ['rl_read', 'rl_is_sound', 'rl_slot_name', 'rl_value_name', 'rl_unpack_card', 'rl_unpack_slip', 'rl_pack_card', 'rl_pack_slip', 'rl_respond'],
+    'library': ['rl_read', 'rl_print', 'rl_is_sound', 'rl_slot_name', 'rl_value_name', 'rl_unpack_card', 'rl_unpack_slip', 'rl_pack_card', 'rl_pack_slip', 'rl_respond'],
 }
+
+
+def named(path, pattern):
+    """The functions that a file names by a pattern, in its order."""
+    with open(os.path.join(TOP, path), encoding='utf-8') as file:
+        return re.findall(pattern, file.read(), re.M)
 
 
 def main():
     wrong = 0
+    for path, pattern in (('include/rl.h', r'^\w+ (rl_\w+)\('), ('docs/REFERENCE.md', r'\*\*`(rl_\w+)\(')):
+        if named(path, pattern) != ENTRY_POINTS['library']:
+            print(f'{path} has {named(path, pattern)}')
+            wrong = 1
     for crate, names in ENTRY_POINTS.items():
         with open(os.path.join(TOP, 'crates', crate, 'src/lib.rt'), encoding='utf-8') as file:
             source = file.read()

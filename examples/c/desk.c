@@ -1,34 +1,6 @@
 /* A desk in C: reads rules.txt, card.bin and slip.bin in a folder, asks for the response and prints what changes, by name. */
-#include <inttypes.h>
-#include <stdio.h>
-#include <stdlib.h>
-
+#include "folder.h"
 #include "rl.h"
-
-/* The most bytes that are read of a file: one more than a rule text may have. */
-enum { ROOM = 65536 };
-
-/* Reads a file of the folder into the room given, and says how many bytes it has. */
-static size_t load(const char *folder, const char *name, uint8_t *room) {
-    char path[4096];
-    snprintf(path, sizeof path, "%s/%s", folder, name);
-    FILE *file = fopen(path, "rb");
-    if (file == NULL) {
-        printf("unread %s\n", name);
-        exit(1);
-    }
-    size_t length = fread(room, 1, ROOM, file);
-    fclose(file);
-    return length;
-}
-
-/* Ends the program where a number says that something was refused. */
-static void stop_at(uint8_t number, size_t second) {
-    if (number != 0) {
-        printf("refused %" PRIu8 " %zu\n", number, second);
-        exit(1);
-    }
-}
 
 /* Prints a slot's name and a value's name, each a part of the rule text; a card's 0 is no value. */
 static void print_pair(const char *what, const uint8_t *text, size_t length, const RlTable *table, size_t slot,
@@ -47,7 +19,7 @@ static void print_pair(const char *what, const uint8_t *text, size_t length, con
 
 int main(int count, char **words) {
     static uint8_t text[ROOM], card[ROOM], slip[ROOM];
-    const char *folder = count > 1 ? words[1] : ".";
+    const char *folder = named(count, words);
     size_t text_length = load(folder, "rules.txt", text);
     size_t card_length = load(folder, "card.bin", card);
     size_t slip_length = load(folder, "slip.bin", slip);

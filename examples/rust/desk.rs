@@ -1,18 +1,9 @@
 //! A desk in Rust: reads rules.txt, card.bin and slip.bin in a folder, asks for the response and prints what changes, by name.
 
+mod folder;
 mod rl;
 
-use std::process::exit;
-
 use rl::Refusal;
-
-/// Reads a file of the folder.
-fn load(folder: &str, name: &str) -> Vec<u8> {
-    std::fs::read(format!("{folder}/{name}")).unwrap_or_else(|_| {
-        println!("unread {name}");
-        exit(1)
-    })
-}
 
 /// Prints a slot's name and a value's name, each a part of the rule text; a card's 0 is no value.
 fn print_pair(what: &str, text: &[u8], table: &rl::Table, slot: usize, value: usize) -> Result<(), Refusal> {
@@ -52,10 +43,7 @@ fn run(text: &[u8], card: &[u8], slip: &[u8]) -> Result<(), Refusal> {
 }
 
 fn main() {
-    let folder = std::env::args().nth(1).unwrap_or_else(|| ".".into());
-    let [text, card, slip] = ["rules.txt", "card.bin", "slip.bin"].map(|name| load(&folder, name));
-    if let Err(Refusal { number, second }) = run(&text, &card, &slip) {
-        println!("refused {number} {second}");
-        exit(1);
-    }
+    let folder = folder::named();
+    let [text, card, slip] = ["rules.txt", "card.bin", "slip.bin"].map(|name| folder::load(&folder, name));
+    folder::given(run(&text, &card, &slip));
 }

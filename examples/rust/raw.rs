@@ -7,10 +7,11 @@ pub const RULES: usize = 255;
 pub const LITERALS: usize = 8;
 pub const ASSIGNMENTS: usize = 4;
 
-/// Bytes that any card, any slip of 32 changes and any fired record fit in.
+/// Bytes that any card, any slip of 32 changes, any fired record and any print fit in.
 pub const CARD_BYTES: usize = 17;
 pub const SLIP_BYTES: usize = 37;
 pub const FIRED_BYTES: usize = 32;
+pub const PRINT_BYTES: usize = 65_535;
 
 /// Where a name stands in the rule text.
 #[repr(C)]
@@ -133,6 +134,14 @@ pub struct RlRead {
     pub table: Table,
 }
 
+/// The result of printing.
+#[repr(C)]
+pub struct RlPrinted {
+    pub number: u8,
+    pub second: usize,
+    pub length: usize,
+}
+
 /// Where a name stands, or 31.
 #[repr(C)]
 pub struct RlName {
@@ -177,6 +186,7 @@ pub struct RlResponse {
 
 extern "C" {
     fn rl_read(text: *const u8, length: usize) -> RlRead;
+    fn rl_print(text: *const u8, text_length: usize, out: *mut u8, out_length: usize) -> RlPrinted;
     fn rl_is_sound(table: Table) -> bool;
     fn rl_slot_name(text: *const u8, length: usize, table: Table, slot: usize) -> RlName;
     fn rl_value_name(text: *const u8, length: usize, table: Table, slot: usize, value: usize) -> RlName;
@@ -206,6 +216,12 @@ extern "C" {
 #[inline]
 pub fn read(text: &[u8]) -> RlRead {
     unsafe { rl_read(text.as_ptr(), text.len()) }
+}
+
+/// Prints a rule text in the house style into an output.
+#[inline]
+pub fn print(text: &[u8], out: &mut [u8]) -> RlPrinted {
+    unsafe { rl_print(text.as_ptr(), text.len(), out.as_mut_ptr(), out.len()) }
 }
 
 /// Whether a table is in order.

@@ -5,7 +5,7 @@
 mod raw;
 
 pub use raw::{is_sound, Assignment, Card, Change, Literal, Name, Refusal, Rule, Slip, Slot, Table, Tally};
-pub use raw::{CARD_BYTES, FIRED_BYTES, SLIP_BYTES};
+pub use raw::{CARD_BYTES, FIRED_BYTES, PRINT_BYTES, SLIP_BYTES};
 
 use raw::{given, RlName};
 
@@ -28,6 +28,12 @@ fn part(text: &[u8], name: RlName) -> Result<&[u8], Refusal> {
 pub fn read(text: &[u8]) -> Result<Box<Table>, Refusal> {
     let read = raw::read(text);
     given(read.number, read.second, Box::new(read.table))
+}
+
+/// Prints a rule text in the house style into the output; gives the print's length.
+pub fn print(text: &[u8], out: &mut [u8]) -> Result<usize, Refusal> {
+    let printed = raw::print(text, out);
+    given(printed.number, printed.second, printed.length)
 }
 
 /// A slot's name, a part of the text.

@@ -1,18 +1,22 @@
 //! What the benchmark asks of an engine, and the native engine as one.
 
+use crate::print::Printer;
 use crate::raw::Tally;
 use crate::read::{self, Workspace};
 use crate::response::{self, Answer, Outputs};
 use crate::table::Table;
 use crate::Refusal;
 
-/// The two entry points that are measured, and the table between them.
+/// The three entry points that are measured, and the table between reading and response.
 pub trait Engine {
     /// Reads a text into the engine's table, or gives a refusal 10 to 18 and leaves the table without slots or rules.
     fn read(&mut self, text: &[u8]) -> Result<(), Refusal>;
 
     /// The table of the last reading.
     fn table(&self) -> &Table;
+
+    /// Prints a text in the house style: the print's length, or 10 to 18, 34, 33.
+    fn print(&mut self, text: &[u8], out: &mut [u8]) -> Result<usize, Refusal>;
 
     /// The response: the tally after it, and the answer or 32, 31, 20 to 28, 30, 40.
     fn respond(
@@ -25,16 +29,17 @@ pub trait Engine {
     ) -> (Tally, Result<Answer, Refusal>);
 }
 
-/// The native engine, with what it keeps from one reading to the next.
+/// The native engine, with what it keeps from one reading or print to the next.
 pub struct Native {
     workspace: Box<Workspace>,
     table: Box<Table>,
+    printer: Printer,
 }
 
 impl Native {
     /// The native engine before any reading.
     pub fn new() -> Native {
-        Native { workspace: Workspace::new(), table: Table::empty() }
+        Native { workspace: Workspace::new(), table: Table::empty(), printer: Printer::new() }
     }
 }
 
@@ -51,6 +56,11 @@ impl Engine for Native {
 
     fn table(&self) -> &Table {
         &self.table
+    }
+
+    fn print(&mut self, text: &[u8], out: &mut [u8]) -> Result<usize, Refusal> {
+        self.read(text)?;
+        self.printer.print(&self.table, &self.workspace.names, out)
     }
 
     fn respond(

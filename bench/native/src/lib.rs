@@ -6,6 +6,7 @@ pub mod engine;
 pub mod inputs;
 pub mod measure;
 pub mod names;
+pub mod print;
 pub mod proved;
 #[path = "../../../examples/rust/raw.rs"]
 pub mod raw;

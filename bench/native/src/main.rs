@@ -3,9 +3,10 @@
 use native::draw::{svg, Line, Panel};
 use native::engine::{Engine, Native};
 use native::inputs::{inputs, Input};
-use native::measure::{reading_times, response_times, result};
+use native::measure::{response_times, result, text_times};
 use native::proved::Proved;
 use native::table::Table;
+use native::Refusal;
 
 /// How often all inputs are measured, one after the other, so that a busy machine does not slow one of them only.
 const ROUNDS: usize = 8;
@@ -19,6 +20,8 @@ struct Row {
     outcome: String,
     reading: [f64; 2],
     response: Option<[f64; 2]>,
+    print: String,
+    printing: [f64; 2],
 }
 
 /// How many triggers, literals and assignments a table's rules have.
@@ -31,23 +34,25 @@ fn row(proved: &mut dyn Engine, native: &mut dyn Engine, input: &Input) -> Optio
     let (theirs, ours) = (result(proved, input), result(native, input));
     if theirs != ours {
         println!("DIFFERENT on {}", input.name);
-        println!("proved: {:?} {:?} {:?} {:?}", theirs.reading, theirs.tally, theirs.answer, theirs.outputs);
-        println!("native: {:?} {:?} {:?} {:?}", ours.reading, ours.tally, ours.answer, ours.outputs);
+        for (name, result) in [("proved", theirs), ("native", ours)] {
+            let numbers = (result.reading, result.tally, result.answer, result.printing);
+            println!("{name}: {numbers:?} {:?}\n{}", result.outputs, String::from_utf8_lossy(&result.print));
+        }
         return None;
     }
-    let outcome = match (ours.reading, ours.answer) {
-        (Err(why), _) => format!("refused {} {}", why.number, why.second),
-        (_, Err(why)) => format!("refused {} {}", why.number, why.second),
-        (_, Ok(answer)) => format!("{} fired", answer.fired),
-    };
+    let refused = |why: Refusal| format!("refused {} {}", why.number, why.second);
+    let answered = ours.reading.and(ours.answer);
+    let [reading, printing] = text_times([&mut *proved, &mut *native], input);
     Some(Row {
         name: input.name.clone(),
         grows: input.grows,
         bytes: input.text.len(),
         pairs: pairs(&ours.table),
-        outcome,
-        reading: reading_times([&mut *proved, &mut *native], input),
+        outcome: answered.map_or_else(refused, |answer| format!("{} fired", answer.fired)),
+        reading,
         response: ours.reading.is_ok().then(|| response_times([proved, native], input, &ours.table)),
+        print: ours.printing.map_or_else(refused, |length| format!("{length} bytes")),
+        printing,
     })
 }
 
@@ -68,6 +73,20 @@ fn print_times(rows: &[Row]) {
     for row in rows {
         let (reading, response) = (times(Some(row.reading)), times(row.response));
         println!("| {:<37} | {:>6} | {:<12} | {reading} | {response} |", row.name, row.bytes, row.outcome);
+    }
+}
+
+/// Prints the times of printing, which reads too, and what they are less those of reading.
+fn print_printing(rows: &[Row]) {
+    println!("\nPrinting; what it takes beyond the reading of the same text; and that as a part of the reading, for the proved library.\n");
+    let engines = "printing, proved | printing, native | ratio | beyond reading, proved | beyond reading, native";
+    println!("| input | bytes | print | {engines} | part of reading |");
+    println!("|---|---|---|---|---|---|---|---|---|");
+    for row in rows {
+        let [proved, native] = [0, 1].map(|engine| row.printing[engine] - row.reading[engine]);
+        let (printing, part) = (times(Some(row.printing)), proved / row.reading[0]);
+        let beyond = format!("{proved:>9.2} | {native:>9.2} | {part:>5.2}");
+        println!("| {:<37} | {:>6} | {:<12} | {printing} | {beyond} |", row.name, row.bytes, row.print);
     }
 }
 
@@ -102,7 +121,10 @@ fn drawing(rows: &[Row]) -> String {
     let response = panel(rows, "One response", "triggers, literals and assignments in the table", |row, engine| {
         (row.pairs as f64, row.response.unwrap_or_default()[engine])
     });
-    svg(&[reading, response])
+    let printing = panel(rows, "Reading and printing a rule text", "bytes of text", |row, engine| {
+        (row.bytes as f64, row.printing[engine])
+    });
+    svg(&[reading, printing, response])
 }
 
 /// Takes the smaller of each two times.
@@ -112,7 +134,9 @@ fn lower(times: &mut [f64; 2], others: [f64; 2]) {
 
 /// Measures an input again and keeps the best times.
 fn measure_again(proved: &mut dyn Engine, native: &mut dyn Engine, input: &Input, row: &mut Row) {
-    lower(&mut row.reading, reading_times([&mut *proved, &mut *native], input));
+    let [reading, printing] = text_times([&mut *proved, &mut *native], input);
+    lower(&mut row.reading, reading);
+    lower(&mut row.printing, printing);
     native.read(&input.text).ok();
     let table = Box::new(*native.table());
     if let Some(times) = &mut row.response {
@@ -132,6 +156,7 @@ fn main() {
     let same = rows.iter().all(Option::is_some);
     let rows: Vec<Row> = rows.into_iter().flatten().collect();
     print_times(&rows);
+    print_printing(&rows);
     print_growth(&rows);
     if let Some(file) = std::env::args().nth(1) {
         std::fs::write(&file, drawing(&rows)).expect("the drawing is written");

@@ -1,11 +1,12 @@
 //! Both engines on one input: their results compared, their times taken in turn.
 
+use std::cell::RefCell;
 use std::hint::black_box;
 use std::time::{Duration, Instant};
 
 use crate::engine::Engine;
 use crate::inputs::Input;
-use crate::raw::{Tally, CARD_BYTES, FIRED_BYTES, SLIP_BYTES};
+use crate::raw::{Tally, CARD_BYTES, FIRED_BYTES, PRINT_BYTES, SLIP_BYTES};
 use crate::response::{Answer, Outputs};
 use crate::table::Table;
 use crate::Refusal;
@@ -22,6 +23,8 @@ pub struct Result {
     pub tally: Tally,
     pub answer: std::result::Result<Answer, Refusal>,
     pub outputs: [Vec<u8>; 3],
+    pub printing: std::result::Result<usize, Refusal>,
+    pub print: Vec<u8>,
 }
 
 /// The three outputs before a response.
@@ -40,13 +43,20 @@ fn respond(
     engine.respond(table, Tally::default(), &input.card, &input.slip, Outputs { card, changes, fired })
 }
 
-/// The reading and the response of an engine.
+/// The output before a print.
+fn page() -> Vec<u8> {
+    vec![0xA5; PRINT_BYTES]
+}
+
+/// The reading, the response and the print of an engine.
 pub fn result(engine: &mut dyn Engine, input: &Input) -> Result {
     let reading = engine.read(&input.text);
     let table = Box::new(*engine.table());
     let mut outputs = rooms();
     let (tally, answer) = respond(engine, &table, input, &mut outputs);
-    Result { reading, table, tally, answer, outputs }
+    let mut print = page();
+    let printing = engine.print(&input.text, &mut print);
+    Result { reading, table, tally, answer, outputs, printing, print }
 }
 
 /// How many calls take about the time of a repetition.
@@ -77,12 +87,18 @@ fn best<const N: usize>(mut calls: [&mut dyn FnMut(); N]) -> [f64; N] {
     best
 }
 
-/// The best times of reading by two engines, in microseconds.
-pub fn reading_times(engines: [&mut dyn Engine; 2], input: &Input) -> [f64; 2] {
-    let [first, second] = engines;
-    let mut one = || _ = black_box(first.read(black_box(&input.text)));
-    let mut other = || _ = black_box(second.read(black_box(&input.text)));
-    best([&mut one, &mut other])
+/// The best times of two engines in microseconds: of reading, and of printing, which reads too.
+pub fn text_times(engines: [&mut dyn Engine; 2], input: &Input) -> [[f64; 2]; 2] {
+    let [first, second] = engines.map(RefCell::new);
+    let (mut a, mut b) = (page(), page());
+    let text = || black_box(&input.text[..]);
+    let [one, other, one_printing, other_printing] = best([
+        &mut || _ = black_box(first.borrow_mut().read(text())),
+        &mut || _ = black_box(second.borrow_mut().read(text())),
+        &mut || _ = black_box(first.borrow_mut().print(text(), &mut a)),
+        &mut || _ = black_box(second.borrow_mut().print(text(), &mut b)),
+    ]);
+    [[one, other], [one_printing, other_printing]]
 }
 
 /// The best times of a response by two engines to the same table, in microseconds.

@@ -78,6 +78,18 @@ impl Names {
         (value > 0).then_some(value)
     }
 
+    /// The key of a slot that was entered.
+    #[inline]
+    pub fn slot_key(&self, slot: u8) -> &Key {
+        &self.slot_keys[slot as usize % SLOTS]
+    }
+
+    /// The key of a slot's value that was entered.
+    #[inline]
+    pub fn value_key(&self, slot: u8, value: u8) -> &Key {
+        &self.value_keys[place(slot, value)]
+    }
+
     /// Enters a slot below 32; false where the name has one.
     #[inline]
     pub fn enter_slot(&mut self, slot: u8, key: &Key) -> bool {

@@ -34,6 +34,11 @@ impl Engine for Proved {
         &self.read.table
     }
 
+    fn print(&mut self, text: &[u8], out: &mut [u8]) -> Result<usize, Refusal> {
+        let printed = raw::print(text, out);
+        given(printed.number, printed.second, printed.length)
+    }
+
     fn respond(
         &mut self,
         table: &Table,

@@ -11,7 +11,7 @@ pub const TEXT: usize = 65_535;
 
 /// What a reading needs beside the table, kept from one to the next.
 pub struct Workspace {
-    names: Names,
+    pub names: Names,
     graph: Graph,
 }
 

@@ -9,6 +9,7 @@ use second::engine::{Engine as _, Second};
 use second::gen::{any_file, card, rooms, slip, tally, Rng};
 use second::gen_tables::damaged;
 use second::gen_text::Sketch;
+use second::print::{printed, put, PRINT};
 use second::table::Table as SecondTable;
 
 /// The second engine's table in the native layout.
@@ -68,7 +69,21 @@ fn responses(rng: &mut Rng, table: &SecondTable, sketch: &Sketch, engine: &mut N
     our_answer.map_or_else(|why| why.number, |_| 0)
 }
 
-/// Readings and responses agree, and every number comes up.
+/// Prints of both engines into outputs about as long as the print; gives the numbers they came to.
+fn prints(text: &[u8], engine: &mut Native) -> [u8; 4] {
+    let print = printed(text);
+    let length = print.as_ref().map_or(PRINT + 1, Vec::len);
+    [length, length.saturating_sub(1), length + 5, 0].map(|room| {
+        let (mut theirs, mut ours) = (vec![0xA5; room], vec![0xA5; room]);
+        let their_length = print.as_ref().map_err(|why| *why).and_then(|print| put(print, &mut theirs));
+        let our_length = engine.print(text, &mut ours);
+        assert!(theirs == ours, "{}", String::from_utf8_lossy(text));
+        assert_eq!(their_length.map_err(refused), our_length);
+        our_length.map_or_else(|why| why.number, |_| 0)
+    })
+}
+
+/// Readings, prints and responses agree, and every number comes up.
 #[test]
 fn agrees_with_the_second_engine() {
     let mut rng = Rng::new(20);
@@ -81,13 +96,14 @@ fn agrees_with_the_second_engine() {
         assert_eq!(why.map(refused), ours.err(), "{}", String::from_utf8_lossy(&file.text));
         assert!(*converted(&theirs) == *engine.table(), "round {round}");
         seen[why.map_or(0, |why| why.number) as usize] += 1;
+        prints(&file.text, &mut engine).map(|number| seen[number as usize] += 1);
         let given = if round % 4 == 0 { damaged(&mut rng, &theirs, file.text.len()) } else { theirs };
         for _ in 0..3 {
             seen[responses(&mut rng, &given, &file.sketch, &mut engine) as usize] += 1;
         }
     }
     println!("{seen:?}");
-    for number in (10..=18).chain(20..=28).chain(30..=32).chain([40]) {
+    for number in (10..=18).chain(20..=28).chain(30..=34).chain([40]) {
         assert!(seen[number] > 0, "{number} never came up");
     }
 }

@@ -10,7 +10,7 @@ use crate::response::{conflict, fire, fired_count, needed, outcome, record, shor
 use crate::response::{Answer, Changes, Firing, Outputs, Tally, FULL};
 use crate::table::{Literal, Name, Pair, Program, Rule, Table};
 use crate::table31::tested;
-use crate::{broken_reading, refusal, Refusal};
+use crate::{broken_print, broken_reading, refusal, Refusal};
 
 /// The second engine with one fault, and the responses it has given.
 pub struct Broken {
@@ -237,6 +237,10 @@ impl Broken {
 impl Engine for Broken {
     fn read(&mut self, text: &[u8]) -> (Option<Refusal>, Box<Table>) {
         broken_reading::read(self.fault, text)
+    }
+
+    fn print(&mut self, text: &[u8], output: &mut [u8]) -> Result<usize, Refusal> {
+        broken_print::print(self.fault, text, output)
     }
 
     fn strata(&mut self, table: &Table) -> Result<Vec<u8>, Refusal> {

@@ -7,6 +7,7 @@ use crate::engine::{Engine, Second};
 use crate::gen::{self, any_file, File, Rng};
 use crate::gen_tables::damaged;
 use crate::gen_text::Sketch;
+use crate::print::{print_of, put, PRINT};
 use crate::read::read_rules;
 use crate::response::{needed, Outputs, Tally};
 use crate::table::{table_of, Table};
@@ -72,7 +73,7 @@ fn respond(engine: &mut dyn Engine, table: &Table, entry: &Entry) -> Left<(Tally
 }
 
 /// Compares readings: refusals, and tables place by place; after a refusal only that there are no slots or rules.
-fn compare_read(other: &mut dyn Engine, text: &[u8]) -> Result<Box<Table>, Difference> {
+fn compare_read(other: &mut dyn Engine, text: &[u8]) -> Result<(Option<Refusal>, Box<Table>), Difference> {
     let (ours, table) = Second.read(text);
     let (theirs, given) = other.read(text);
     same("reading, the refusal", &ours, &theirs)?;
@@ -86,7 +87,23 @@ fn compare_read(other: &mut dyn Engine, text: &[u8]) -> Result<Box<Table>, Diffe
             same("reading, a rule", &table.rules[at], &given.rules[at])?;
         }
     }
-    Ok(table)
+    Ok((ours, table))
+}
+
+/// Compares the print of a text, given its reading's refusal, into outputs exactly long enough, one byte short, longer and empty; of a refused text into one as long as the text and an empty one.
+fn compare_print(other: &mut dyn Engine, text: &[u8], refused: Option<Refusal>) -> Result<(), Difference> {
+    let print = refused.map_or_else(|| print_of(text), Err);
+    let about = |length: usize| vec![length, length.saturating_sub(1), length + 5, 0];
+    let rooms = match &print {
+        Ok(print) => about(print.len()),
+        Err(why) if why.number == 34 => about(PRINT + 1),
+        Err(_) => vec![text.len(), 0],
+    };
+    for room in rooms {
+        let ours = lend([room], |[output]| print.as_ref().map_err(|why| *why).and_then(|print| put(print, output)));
+        same("the print", &ours, &lend([room], |[output]| other.print(text, output)))?;
+    }
+    Ok(())
 }
 
 /// Compares the strata of the file's rules, those of a file refused with 18 too.
@@ -204,7 +221,8 @@ pub fn compare_seed(other: &mut dyn Engine, seed: u64) -> Result<(), Box<Failing
     let file = any_file(&mut rng);
     let failing = |entry, difference| Box::new(Failing { seed, text: file.text.clone(), entry, difference });
     let read = compare_read(other, &file.text);
-    let table = read.map_err(|difference| failing(None, difference))?;
+    let (refused, table) = read.map_err(|difference| failing(None, difference))?;
+    compare_print(other, &file.text, refused).map_err(|difference| failing(None, difference))?;
     compare_strata(other, &file.text).map_err(|difference| failing(None, difference))?;
     compare_names(other, &file.text, &table).map_err(|difference| failing(None, difference))?;
     let fitting = fitting(&mut rng, &file, &table);
@@ -235,8 +253,8 @@ pub fn compare_seeds(other: &mut dyn Engine, first: u64, rounds: u64) -> (Option
 fn differs(other: &mut dyn Engine, text: &[u8], entry: Option<&Entry>) -> bool {
     match (compare_read(other, text), entry) {
         (Err(_), _) => true,
-        (Ok(table), Some(entry)) => compare_response(other, &table, entry).is_err(),
-        (Ok(_), None) => false,
+        (Ok((_, table)), Some(entry)) => compare_response(other, &table, entry).is_err(),
+        (Ok((refused, _)), None) => compare_print(other, text, refused).is_err(),
     }
 }
 
@@ -279,6 +297,8 @@ pub fn refusals_met(first: u64, rounds: u64) -> std::collections::BTreeMap<u8, u
         let file = any_file(&mut rng);
         let (refused, table) = Second.read(&file.text);
         *met.entry(refused.map_or(0, |why| why.number)).or_default() += 1;
+        let print = Second.print(&file.text, &mut [0; 40]);
+        *met.entry(print.err().map_or(0, |why| why.number)).or_default() += 1;
         for changed in [None, Some(damaged(&mut rng, &table, file.text.len()))] {
             let tally = gen::tally(&mut rng);
             let table = changed.as_ref().unwrap_or(&table);

@@ -3,12 +3,15 @@
 use crate::response::{respond, Outputs, Tally};
 use crate::table::{Name, Pair, Table};
 use crate::table31::{slot_name, tested, unlayered, value_name};
-use crate::{cards, read, refusal, response, strata, Refusal};
+use crate::{cards, print, read, refusal, response, strata, Refusal};
 
 /// The entry points of an engine, over bytes lent by the caller and tables by value.
 pub trait Engine {
     /// Reads a rule text: the refusal 10 to 18, and the table, which is without slots or rules after a refusal.
     fn read(&mut self, text: &[u8]) -> (Option<Refusal>, Box<Table>);
+
+    /// Prints a rule text in the house style into an output: the print's length, or 10 to 18, 34, 33.
+    fn print(&mut self, text: &[u8], output: &mut [u8]) -> Result<usize, Refusal>;
 
     /// The least strata of a table's rules, the table's own strata not looked at: 31 or 18 where there are none.
     fn strata(&mut self, table: &Table) -> Result<Vec<u8>, Refusal>;
@@ -54,6 +57,10 @@ impl Engine for Second {
             Ok(table) => (None, table),
             Err(why) => (Some(why), Table::empty()),
         }
+    }
+
+    fn print(&mut self, text: &[u8], output: &mut [u8]) -> Result<usize, Refusal> {
+        print::put(&print::printed(text)?, output)
     }
 
     fn strata(&mut self, table: &Table) -> Result<Vec<u8>, Refusal> {

@@ -149,4 +149,52 @@ faults! {
     FirstOfDay,
     /// The ones of a record are counted in its first 31 bytes.
     LastByteUncounted,
+    /// A space is printed before a comma.
+    SpaceBeforeComma,
+    /// A space is printed before a semicolon.
+    SpaceBeforeSemicolon,
+    /// No space is printed inside braces.
+    NoSpaceInBraces,
+    /// No space is printed after a comma.
+    NoSpaceAfterComma,
+    /// Every NOT is printed.
+    NotsPrinted,
+    /// No NOT is printed.
+    NotUnprinted,
+    /// TRUE is printed before literals too.
+    TruePrinted,
+    /// TRUE is not printed in an empty condition.
+    TrueUnprinted,
+    /// Braces round one assignment are printed.
+    OneInBraces,
+    /// Two assignments or more are printed without braces.
+    TwoWithoutBraces,
+    /// A rule that prints like the one before it is not printed.
+    RuleOnce,
+    /// Byte 13 is printed before byte 10.
+    ReturnPrinted,
+    /// No byte 10 is printed after the last statement.
+    NoLastNewline,
+    /// A text without strata is printed.
+    CirclePrinted,
+    /// The second number of a refused print is 0.
+    PrintSecondDropped,
+    /// A print of 65,535 bytes is refused with 34.
+    LongestPrintRefused,
+    /// A print of 65,536 bytes is accepted.
+    LongerPrintAccepted,
+    /// 33 is tested before 34.
+    RoomBeforeLength,
+    /// 34 is given only where the output is shorter than the print.
+    LengthByRoom,
+    /// An output one byte shorter than the print is accepted.
+    OneShortPrinted,
+    /// A refused print clears its output.
+    ClearedOnRefusal,
+    /// As much of the print as fits is written although 33 is answered.
+    PrintedOnShort,
+    /// A zero byte is written after the print.
+    ByteBeyondPrint,
+    /// The length of a print is one more than was printed.
+    PrintLengthOver,
 }

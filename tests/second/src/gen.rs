@@ -1,6 +1,7 @@
 //! Generated inputs: rule files, cards, slips, output lengths and tallies, good and damaged.
 
 use crate::cards::{card_bytes, card_length, slip_bytes, slip_length};
+use crate::gen_print::long_print;
 use crate::gen_text::{crowd, damage_bytes, damage_condition, damage_near, damage_tokens, double};
 use crate::gen_text::{join, sketch, sketch_tokens, Sketch, SHAPES};
 use crate::read::TEXT;
@@ -60,7 +61,8 @@ pub struct File {
 /// The file of a sketch, undamaged.
 pub fn plain_file(rng: &mut Rng, sketch: Sketch) -> File {
     let tokens = sketch_tokens(rng, &sketch);
-    File { text: join(rng, &tokens), sketch }
+    let loose = rng.below(4);
+    File { text: join(rng, &tokens, loose), sketch }
 }
 
 /// Fills a text with white space up to a length about the limit.
@@ -92,8 +94,11 @@ fn damage_file(rng: &mut Rng, tokens: &mut Vec<String>, way: usize) {
     }
 }
 
-/// A file of any shape: most of them undamaged, others crowded, doubled, damaged or filled up.
+/// A file of any shape: most of them undamaged, others crowded, doubled, damaged or filled up, a few with a long print.
 pub fn any_file(rng: &mut Rng) -> File {
+    if rng.chance(1, 150) {
+        return long_print(rng);
+    }
     let mut sketch = any_sketch(rng);
     let way = rng.below(16);
     if way == 0 || way == 1 && rng.chance(1, 3) {
@@ -104,7 +109,8 @@ pub fn any_file(rng: &mut Rng) -> File {
     }
     let mut tokens = sketch_tokens(rng, &sketch);
     damage_file(rng, &mut tokens, way);
-    let mut text = join(rng, &tokens);
+    let loose = rng.below(4);
+    let mut text = join(rng, &tokens, loose);
     if matches!(way, 5 | 6) {
         (0..1 + rng.below(2)).for_each(|_| damage_bytes(rng, &mut text));
     }

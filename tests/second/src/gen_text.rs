@@ -361,9 +361,8 @@ pub fn damage_near(rng: &mut Rng, tokens: &mut Vec<String>) {
     }
 }
 
-/// The text of tokens, white space between them where it must be and sometimes elsewhere.
-pub fn join(rng: &mut Rng, tokens: &[String]) -> Vec<u8> {
-    let loose = rng.below(4);
+/// The text of tokens, white space between them where it must be and, so many times in six, elsewhere.
+pub fn join(rng: &mut Rng, tokens: &[String], loose: usize) -> Vec<u8> {
     let mut text: Vec<u8> = Vec::new();
     for token in tokens {
         let runs_on = |byte: &u8| byte.is_ascii_alphanumeric() || *byte == b'-';

@@ -1,6 +1,7 @@
 //! A second engine for RL, made from the papers apart from the proved one, and its comparison with other engines.
 
 pub mod broken;
+pub mod broken_print;
 pub mod broken_reading;
 pub mod cards;
 pub mod compare;
@@ -8,10 +9,13 @@ pub mod engine;
 pub mod fault;
 pub mod firing_checks;
 pub mod gen;
+pub mod gen_print;
 pub mod gen_tables;
 pub mod gen_text;
 pub mod listing;
 pub mod orders;
+pub mod print;
+pub mod print_lines;
 pub mod program_cases;
 #[path = "../../../examples/rust/raw.rs"]
 pub mod raw;

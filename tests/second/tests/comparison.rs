@@ -36,7 +36,7 @@ fn the_second_engine_agrees_with_itself() {
 #[test]
 fn every_refusal_is_met() {
     let met = refusals_met(1, 4_000);
-    let all = [0, 10, 11, 12, 13, 14, 15, 16, 17, 18, 20, 21, 22, 23, 24, 25, 26, 27, 28, 30, 31, 32, 40];
+    let all = [0, 10, 11, 12, 13, 14, 15, 16, 17, 18, 20, 21, 22, 23, 24, 25, 26, 27, 28, 30, 31, 32, 33, 34, 40];
     assert_eq!(met.into_keys().collect::<Vec<u8>>(), all);
 }
 

@@ -1,10 +1,10 @@
-//! What the second engine makes of the project's stored texts, tables and folders is what is stored.
+//! What the second engine makes of the project's stored texts, prints, tables and folders is what is stored.
 
 use std::fs;
 use std::path::{Path, PathBuf};
 
 use second::engine::Second;
-use second::{program_cases, read_lines, table_lines};
+use second::{print_lines, program_cases, read_lines, table_lines};
 
 /// A path of the repository.
 fn path(name: &str) -> PathBuf {
@@ -25,6 +25,12 @@ fn held(input: &str, expected: &str, output: impl Fn(&[u8]) -> Vec<u8>) {
 fn stored_texts_read_as_stored() {
     let output = |input: &[u8]| read_lines::output(&mut Second, input);
     held("tests/stored/texts/input", "tests/stored/texts/expected", output);
+}
+
+#[test]
+fn stored_prints_are_as_stored() {
+    let output = |input: &[u8]| print_lines::output(&mut Second, input);
+    held("tests/stored/prints/input", "tests/stored/prints/expected", output);
 }
 
 #[test]

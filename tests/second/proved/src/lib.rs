@@ -67,6 +67,11 @@ impl Engine for Proved {
         (checked(fits, given(read.number, read.second, ())).err(), Box::new(read.table))
     }
 
+    fn print(&mut self, text: &[u8], output: &mut [u8]) -> Result<usize, Refusal> {
+        let printed = raw::print(text, output);
+        checked(printed.number == 0 || printed.length == 0, given(printed.number, printed.second, printed.length))
+    }
+
     /// The strata of a file that has the table's rules.
     fn strata(&mut self, table: &Table) -> Result<Vec<u8>, Refusal> {
         let (refused, read) = self.read(text_of(&program_in(table)).as_bytes());

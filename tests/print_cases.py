@@ -1,0 +1,149 @@
+#!/usr/bin/env python3
+"""The stored prints, and what they should be, by a printer of its own made from section 1 of document 02 over the reading of read_cases.py.
+
+  tests/print_cases.py          writes tests/stored/prints/input and expected, and print.txt of the examples
+  tests/print_cases.py --check  says whether they are what it would write; exit status 1 where they are not
+
+A case is (text, room), or ((front, times, piece), room) where the text is the front and so many times the piece. An output has 16 bytes
+more than are lent; `kept` says how many beyond the print are as they were. Equal neighbours among the lines of a print stand once, after
+how many they are.
+"""
+import os
+import random
+import sys
+from itertools import groupby
+
+from read_cases import XYZ, File, reading, rule, tokens
+from stored import run
+
+TOP = os.path.dirname(os.path.dirname(os.path.abspath(__file__)))
+LONGEST = 65535
+MARGIN = 16
+
+
+def listed(parts):
+    return b'{ ' + b', '.join(parts) + b' }'
+
+
+def styled(file):
+    """The lines of a file that is read."""
+    pair = lambda slot, mark, value: b' '.join([file.slots[slot][0], mark, file.slots[slot][1][value - 1]])
+    lines = [b'SLOT ' + name + b' ' + listed(values) + b';\n' for name, values in file.slots]
+    for slot, value, literals, assignments in file.rules:
+        tests = [b'NOT ' * negated + pair(tested, b'*=' if becomes else b'|=', to) for becomes, negated, tested, to in literals]
+        assigned = [pair(target, b':=', to) for target, to in assignments]
+        condition = b' AND '.join(tests) or b'TRUE'
+        lines.append(b'WHEN ' + pair(slot, b'*=', value) + b' IF ' + condition + b' THEN ' + (assigned[0] if len(assigned) == 1 else listed(assigned)) + b';\n')
+    return lines
+
+
+def printed(text, room):
+    """A print as its lines, or a refusal as its line."""
+    outcome = reading(text)[0]
+    if outcome.startswith(b'refused'):
+        return outcome
+    file = File(text)
+    file.read()
+    lines = styled(file)
+    length = sum(map(len, lines))
+    return b'refused 34 0' if length > LONGEST else b'refused 33 0' if length > room else lines
+
+
+def written(text, room):
+    """The lines owed for a case."""
+    outcome = printed(text, room)
+    if isinstance(outcome, bytes):
+        return outcome + b' kept %d\n' % (room + MARGIN)
+    length = sum(map(len, outcome))
+    counted = [b'%d ' % len(list(same)) + line for line, same in groupby(outcome)]
+    return b'printed %d kept %d\n' % (length, room + MARGIN - length) + b''.join(counted)
+
+
+def example(name):
+    """The rules of an example's folder."""
+    with open(os.path.join(TOP, 'examples', name, 'rules.txt'), 'rb') as file:
+        return file.read()
+
+
+def lettered():
+    """The rules of cases A to L: F and K and L have those of C, G those of A."""
+    a, b, c = b'WHEN x *= 1 IF y |= 0 THEN z := 1;', b'WHEN z *= 1 IF y |= 0 THEN y := 1;', b'WHEN z *= 1 IF y |= 0 THEN x := 1;'
+    d, e = b'WHEN y *= 1 IF NOT x *= 1 THEN z := 1;', b'WHEN y *= 1 IF x |= 0 THEN x := 1;'
+    h = b'WHEN x *= 1 IF TRUE THEN x := 0;'
+    i, j = b'WHEN x *= 1 IF TRUE AND y |= 0 THEN z := 1;', b'WHEN x *= 1 IF y |= 0 AND TRUE THEN z := 1;'
+    for rules in ([a], [b], [a, b], [a, c], [d, e], [h], [i], [j]):
+        yield XYZ + b''.join(rules)
+
+
+# Every form that the print leaves out or spaces anew, in a text with tabs and CR LF.
+CANCELLED = b'''SLOT x{0,1};SLOT\ty\r\n{ 0\t,\t1 } ;\r\n\r\n  SLOT z { 0 ,1 , 2};
+WHEN x*=1 IF TRUE THEN z:=1;WHEN x*=1 IF TRUE AND y|=0 THEN{z:=1};\r
+WHEN x *= 1 IF NOT y|=0 AND NOT NOT y|=1 AND NOT\tNOT\r\nNOT z*=2 THEN { z:=1 , y:=0 } ;
+WHEN x *= 0 IF TRUE AND NOT NOT NOT NOT z |= 1 AND z |= 1 AND z |= 1 THEN
+{
+\ty := 1
+}
+;
+'''
+
+# A text of each refusal of the reading, with a second number above 0 where there can be one.
+REFUSED = [
+    (b' ', 255, b' ' * 257), rule() + b'(', rule() + b'WHEN x *= 1 THEN', rule() + b'WHEN ' + b'n' * 25, b'SLOT x {a, a};',
+    rule() + b'WHEN x *= 1 IF ' + b'y |= 0 AND ' * 8 + b'y', rule() + b'WHEN q', rule() + b'WHEN x *= 1 IF TRUE THEN {y := 1, y',
+    XYZ + b'WHEN x *= 1 IF TRUE THEN y := 1; WHEN z *= 1 IF NOT z *= 0 THEN z := 0;',
+]
+
+
+def longest(more):
+    """The parts of a text whose print has the greatest length and so many bytes more: slot lines of 60, 60 and 21, and 126 rules of 519."""
+    s, t, v = b's' * 24, b't' * 24, b'v' * 24
+    tests = b' AND '.join([b'NOT ' + s + b'|=' + v] + [s + b'|=' + v] * 6)
+    front = b'SLOT ' + s + b'{' + v + b'};SLOT ' + t + b'{' + v + b'};SLOT x{' + b'a' * (8 + more) + b'};'
+    return front, 126, b'WHEN ' + s + b'*=' + v + b' IF ' + tests + b' THEN ' + t + b':=' + v + b';'
+
+
+def respaced(chance, text):
+    """A text with other white space, NOTs in pairs before some literals, and what cancels as it was."""
+    spaced, last = b'', b''
+    for _, part in tokens(text):
+        if last in (b'IF', b'AND') and part != b'TRUE' and not chance.randrange(3):
+            spaced += b' NOT' * chance.choice([2, 4]) + b' '
+        needed = last[:1].isalnum() and part[:1].isalnum()
+        spaced += b''.join(chance.choices([b' ', b'\t', b'\n', b'\r\n'], k=max(needed, chance.choice([0, 0, 1, 3])))) + part
+        last = part
+    return spaced
+
+
+def cases():
+    yield from [(b'', 0), (b'', 5), (b' \t\r\n', 0)]
+    for text in [*lettered(), example('case-c'), example('dialect'), CANCELLED]:
+        outcome = printed(text, LONGEST)
+        length = 40 if isinstance(outcome, bytes) else sum(map(len, outcome))
+        yield from [(text, room) for room in (length, length - 1, length + 7, 0)]
+    chance = random.Random(34)
+    yield from [(respaced(chance, CANCELLED), 256) for _ in range(20)]
+    for text in REFUSED:
+        yield from [(text, 0), (text, 300)]
+    yield from [(longest(0), LONGEST), (longest(0), LONGEST + 1), (longest(0), LONGEST - 1), (longest(0), 0)]
+    yield from [(longest(more), room) for more in (1, 2) for room in (0, LONGEST, LONGEST + more)]
+
+
+def stretch(part):
+    return len(part).to_bytes(2, 'big') + part
+
+
+def stored():
+    """Each file with what it should hold."""
+    given, lines = b'', b''
+    for number, (text, room) in enumerate(cases(), 1):
+        front, times, piece = (text, 0, b'') if isinstance(text, bytes) else text
+        given += room.to_bytes(3, 'big') + stretch(front) + bytes([times]) + stretch(piece)
+        lines += b'print %d\n' % number + written(front + times * piece, room)
+    yield 'tests/stored/prints/input', given
+    yield 'tests/stored/prints/expected', lines
+    for name in ('case-c', 'dialect'):
+        yield f'examples/{name}/print.txt', b''.join(printed(example(name), LONGEST))
+
+
+if __name__ == '__main__':
+    sys.exit(run(stored()))
