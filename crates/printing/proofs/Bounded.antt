@@ -16,8 +16,9 @@ use Rattle.grammar.specs.Meaning.{Is-file}
 use Rattle.laws.specs.Listed.{Each}
 use Rattle.laws.proofs.Listed.{each-map}
 use Rattle.printed.specs.Printed.{slot-named, value-named, print, Named, Well-named}
-use Rattle.printing.specs.Puts.{longest}
-use Rattle.printing.specs.Written.{followed, separated, pair-bytes, test-bytes, literal-bytes, condition-bytes, assign-bytes, rule-bytes, line-bytes, slot-bytes, joined, written}
+use Rattle.writing.specs.Puts.{longest}
+use Rattle.writing.specs.Written.{followed, separated, test-bytes, literal-bytes, condition-bytes, assign-bytes, rule-bytes, line-bytes, joined}
+use Rattle.printing.specs.Lines.{pair-bytes, slot-bytes, written}
 use Rattle.printed.proofs.Formed.{file-formed}
 use Rattle.printed.proofs.Trees.{Declared, Rule-declared, rules-declared, Valued, slots-valued}
 use Rattle.printed.proofs.Spelled.{slot-formed, value-formed}

@@ -39,10 +39,11 @@ use Rattle.printed.specs.Printed.{slot-named, value-named, print}
 use Rattle.printed.proofs.Formed.{file-formed}
 use Rattle.printed.proofs.Trees.{Declared, Rule-declared, rules-declared, Valued, slots-valued}
 use Rattle.printed.proofs.Spelled.{slot-inside, value-inside}
-use Rattle.printing.specs.Puts.{longest}
+use Rattle.writing.specs.Puts.{longest}
 use Rattle.printing.specs.Printing.{print-of}
-use Rattle.printing.specs.Written.{Pairing, followed, separated, test-bytes, literal-bytes, condition-bytes, assign-bytes, rule-bytes, line-bytes, slot-bytes, pair-bytes, joined, written}
-use Rattle.printing.specs.Spelled.{spelled, spelled-pair, spelled-values, spelled-line, spelled-lines, spelled-rules, spelled-file, SlotsFit}
+use Rattle.writing.specs.Written.{Pairing, followed, separated, test-bytes, literal-bytes, condition-bytes, assign-bytes, rule-bytes, line-bytes, joined}
+use Rattle.printing.specs.Lines.{slot-bytes, pair-bytes, written}
+use Rattle.writing.specs.Spelled.{spelled, spelled-pair, spelled-values, spelled-line, spelled-lines, spelled-rules, spelled-file, SlotsFit}
 use Rattle.printing.specs.Tabled.{Tabled}
 use Rattle.printing.proofs.Tabled.{slot-there}
 use Rattle.printing.proofs.Written.{print-written}

@@ -11,9 +11,9 @@ use Rattle.grammar.specs.Reading.{read}
 use Rattle.reader.specs.declared.Outcome.the-variants.{Accepted, Refused}
 use Rattle.rule_file.specs.Whole.{reading}
 use Rattle.printing.specs.declared.Printing.the-variants as printing
-use Rattle.printing.specs.Puts.{put-in}
+use Rattle.writing.specs.Puts.{put-in}
 use Rattle.printing.specs.Printing.{print-of, fitted, after-reading, printed, printing-of}
-use Rattle.printing.proofs.Putting.{put-front}
+use Rattle.writing.proofs.Putting.{put-front}
 
 -- Bytes for an output: 34, then 33, else all of them.
 pub fitted-34 : (ys : List ℕ) (room : ℕ) → max-text < length ys → fitted ys room ≡ refused 34 0

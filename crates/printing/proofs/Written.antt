@@ -17,7 +17,8 @@ use Rattle.grammar.proofs.Leftmost.{spell-more, spell-name, spells-grown}
 use Rattle.printed.specs.Layout.{token-bytes, tight, gap, layout}
 use Rattle.laws.specs.Listed.{Each}
 use Rattle.printed.specs.Printed.{slot-named, value-named, literal-tree, condition-tree, assign-tree, assignment-tree, rule-tree, values-tree, line-tree, print}
-use Rattle.printing.specs.Written.{followed, separated, pair-bytes, test-bytes, literal-bytes, condition-bytes, assign-bytes, rule-bytes, line-bytes, slot-bytes, joined, written}
+use Rattle.writing.specs.Written.{followed, separated, test-bytes, literal-bytes, condition-bytes, assign-bytes, rule-bytes, line-bytes, joined}
+use Rattle.printing.specs.Lines.{pair-bytes, slot-bytes, written}
 use Rattle.printed.proofs.Trees.{rules-declared, Rule-declared}
 
 -- `unfolding laying` opens a layout.

@@ -1,5 +1,3 @@
 pub mod Printing
-pub mod Puts
-pub mod Written
-pub mod Spelled
+pub mod Lines
 pub mod Tabled

@@ -6,17 +6,14 @@ ghost use Rattle.grammar.specs.Reading.{read};
 ghost use Rattle.reader.specs.declared.Outcome.the-variants.{Accepted};
 ghost use Rattle.rule_file.specs.Whole.{reading};
 ghost use Rattle.printing.specs.Printing.{print-of, fitted, printed, printing-of};
-use crate::files::put_file;
 use crate::spans::enter_slots;
 use reader::Outcome;
 use reader::TEXT_LIMIT;
 use table::PAIRS;
 use table::SLOTS;
 use table::Table;
+use writing::files::put_file;
 
-pub mod files;
-pub mod put;
-pub mod rules;
 pub mod spans;
 
 // A print: how many bytes it takes; or a refusal with its number and its second number.

@@ -14,10 +14,10 @@ use Rattle.table.proofs.Shape.{shaped}
 use Rattle.lines.specs.Index.{Indexed}
 use Rattle.reader.specs.declared.Outcome.the-variants.{Accepted}
 use Rattle.rule_file.specs.Whole.{reading}
-use Rattle.printing.specs.Puts.{put-in}
+use Rattle.writing.specs.Puts.{put-in}
 use Rattle.printing.specs.Printing.{print-of}
 use Rattle.printing.specs.Tabled.{Tabled}
-use Rattle.printing.specs.Spelled.{spelled-file}
+use Rattle.writing.specs.Spelled.{spelled-file}
 use Rattle.printing.proofs.Filed.{file, print-is, tabled, slots-fit, table-fits, print-spelled, spelled-bounded}
 use Rattle.printing.proofs.Fitting.{fitted-34, fitted-33, fitted-all, answer-refused, answer-taken}
 use Rattle.printing.proofs.print_table.Statement.{statement}

@@ -1,0 +1,18 @@
+-- The printed form of a file line by line, by the names that it declares.
+use Prim.Native.Nat.{ℕ}
+use mathlib.Core.List.{List, _++_, map}
+use Rattle.grammar.specs.Files.{Slot, File, spellings}
+use Rattle.printed.specs.Printed.{slot-named, value-named}
+use Rattle.writing.specs.Written.{Pairing, rule-bytes, line-bytes, joined}
+
+-- The line of a slot of a file.
+abbrev pub slot-bytes : Slot → List ℕ
+slot-bytes s = line-bytes (s .name .letters) (spellings (s .values))
+
+-- A pair by the names of a file's slots.
+unfoldable pub pair-bytes : List Slot → Pairing
+pair-bytes slots mark p = slot-named slots p .letters ++ (mark ++ value-named slots p .letters)
+
+-- A file line by line.
+unfoldable pub written : File → List ℕ
+written f = joined (map slot-bytes (f .slots)) ++ joined (map (rule-bytes (pair-bytes (f .slots))) (f .rules))
