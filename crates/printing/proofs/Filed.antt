@@ -4,8 +4,7 @@ use Prim.Native.Nat.{ℕ, zero, suc, _+_, _-_, _*_, _/_, _%_, _≤_, _<_}
 use native.Mathlib.Omega.{arith}
 use mathlib.Core.Path.{_≡_, refl, sym, ap, ap₂, _∙_}
 use mathlib.Core.List.{List, [], _∷_, _++_, map}
-use lib.Dec.{T}
-use lib.ListN.{length, take, drop, getD, length-map, List·getD-map}
+use lib.ListN.{length, drop, getD, length-map, List·getD-map}
 use lib.Seq.{getD-take, getD-drop}
 use borrow.Author.Tests.{le-leb}
 use Rattle.laws.specs.Listed.{Each}
@@ -17,31 +16,30 @@ use Rattle.model.specs.Rules.{Pair, Literal, Rule}
 use Rattle.grammar.specs.Limits.{max-slots, max-values}
 use Rattle.grammar.specs.Files.{Slot, File, spellings, slot-names, values-of, no-slot}
 use Rattle.grammar.specs.Meaning.{Is-file}
-use Rattle.grammar.specs.Reading.{accepted, read}
+use Rattle.grammar.specs.Reading.{read}
 use Rattle.grammar.proofs.Accepts.{accepts-iff}
 use Rattle.grammar.proofs.Stands.{file-stands}
 use Rattle.table.specs.declared.Table.{Table}
 use Rattle.table.specs.Shape as zero-values
 use Rattle.table.specs.Shape.{Shaped}
 use Rattle.table.specs.Fits.{TableFits}
-use Rattle.table.specs.Limits.{slot-limit, value-limit, row}
+use Rattle.table.specs.Limits.{value-limit, row}
 use Rattle.table.specs.Flat.{place-of}
-use Rattle.table.specs.Link.{rules-of}
 use Rattle.strata.specs.Layered.{with-strata}
 use Rattle.soundness.specs.Sound.{sound, well-formed, carries-least}
 use Rattle.soundness.proofs.WellFormed.{well-formed-fits}
-use Rattle.lines.specs.Index.{span-name, Spanned, row-of, Indexed, slot-for}
+use Rattle.lines.specs.Index.{Spanned, row-of, Indexed}
 use Rattle.reader.specs.Tables.{table-for}
 use Rattle.reader.specs.declared.Outcome.the-variants.{Accepted}
 use Rattle.rule_file.specs.Whole.{reading}
 use Rattle.rule_file.proofs.Answers.{accepted-table, reading-passes}
-use Rattle.printed.specs.Printed.{slot-named, value-named, print}
+use Rattle.printed.specs.Printed.{print}
 use Rattle.printed.proofs.Formed.{file-formed}
 use Rattle.printed.proofs.Trees.{Declared, Rule-declared, rules-declared, Valued, slots-valued}
 use Rattle.printed.proofs.Spelled.{slot-inside, value-inside}
 use Rattle.writing.specs.Puts.{longest}
 use Rattle.printing.specs.Printing.{print-of}
-use Rattle.writing.specs.Written.{Pairing, followed, separated, test-bytes, literal-bytes, condition-bytes, assign-bytes, rule-bytes, line-bytes, joined}
+use Rattle.writing.specs.Written.{Pairing, separated, test-bytes, literal-bytes, condition-bytes, assign-bytes, rule-bytes, line-bytes, joined}
 use Rattle.printing.specs.Lines.{slot-bytes, pair-bytes, written}
 use Rattle.writing.specs.Spelled.{spelled, spelled-pair, spelled-values, spelled-line, spelled-lines, spelled-rules, spelled-file, SlotsFit}
 use Rattle.printing.specs.Tabled.{Tabled}

@@ -3,9 +3,9 @@
 use Prim.Native.Nat.{ℕ, zero, suc, _+_, _-_, _*_, _/_, _%_, _≤_, _<_}
 use native.Mathlib.Omega.{arith}
 use native.Mathlib.Numerals.{add-one}
-use mathlib.Core.Path.{_≡_, refl, sym, ap, ap₂, subst, _∙_}
+use mathlib.Core.Path.{_≡_, refl, sym, ap, ap₂, _∙_}
 use mathlib.Core.List.{List, [], _∷_, _++_, map}
-use lib.ListN.{length, take, drop, getD, set, replicate, length-map}
+use lib.ListN.{length, take, getD, set, replicate, length-map}
 use lib.Seq.{sets, take-suc, length-take-le}
 use Rattle.laws.specs.Filled.{filled}
 use Rattle.laws.specs.Listed.{Each}
@@ -17,7 +17,6 @@ use Rattle.text.specs.Cut.{Stands}
 use Rattle.grammar.specs.Limits.{max-text, max-values}
 use Rattle.grammar.specs.Files.{Slot, no-slot}
 use Rattle.grammar.specs.Standing.{Named-by}
-use Rattle.table.specs.declared.Name as stretch
 use Rattle.table.specs.declared.Slot as tabled
 use Rattle.table.specs.declared.Table.{Table}
 use Rattle.table.specs.Limits.{slot-limit, value-limit, row}

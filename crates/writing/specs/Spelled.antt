@@ -1,14 +1,10 @@
 -- The same lines by the spans of a text: names are stretches of it, found by the number of a slot and by the place of a pair.
 use Prim.Native.Nat.{ℕ, _+_, _*_, _/_, _%_, _≤_, _<_}
-use mathlib.Core.Path.{_≡_}
 use mathlib.Core.Bool.{cond}
 use mathlib.Core.List.{List, [], _++_, map}
 use lib.Dec.{leb}
 use lib.ListN.{length, getD}
 use Rattle.laws.specs.Tabulated.{tabulate}
-use Rattle.laws.specs.Filled.{filled}
-use Rattle.model.specs.Rules.{Pair}
-use Rattle.table.specs.declared.Slot as tabled
 use Rattle.table.specs.declared.Table.{Table}
 use Rattle.table.specs.Limits.{slot-limit, value-limit, row}
 use Rattle.table.specs.Shape.{no-slot}

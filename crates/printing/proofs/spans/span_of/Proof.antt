@@ -1,6 +1,5 @@
 -- `spans::span_of` meets its contract.
 -- Assumes nothing.
-use native.Mathlib.Omega.{arith}
 use mathlib.Core.Path.{refl}
 use Rattle.grammar.specs.Limits.{max-text}
 use borrow.Author.Needs.{needs}

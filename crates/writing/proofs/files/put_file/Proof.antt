@@ -1,14 +1,12 @@
 -- `files::put_file` meets its contract.
 -- Assumes nothing.
-use Prim.Native.Nat.{ℕ, _+_, _-_, _≤_, _<_}
+use Prim.Native.Nat.{ℕ, _+_, _-_}
 use native.Mathlib.Omega.{arith}
-use mathlib.Core.Path.{_≡_, sym, ap, _∙_}
+use mathlib.Core.Path.{_≡_, ap, _∙_}
 use mathlib.Core.List.{List, _++_, append-assoc}
-use lib.ListN.{length}
 use borrow.Author.Needs.{needs}
 use Rattle.table.specs.Shape.{Shaped}
 use Rattle.table.proofs.Shape.{shaped}
-use Rattle.writing.specs.Puts.{longest}
 use Rattle.writing.specs.Spelled.{spelled-file}
 use Rattle.writing.proofs.Putting.{Left, left-start, left-on, left-room, left-as, left-end}
 use Rattle.writing.proofs.Lines.{line-at, lines-from, rule-at, rules-from, file-lines, lines-on, lines-over, rules-on, rules-over}
