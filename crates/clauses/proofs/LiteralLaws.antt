@@ -3,16 +3,17 @@
 use Prim.Native.Nat.{ℕ, zero, suc, _≤_, _<_}
 use native.Mathlib.Omega.{arith}
 use mathlib.Core.Path.{_≡_, refl, ap, _∙_}
-use mathlib.Core.Bool.{Bool, true, false, not, cond}
+use mathlib.Core.Bool.{Bool, true, false, not}
 use lib.ListN.{length, length-map}
-use mathlib.Core.List.{List, [], _∷_}
+use mathlib.Core.List.{List, _∷_}
 use borrow.Author.Tests.{eq-eqb, ne-eqb}
 use types.Run.{OneOf, miss}
 use denote.Enum.Declared.{tagOf}
-use Rattle.text.specs.Tokens.{Name, Token, word, NOT, BECOMES, HAS, same-letters, one-further, place}
+use Rattle.text.specs.Tokens.{Name, Token, word, NOT, BECOMES, HAS}
 use Rattle.text.specs.declared.Token as code
 use Rattle.text.specs.declared.Token.the-variants as v
 use Rattle.text.proofs.Token as kinds
+use Rattle.text.proofs.Cut.{place-le}
 use Rattle.grammar.specs.Files.{Slot, spellings, slot-names, place-in}
 use Rattle.grammar.specs.Reading.{Part, took, stop, _then_, a-name, known-slot, read-slot, read-value, read-literal, plain-literal}
 use Rattle.model.specs.Result.{pair}
@@ -73,15 +74,6 @@ pub plain-neither : (slots : List Slot) (negated : Bool) (ts left : List Token) 
 plain-neither slots negated ts left s k e f = plain-fork slots negated ts left s e ∙ ap (follow (value-literal slots s true negated) (value-literal slots s false negated)) f
 
 -- The slot that was read is one of the slots.
-place-le : (n : List ℕ) (ms : List (List ℕ)) → place n ms ≤ length ms
-place-le n [] = omega arith
-place-le n (m ∷ ms) = go (same-letters n m) (place n ms) (place-le n ms)
-  where
-    go : (t : Bool) (k : ℕ) → k ≤ length ms → cond t 1 (one-further k) ≤ suc (length ms)
-    go true k h = omega arith
-    go false zero h = omega arith
-    go false (suc k) h = omega arith
-
 slot-below : (m : Part Name) (slots : List Slot) (s : ℕ) (left : List Token) → (m then λ x rest. known-slot (place-in (slot-names slots) x) rest) ≡ took s left → s < length slots
 unfolding _then_ known-slot
 slot-below (took x rest) slots s left e = go (place-in (slot-names slots) x) (place-le (x .letters) (spellings (slot-names slots))) e

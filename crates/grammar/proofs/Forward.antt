@@ -7,7 +7,7 @@ use mathlib.Core.Bool.{Bool, false, not, cond}
 use mathlib.Core.List.{List, [], _∷_, _++_, append-assoc, append-nil}
 use borrow.Author.Tests.{le-leb, eq-eqb}
 use lib.ListN.{length, length-append}
-use Rattle.text.specs.Tokens.{Name, Token, word, name, SLOT, WHEN, IF, THEN, AND, TRUE, OPEN, CLOSE, COMMA, SEMICOLON, BECOMES, GETS}
+use Rattle.text.specs.Tokens.{Name, Token, word, name, SLOT, WHEN, IF, THEN, AND, TRUE, OPEN, CLOSE, COMMA, SEMICOLON, BECOMES, GETS, tokens}
 use Rattle.model.specs.Rules.{Pair, Literal, Rule, assigns}
 use Rattle.grammar.specs.Limits.{max-text, max-slots, max-values, max-rules, max-literals, max-assignments}
 use Rattle.grammar.specs.Files.{Slot, File, place-in, slot-names}
@@ -223,10 +223,11 @@ pub no-slot-first : (ts : List RuleTree) → begins-with SLOT (spell-rules ts []
 no-slot-first [] = refl
 no-slot-first (rule t c a ∷ ts) = refl
 
-rules-next : (room : ℕ) (slots : List Slot) (ts : List RuleTree) → read-lines room slots (spell-rules ts []) ≡ read-rules max-rules slots [] (spell-rules ts [])
+-- Where no SLOT stands next the rules begin.
+pub rules-begin : (room : ℕ) (slots : List Slot) (ts : List Token) → begins-with SLOT ts ≡ false → read-lines room slots ts ≡ read-rules max-rules slots [] ts
 unfolding read-lines if-next
-rules-next zero slots ts = rw (no-slot-first ts)
-rules-next (suc room) slots ts = rw (no-slot-first ts)
+rules-begin zero slots ts e = rw e
+rules-begin (suc room) slots ts e = rw e
 
 -- There are at least as many slots in the end as before.
 lines-grow : (before : List Slot) (ts : List LineTree) (all : List Slot) → Means-lines before ts all → length before ≤ length all
@@ -236,7 +237,7 @@ lines-grow before ts all (more-lines {s = s} h hs) = let x = length-append befor
 lines-read : (before : List Slot) (ts : List LineTree) (all : List Slot) (us : List RuleTree) (room : ℕ) → Means-lines before ts all → length all ≤ room + length before
     → read-lines room before (spell-lines ts (spell-rules us [])) ≡ read-rules max-rules all [] (spell-rules us [])
 unfolding read-lines if-next go-on
-lines-read before ts all us room no-lines h = rules-next room before us
+lines-read before ts all us room no-lines h = rules-begin room before (spell-rules us []) (no-slot-first us)
 lines-read before ts all us zero (more-lines {s = s} g gs) h = absurd (let x = length-append before (s ∷ []) in let y = lines-grow _ _ all gs in omega arith)
 lines-read before ts all us (suc room) (more-lines {t = line n vs} {s = s} {ts = ws} g gs) h =
     rw (line-read before (line n vs) s (spell-lines ws (spell-rules us [])) g)
@@ -249,7 +250,11 @@ tree-read t f m =
     lines-read [] (t .lines) (f .slots) (t .rules) max-slots (m .lines-are) (let x = m .few-slots in omega arith)
     ∙ rules-read (f .slots) (t .rules) (f .rules) [] max-rules (m .rules-are) (m .few-rules)
 
+-- A text within the limit is read by its tokens.
+pub read-short : (text : List ℕ) → length text ≤ max-text → read text ≡ read-tokens (tokens text)
+unfolding read
+read-short text h = rw (le-leb (length text) max-text h)
+
 -- A text that is a file is read as that file.
 pub file-read : (text : List ℕ) (f : File) → Is-file text f → read text ≡ accepted f
-unfolding read
-file-read text f h = rw (le-leb (length text) max-text (h .short), ← h .derives) (tree-read (h .tree) f (h .means))
+file-read text f h = read-short text (h .short) ∙ ap read-tokens (sym (h .derives)) ∙ tree-read (h .tree) f (h .means)

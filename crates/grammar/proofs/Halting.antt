@@ -14,11 +14,11 @@ use Rattle.grammar.specs.Limits.{max-rules}
 use Rattle.grammar.specs.Files.{Slot, File}
 use Rattle.grammar.specs.Grammar.{RuleTree, rule, LineTree, line, spell-rule, spell-rules, spell-line, spell-lines}
 use Rattle.grammar.specs.Reading.{Part, took, stop, Answer, accepted, refused, expects, begins-with, if-next, read-rule, read-line, go-on, read-rules, read-lines}
-use Rattle.grammar.proofs.Forward.{no-slot-first}
+use Rattle.grammar.proofs.Forward.{no-slot-first, rules-begin}
 use Rattle.grammar.proofs.Steps.{begins-back, expects-back}
 use Rattle.grammar.proofs.Backward.{refused-never}
 use Rattle.grammar.proofs.Ends.{rule-past, line-past}
-use Rattle.grammar.proofs.Statements.{rules-take, lines-take, rules-end, rules-begin}
+use Rattle.grammar.proofs.Statements.{rules-take, lines-take, rules-end}
 use Rattle.grammar.proofs.Stopping.{Language, Begins, later-fault, Stop, stop-behind, stop-where, nothing-next, Fits, Reader, follows-same, the-word, reader-expects}
 use Rattle.grammar.proofs.Stops.{rule-append, a-rule, reader-rule, line-append, a-line, reader-line}
 

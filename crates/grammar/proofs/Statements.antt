@@ -20,7 +20,7 @@ use Rattle.grammar.specs.Grammar.{RuleTree, rule, LineTree, line, spell-
 use Rattle.grammar.specs.Reading.{took, accepted, refused, expects, begins-with, if-next, read-rule, read-line, go-on, read-rules, read-lines, read-tokens, read}
 use Rattle.grammar.specs.Meaning.{Means-rule}
 use Rattle.grammar.specs.Pieces.{pieces, tail-piece, joined, Read-rule, Read-line, Read-lines, no-more-lines, one-more-line, By-statements}
-use Rattle.grammar.proofs.Forward.{rule-read, line-read}
+use Rattle.grammar.proofs.Forward.{rule-read, line-read, rules-begin}
 use Rattle.grammar.proofs.Steps.{if-next-back}
 use Rattle.grammar.proofs.Backward.{rule-back, line-back, refused-never, file-same, go-on-back}
 use Rattle.grammar.proofs.Pieces.{Plain, cut-joined, pieces-plain, tail-plain, joined-cut}
@@ -219,11 +219,6 @@ no-slot-next : (slots : List Slot) (bs : List (List ℕ)) (rs : List Rule) (w : 
 no-slot-next slots bs rs w p Forall₂·nil e = ap (begins-with SLOT) (white-anywhere w 0 p e)
 no-slot-next slots bs rs w p (Forall₂·cons {a = b} {b = r} {l₁ = cs} g gs) e =
     ap (begins-with SLOT) (joined-cut b cs w p) ∙ begins-rule slots SLOT _ r _ (g p (tokens-from (joined cs w) 0 (p + suc (length b))))
-
-pub rules-begin : (room : ℕ) (slots : List Slot) (ts : List Token) → begins-with SLOT ts ≡ false → read-lines room slots ts ≡ read-rules max-rules slots [] ts
-unfolding read-lines if-next
-rules-begin zero slots ts e = rw e
-rules-begin (suc room) slots ts e = rw e
 
 slots-grow : (before : List Slot) (p : ℕ) (bs : List (List ℕ)) (all : List Slot) → Read-lines before p bs all → length before ≤ length all
 slots-grow before p bs all no-more-lines = omega arith

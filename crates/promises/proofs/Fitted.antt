@@ -9,7 +9,6 @@ use mathlib.Core.List.{List, [], _∷_}
 use mathlib.Core.Logic.{_⊎_, inl, inr, ⊎-elim}
 use lib.Dec.{eqb}
 use lib.ListN.{length}
-use borrow.Author.Tests.{lt-ltb, le-ltb}
 use Rattle.laws.specs.Answers.{OrRefused, taken, refused}
 use Rattle.laws.proofs.Truth.{le-or-lt}
 use Rattle.text.specs.Tokens.{Token}
@@ -27,7 +26,8 @@ use Rattle.reader.specs.Tables.{table-for}
 use Rattle.reader.specs.declared.Outcome.the-variants.{Accepted, Refused}
 use Rattle.reader.specs.declared.FileRead.{FileRead}
 use Rattle.rule_file.specs.Whole.{layered, answered-whole, reading}
-use Rattle.printing.specs.Printing.{print-of, fitted, after-reading, printed}
+use Rattle.printing.specs.Printing.{print-of, printed}
+use Rattle.printing.proofs.Fitting.{fitted-34, fitted-33, fitted-all, refused-first, then-fitted}
 use Rattle.promises.specs.Refusals.{OneOf, Only, of-file, of-print}
 use Rattle.promises.proofs.Refusals.{one-of, one-of-more, one-of-other}
 
@@ -62,28 +62,6 @@ text-comes text = go (read text) refl
     go : (a : Answer) → read text ≡ a → Reads (answered-whole a)
     go (accepted f) e = file-comes f
     go (grammar.refused k n) e = inr (k, n, ⊎-elim (λ h. rw (h .0) (one-of of-file 10 tt)) (λ h. fault-number k (h .1 .before) (h .1 .after) (h .1 .fault)) (refusal-stands text k n e), refl)
-
--- Bytes for an output: 34, then 33, else all of them.
-fitted-34 : (ys : List ℕ) (room : ℕ) → max-text < length ys → fitted ys room ≡ refused 34 0
-unfolding fitted
-fitted-34 ys room l = rw (lt-ltb max-text (length ys) l)
-
-fitted-33 : (ys : List ℕ) (room : ℕ) → length ys ≤ max-text → room < length ys → fitted ys room ≡ refused 33 0
-unfolding fitted
-fitted-33 ys room l s = rw (le-ltb max-text (length ys) l, lt-ltb room (length ys) s)
-
-fitted-all : (ys : List ℕ) (room : ℕ) → length ys ≤ max-text → length ys ≤ room → fitted ys room ≡ taken ys
-unfolding fitted
-fitted-all ys room l s = rw (le-ltb max-text (length ys) l, le-ltb room (length ys) s)
-
--- The reading's refusals stay, and an accepted text's print is fitted.
-pub refused-first : (text : List ℕ) (room k n : ℕ) → reading text .outcome ≡ Refused k n → printed text room ≡ refused k n
-unfolding printed after-reading
-refused-first text room k n o = rw o
-
-then-fitted : (text : List ℕ) (room : ℕ) → reading text .outcome ≡ Accepted → printed text room ≡ fitted (print-of (read text)) room
-unfolding printed after-reading
-then-fitted text room o = rw o
 
 module _ (text : List ℕ) (room : ℕ) where
   -- The print of the text, whatever its length.

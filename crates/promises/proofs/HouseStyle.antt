@@ -29,13 +29,14 @@ use Rattle.rule_file.specs.Whole.{reading}
 use Rattle.rule_file.specs.Carries.{Carries}
 use Rattle.rule_file.proofs.Answers.{reading-accepted-iff, reading-carries, reading-passes}
 use Rattle.printing.specs.Printing.{print-of, printed}
+use Rattle.printing.proofs.Fitting.{refused-first}
 use Rattle.cards.specs.Cards.{if-sound}
 use Rattle.tally.specs.declared.Tally.{Tally}
 use Rattle.response.specs.Ending.{Answer}
 use Rattle.response.specs.Respond.{Rooms, answer-by-table, answer-to, outcome-of, tally-after, response-to}
 use Rattle.promises.specs.Agreement.{responds}
 use Rattle.promises.specs.HouseStyle.{Alike, InStyle, HouseStyle}
-use Rattle.promises.proofs.Fitted.{refused-first, comes-34, comes-33, comes-whole, is-34, is-33, is-whole}
+use Rattle.promises.proofs.Fitted.{comes-34, comes-33, comes-whole, is-34, is-33, is-whole}
 use Rattle.promises.proofs.Alike.{agree-alike, alike-agree}
 
 -- What is printed of an accepted text is the print of its file.

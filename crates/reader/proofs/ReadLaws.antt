@@ -6,7 +6,7 @@ use mathlib.Core.Path.{_≡_, sym, ap, subst, _∙_}
 use mathlib.Core.List.{List, [], _∷_, _++_}
 use lib.ListN.{length, take, drop, set, replicate, length-drop}
 use lib.Seq.{take-all, sets}
-use borrow.Author.Tests.{le-leb, lt-leb}
+use borrow.Author.Tests.{lt-leb}
 use Rattle.text.specs.Tokens.{tokens, tokens-from}
 use Rattle.model.specs.Rules as model
 use Rattle.grammar.specs.Limits.{max-text}
@@ -120,7 +120,3 @@ answer-refused a k n m t e g h = rw (e, g, h)
 pub read-long : (text : List ℕ) → max-text < length text → read text ≡ refused 10 0
 unfolding read
 read-long text h = rw (lt-leb (length text) max-text h)
-
-pub read-short : (text : List ℕ) → length text ≤ max-text → read text ≡ read-tokens (tokens text)
-unfolding read
-read-short text h = rw (le-leb (length text) max-text h)

@@ -11,6 +11,7 @@ use Rattle.model.specs.Rules.{Rule}
 use Rattle.grammar.specs.Limits.{max-slots, max-rules}
 use Rattle.grammar.specs.Files.{Slot}
 use Rattle.grammar.specs.Reading.{took, stop, accepted, refused, begins-with, if-next, expects, go-on, read-line, read-rule, read-lines, read-rules}
+use Rattle.grammar.proofs.Forward.{rules-begin}
 use types.Run.{OneOf, miss}
 use denote.Enum.Declared.{tagOf}
 use Rattle.text.specs.declared.Token as code
@@ -71,15 +72,10 @@ unfolding read-on
 on-line-stop slots ts k h f g = line-stop (max-slots - length slots) (max-slots - suc (length slots)) slots ts k (omega arith) f g
 
 -- A rule: no SLOT stands next, or rules came before.
-lines-over : (room : ℕ) (slots : List Slot) (ts : List Token) → begins-with SLOT ts ≡ false → read-lines room slots ts ≡ read-rules max-rules slots [] ts
-unfolding read-lines if-next
-lines-over zero slots ts f = rw f
-lines-over (suc room) slots ts f = rw f
-
 on-rules : (slots : List Slot) (rules : List Rule) (ts : List Token) → Rule-next rules ts → read-on slots rules ts ≡ read-rules (max-rules - length rules) slots rules ts
 unfolding read-on
 on-rules slots rules [] h = absurd h
-on-rules slots [] (t ∷ ts) h = lines-over _ slots (t ∷ ts) h ∙ ap (λ (k : ℕ). read-rules k slots [] (t ∷ ts)) (omega arith)
+on-rules slots [] (t ∷ ts) h = rules-begin _ slots (t ∷ ts) h ∙ ap (λ (k : ℕ). read-rules k slots [] (t ∷ ts)) (omega arith)
 on-rules slots (r ∷ rs) (t ∷ ts) h = refl
 
 rules-after : (slots : List Slot) (rules : List Rule) (r : Rule) (ts : List Token) → read-rules (max-rules - length (rules ++ r ∷ [])) slots (rules ++ r ∷ []) ts ≡ read-on slots (rules ++ r ∷ []) ts

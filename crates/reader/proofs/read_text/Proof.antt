@@ -3,7 +3,8 @@
 use mathlib.Core.Path.{refl, sym, ap, _∙_}
 use Rattle.grammar.specs.Limits.{max-text}
 use Rattle.reader.specs.Tables.{answered}
-use Rattle.reader.proofs.ReadLaws.{answer-refused, read-long, read-short}
+use Rattle.grammar.proofs.Forward.{read-short}
+use Rattle.reader.proofs.ReadLaws.{answer-refused, read-long}
 use borrow.Author.Needs.{needs}
 use Rattle.reader.proofs.read_text.Statement.{statement}
 use Rattle.reader.proofs.read_text.Tie as tie
