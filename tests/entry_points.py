@@ -13,6 +13,7 @@ ENTRY_POINTS = {
     'names': ['slot_name', 'value_name'],
     'soundness': ['is_well_formed', 'is_sound'],
     'rule_file': ['read'],
+    'printing': ['print'],
     'unpacking': ['unpack_card', 'unpack_slip'],
     'packing': ['pack_card', 'pack_slip'],
     'response': ['respond'],
