@@ -10,6 +10,7 @@ how many they are.
 """
 import os
 import random
+import re
 import sys
 from itertools import groupby
 
@@ -145,5 +146,17 @@ def stored():
         yield f'examples/{name}/print.txt', b''.join(printed(example(name), LONGEST))
 
 
+def quoted():
+    """Says whether the example and its print are quoted as they are where the print is computed by evaluation."""
+    path = 'crates/style/proofs/Cases.antt'
+    with open(os.path.join(TOP, path), encoding='utf-8') as file:
+        before, after = re.search(r'^dialect =$(.*?)^pub case-dialect(.*?)^unfolding', file.read(), re.M | re.S).groups()
+    for part, text in ((before, example('dialect')), (after, b''.join(printed(example('dialect'), LONGEST)))):
+        if ''.join(line + '\n' for line in re.findall('"(.*?)"', part)).encode() != text:
+            print(f'{path} quotes examples/dialect otherwise')
+            return 1
+    return 0
+
+
 if __name__ == '__main__':
-    sys.exit(run(stored()))
+    sys.exit(run(stored()) or quoted())

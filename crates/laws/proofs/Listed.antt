@@ -3,7 +3,7 @@
 use Prim.Native.Nat.{ℕ, zero, suc, _+_, _≤_, _<_}
 use native.Mathlib.Numerals.{add-one}
 use native.Mathlib.Omega.{arith}
-use mathlib.Core.Path.{_≡_, refl}
+use mathlib.Core.Path.{_≡_, refl, ap₂}
 use mathlib.Core.Bool.{Bool, true, false}
 use mathlib.Core.List.{List, [], _∷_, _++_, map}
 use lib.Dec.{T}
@@ -60,6 +60,16 @@ each-at P (x ∷ xs) (suc i) d h l = each-at P xs i d (h .1) (omega arith)
 pub each-map : {A B : Type 0} (P : A → Type 0) (Q : B → Type 0) (f : A → B) (xs : List A) → ((x : A) → P x → Q (f x)) → Each P xs → Each Q (map f xs)
 each-map P Q f [] k h = tt
 each-map P Q f (x ∷ xs) k h = (k x (h .0), each-map P Q f xs k (h .1))
+
+-- What follows of each element has each element.
+pub each-imply : {A : Type 0} (P Q : A → Type 0) (xs : List A) → ((x : A) → P x → Q x) → Each P xs → Each Q xs
+each-imply P Q [] k h = tt
+each-imply P Q (x ∷ xs) k h = (k x (h .0), each-imply P Q xs k (h .1))
+
+-- Two maps that agree on each element.
+pub map-same : {A B : Type 0} (P : A → Type 0) (f g : A → B) (xs : List A) → ((x : A) → P x → f x ≡ g x) → Each P xs → map f xs ≡ map g xs
+map-same P f g [] k h = refl
+map-same {B = B} P f g (x ∷ xs) k h = ap₂ (λ (y : B) (ys : List B). y ∷ ys) (k x (h .0)) (map-same P f g xs k (h .1))
 
 -- An element more at the end.
 pub each-last : {A : Type 0} (P : A → Type 0) (xs : List A) (x : A) → Each P xs → P x → Each P (xs ++ x ∷ [])

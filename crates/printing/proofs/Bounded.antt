@@ -14,19 +14,15 @@ use Rattle.grammar.specs.Limits.{max-slots, max-values, max-rules, max-literals
 use Rattle.grammar.specs.Files.{Slot, File, spellings}
 use Rattle.grammar.specs.Meaning.{Is-file}
 use Rattle.laws.specs.Listed.{Each}
-use Rattle.laws.proofs.Listed.{each-map}
-use Rattle.printed.specs.Printed.{slot-named, value-named, print, Named, Well-named}
+use Rattle.laws.proofs.Listed.{each-map, each-imply}
+use Rattle.style.specs.Printed.{slot-named, value-named, print, Named, Well-named}
 use Rattle.writing.specs.Puts.{longest}
 use Rattle.writing.specs.Written.{followed, separated, test-bytes, literal-bytes, condition-bytes, assign-bytes, rule-bytes, line-bytes, joined}
 use Rattle.printing.specs.Lines.{pair-bytes, slot-bytes, written}
-use Rattle.printed.proofs.Formed.{file-formed}
-use Rattle.printed.proofs.Trees.{Declared, Rule-declared, rules-declared, Valued, slots-valued}
-use Rattle.printed.proofs.Spelled.{slot-formed, value-formed}
+use Rattle.style.proofs.Formed.{file-formed}
+use Rattle.style.proofs.Trees.{Declared, Rule-declared, rules-declared, Valued, slots-valued}
+use Rattle.style.proofs.Spelled.{slot-formed, value-formed}
 use Rattle.printing.proofs.Written.{print-written}
-
-pub each-imply : {A : Type 0} (P Q : A → Type 0) (xs : List A) → ((x : A) → P x → Q x) → Each P xs → Each Q xs
-each-imply P Q [] k h = tt
-each-imply P Q (x ∷ xs) k h = (k x (h .0), each-imply P Q xs k (h .1))
 
 -- Parts of at most `m` bytes, each after a separator.
 followed-le : (sep : List ℕ) (m : ℕ) (xs : List (List ℕ)) → Each (λ (x : List ℕ). length x ≤ m) xs → length (followed sep xs) ≤ length xs * (length sep + m)

@@ -8,7 +8,7 @@ use lib.ListN.{length, drop, getD, length-map, List·getD-map}
 use lib.Seq.{getD-take, getD-drop}
 use borrow.Author.Tests.{le-leb}
 use Rattle.laws.specs.Listed.{Each}
-use Rattle.laws.proofs.Listed.{each-at}
+use Rattle.laws.proofs.Listed.{each-at, each-imply, map-same}
 use Rattle.laws.proofs.Truth.{and-l}
 use Rattle.laws.proofs.Tabulated.{is-tabulate}
 use Rattle.text.specs.Tokens.{Name}
@@ -27,16 +27,16 @@ use Rattle.table.specs.Limits.{value-limit, row}
 use Rattle.table.specs.Flat.{place-of}
 use Rattle.strata.specs.Layered.{with-strata}
 use Rattle.soundness.specs.Sound.{sound, well-formed, carries-least}
-use Rattle.soundness.proofs.WellFormed.{well-formed-fits}
+use Rattle.soundness.proofs.WellFormed.{well-formed-e, well-formed-fits}
 use Rattle.lines.specs.Index.{Spanned, row-of, Indexed}
 use Rattle.reader.specs.Tables.{table-for}
 use Rattle.reader.specs.declared.Outcome.the-variants.{Accepted}
 use Rattle.rule_file.specs.Whole.{reading}
 use Rattle.rule_file.proofs.Answers.{accepted-table, reading-passes}
-use Rattle.printed.specs.Printed.{print}
-use Rattle.printed.proofs.Formed.{file-formed}
-use Rattle.printed.proofs.Trees.{Declared, Rule-declared, rules-declared, Valued, slots-valued}
-use Rattle.printed.proofs.Spelled.{slot-inside, value-inside}
+use Rattle.style.specs.Printed.{print}
+use Rattle.style.proofs.Formed.{file-formed}
+use Rattle.style.proofs.Trees.{Declared, Rule-declared, rules-declared, Valued, slots-valued}
+use Rattle.style.proofs.Spelled.{slot-inside, value-inside}
 use Rattle.writing.specs.Puts.{longest}
 use Rattle.printing.specs.Printing.{print-of}
 use Rattle.writing.specs.Written.{Pairing, separated, test-bytes, literal-bytes, condition-bytes, assign-bytes, rule-bytes, line-bytes, joined}
@@ -45,7 +45,7 @@ use Rattle.writing.specs.Spelled.{spelled, spelled-pair, spelled-values, spelle
 use Rattle.printing.specs.Tabled.{Tabled}
 use Rattle.printing.proofs.Tabled.{slot-there}
 use Rattle.printing.proofs.Written.{print-written}
-use Rattle.printing.proofs.Bounded.{each-imply, print-bounded}
+use Rattle.printing.proofs.Bounded.{print-bounded}
 
 -- The name at a span among those of names.
 spanned-at : (text ks : List ℕ) (ns : List Name) (i : ℕ) → Spanned text ks ns → i < length ns → spelled text (getD ks i 0) ≡ getD ns i (no-slot .name) .letters
@@ -58,10 +58,6 @@ spanned-at text (k ∷ ks) (n ∷ ns) (suc i) S h = spanned-at text ks ns i (S .
 
 -- Two ways of writing pairs that agree on the pairs of a rule write the same line.
 module _ (slots : List Slot) (P Q : Pairing) (same : (mark : List ℕ) (p : Pair) → Declared slots p → P mark p ≡ Q mark p) where
-  maps-same : {A : Type 0} (ok : A → Type 0) (f g : A → List ℕ) → ((x : A) → ok x → f x ≡ g x) → (xs : List A) → Each ok xs → map f xs ≡ map g xs
-  maps-same ok f g e [] h = refl
-  maps-same ok f g e (x ∷ xs) h = ap₂ (λ (y : List ℕ) (ys : List (List ℕ)). y ∷ ys) (e x (h .0)) (maps-same ok f g e xs (h .1))
-
   literal-same : (l : Literal) → Declared slots (l .pair) → literal-bytes P l ≡ literal-bytes Q l
   unfolding literal-bytes test-bytes
   literal-same l d = rw (same _ (l .pair) d)
@@ -69,20 +65,20 @@ module _ (slots : List Slot) (P Q : Pairing) (same : (mark : List ℕ) (p : Pair
   condition-same : (ls : List Literal) → Each (λ (l : Literal). Declared slots (l .pair)) ls → condition-bytes P ls ≡ condition-bytes Q ls
   unfolding condition-bytes
   condition-same [] d = refl
-  condition-same (l ∷ ls) d = ap (separated _) (maps-same (λ (m : Literal). Declared slots (m .pair)) (literal-bytes P) (literal-bytes Q) literal-same (l ∷ ls) d)
+  condition-same (l ∷ ls) d = ap (separated _) (map-same (λ (m : Literal). Declared slots (m .pair)) (literal-bytes P) (literal-bytes Q) (l ∷ ls) literal-same d)
 
   assign-same : (ps : List Pair) → Each (Declared slots) ps → assign-bytes P ps ≡ assign-bytes Q ps
   unfolding assign-bytes
   assign-same [] d = refl
   assign-same (p ∷ []) d = same _ p (d .0)
-  assign-same (p ∷ q ∷ qs) d = rw (maps-same (Declared slots) (P _) (Q _) (same _) (p ∷ q ∷ qs) d)
+  assign-same (p ∷ q ∷ qs) d = rw (map-same (Declared slots) (P _) (Q _) (p ∷ q ∷ qs) (same _) d)
 
-  pub rule-same : (r : Rule) → Rule-declared slots r → rule-bytes P r ≡ rule-bytes Q r
+  rule-same : (r : Rule) → Rule-declared slots r → rule-bytes P r ≡ rule-bytes Q r
   unfolding rule-bytes
   rule-same r d = rw (same _ (r .trigger) (d .trigger-is), condition-same (r .literals) (d .literals-are), assign-same (r .assignments) (d .assignments-are .all-declared))
 
-  pub rules-same : (rs : List Rule) → Each (Rule-declared slots) rs → map (rule-bytes P) rs ≡ map (rule-bytes Q) rs
-  rules-same rs d = maps-same (Rule-declared slots) (rule-bytes P) (rule-bytes Q) rule-same rs d
+  rules-same : (rs : List Rule) → Each (Rule-declared slots) rs → map (rule-bytes P) rs ≡ map (rule-bytes Q) rs
+  rules-same rs d = map-same (Rule-declared slots) (rule-bytes P) (rule-bytes Q) rs rule-same d
 
 module _ (text : List ℕ) (o : reading text .outcome ≡ Accepted) where
   -- The file, and its table.
@@ -120,17 +116,13 @@ module _ (text : List ℕ) (o : reading text .outcome ≡ Accepted) where
   count-is : (i : ℕ) → i < length (file .slots) → getD (table .slots) i zero-values.no-slot .count ≡ length (getD (file .slots) i no-slot .values)
   count-is i h = rw (slot-there text (file .slots) table tabled i h)
 
-  pub slots-fit : SlotsFit table
-  unfolding max-values
-  slots-fit = record {
-    few = omega (arith, tabled .width-is, tabled .few);
-    some = λ i h. let k : i < length (file .slots) = omega (arith, tabled .width-is) in let v = each-at Valued (file .slots) i no-slot valued k in omega (arith, count-is i k, v .0);
-    within = λ i h. let k : i < length (file .slots) = omega (arith, tabled .width-is) in let v = each-at Valued (file .slots) i no-slot valued k in omega (arith, count-is i k, v .1);
-  }
-
   pub table-fits : Shaped table → TableFits table
   unfolding sound
   table-fits sh = well-formed-fits table sh (and-l (well-formed table) (carries-least table) (reading-passes text))
+
+  pub slots-fit : Shaped table → SlotsFit table
+  unfolding sound
+  slots-fit sh = let w = well-formed-e table sh (and-l (well-formed table) (carries-least table) (reading-passes text)) in record { few = w .few-slots; some = w .some-value; within = w .few-values }
 
   module _ (ss vs : List ℕ) (I : Indexed text (file .slots) ss vs) where
     slot-spelled : (s : ℕ) → s < length (file .slots) → spelled text (getD ss s 0) ≡ getD (file .slots) s no-slot .name .letters

@@ -28,8 +28,8 @@ use Rattle.lines.specs.Index.{span-name, span-names, span-slot, Spanned, Indexe
 use Rattle.lines.specs.Lines.{Values-lie}
 use Rattle.lines.proofs.Index.{indexed-more}
 use Rattle.rule_file.proofs.FileTable.{image-at}
-use Rattle.printed.specs.Layout.{Is-name}
-use Rattle.printed.specs.Printed.{Named, Well-named}
+use Rattle.style.specs.Layout.{Is-name}
+use Rattle.style.specs.Printed.{Named, Well-named}
 use Rattle.printing.specs.Tabled.{span-of, SmallName, SmallNames, Tabled}
 
 -- A name has a letter.

@@ -14,12 +14,12 @@ use Rattle.grammar.specs.Files.{Slot, File, spellings}
 use Rattle.grammar.specs.Grammar.{and-literal, one-literal, LiteralTree, not-literal, becomes-value, has-value, one-assignment, comma-assignment, one-value, comma-value, LineTree, spell-literal, spell-condition, spell-assignment, spell-assignments, spell-assign, spell-rule, spell-rules, spell-values, spell-lines, grown}
 use Rattle.grammar.specs.Meaning.{Is-file}
 use Rattle.grammar.proofs.Leftmost.{spell-more, spell-name, spells-grown}
-use Rattle.printed.specs.Layout.{token-bytes, tight, gap, layout}
+use Rattle.style.specs.Layout.{token-bytes, tight, gap, layout}
 use Rattle.laws.specs.Listed.{Each}
-use Rattle.printed.specs.Printed.{slot-named, value-named, literal-tree, condition-tree, assign-tree, assignment-tree, rule-tree, values-tree, line-tree, print}
+use Rattle.style.specs.Printed.{slot-named, value-named, literal-tree, condition-tree, assign-tree, assignment-tree, rule-tree, values-tree, line-tree, print}
 use Rattle.writing.specs.Written.{followed, separated, test-bytes, literal-bytes, condition-bytes, assign-bytes, rule-bytes, line-bytes, joined}
 use Rattle.printing.specs.Lines.{pair-bytes, slot-bytes, written}
-use Rattle.printed.proofs.Trees.{rules-declared, Rule-declared}
+use Rattle.style.proofs.Trees.{rules-declared, Rule-declared}
 
 -- `unfolding laying` opens a layout.
 unfoldable laying : Unit {0}

@@ -2,7 +2,7 @@
 use Prim.Native.Nat.{ℕ}
 use mathlib.Core.List.{List, _++_, map}
 use Rattle.grammar.specs.Files.{Slot, File, spellings}
-use Rattle.printed.specs.Printed.{slot-named, value-named}
+use Rattle.style.specs.Printed.{slot-named, value-named}
 use Rattle.writing.specs.Written.{Pairing, rule-bytes, line-bytes, joined}
 
 -- The line of a slot of a file.

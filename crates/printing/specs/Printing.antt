@@ -10,7 +10,7 @@ use Rattle.grammar.specs.Reading as grammar
 use Rattle.reader.specs.declared.Outcome.{Outcome}
 use Rattle.reader.specs.declared.Outcome.the-variants.{Accepted, Refused}
 use Rattle.rule_file.specs.Whole.{reading}
-use Rattle.printed.specs.Printed.{print}
+use Rattle.style.specs.Printed.{print}
 use Rattle.printing.specs.declared.Printing.{Printing}
 use Rattle.printing.specs.declared.Printing.the-variants as printing
 

@@ -15,7 +15,7 @@ use Rattle.table.specs.Empty.{unused-slot}
 use Rattle.steps.specs.Spans.{span}
 use Rattle.lines.specs.Index.{slot-for}
 use Rattle.laws.specs.Listed.{Each}
-use Rattle.printed.specs.Printed.{Well-named}
+use Rattle.style.specs.Printed.{Well-named}
 
 -- The span of a name of the table.
 abbrev pub span-of : Name → ℕ

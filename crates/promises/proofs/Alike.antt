@@ -18,8 +18,8 @@ use Rattle.table.specs.Link.{used-rules, rules-of, carried-strata, stratum-at}
 use Rattle.names.specs.Names.{Showing, refused, has-slot, has-value}
 use Rattle.grammar.specs.Files.{Slot, File, spellings, no-slot, values-of, slot-counts}
 use Rattle.grammar.proofs.Accepts.{accepts-iff}
-use Rattle.printed.specs.Printed.{lettered, Agree}
-use Rattle.printed.proofs.Prints.{agree-behave}
+use Rattle.style.specs.Printed.{lettered, Agree}
+use Rattle.style.proofs.Prints.{agree-behave}
 use Rattle.rule_file.specs.Whole.{reading}
 use Rattle.rule_file.specs.Carries.{declared-slot, declared-value, Carries}
 use Rattle.rule_file.proofs.Declared.{Declared, read-declared}

@@ -6,7 +6,7 @@ use mathlib.Core.List.{List, [], _∷_, _++_}
 use Rattle.laws.specs.Quoted.{bytes}
 use Rattle.laws.specs.Answers.{taken, refused}
 use Rattle.grammar.proofs.Cases.{after-slots}
-use Rattle.printed.proofs.Cases.{prints}
+use Rattle.style.proofs.Cases.{prints}
 use Rattle.rule_file.proofs.Cases.{runs}
 use Rattle.printing.specs.Printing.{print-of, fitted, after-reading, printed}
 

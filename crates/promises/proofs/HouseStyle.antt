@@ -19,11 +19,11 @@ use Rattle.grammar.specs.Files.{File}
 use Rattle.grammar.specs.Meaning.{Is-file}
 use Rattle.grammar.specs.Reading.{accepted, read}
 use Rattle.grammar.proofs.Accepts.{accepts-iff, one-meaning}
-use Rattle.printed.specs.Layout.{by-letters}
-use Rattle.printed.specs.Printed.{print, Agree}
-use Rattle.printed.proofs.Trees.{canonical-means}
-use Rattle.printed.proofs.Tidied.{canonical-tidy, tidy-print}
-use Rattle.printed.proofs.Prints.{print-tokens, print-read, agree-print, print-agree}
+use Rattle.style.specs.Layout.{by-letters}
+use Rattle.style.specs.Printed.{print, Agree}
+use Rattle.style.proofs.Trees.{canonical-means}
+use Rattle.style.proofs.Tidied.{canonical-tidy, tidy-print}
+use Rattle.style.proofs.Prints.{print-tokens, print-read, agree-print, print-agree}
 use Rattle.reader.specs.declared.Outcome.the-variants.{Accepted}
 use Rattle.rule_file.specs.Whole.{reading}
 use Rattle.rule_file.specs.Carries.{Carries}
@@ -160,6 +160,7 @@ house-style = record {
   same-print = λ text text′ room bytes e o′. other text room bytes e text′ o′;
   same-answers = answers-alike;
   same-responses = responses-alike;
+  print-answers = λ text text′ o o′ e y card slip rooms. let a = alike-iff text text′ o o′ .0 e in (answers-alike text text′ a y card slip rooms, responses-alike text text′ a y card slip rooms);
   own-refusal = refused-first;
   exactly-34 = λ text room. (is-34 text room, comes-34 text room);
   exactly-33 = λ text room. (is-33 text room, comes-33 text room);

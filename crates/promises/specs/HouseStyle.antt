@@ -14,9 +14,9 @@ use Rattle.grammar.specs.Meaning.{Means, Is-file}
 use Rattle.grammar.specs.Reading.{read}
 use Rattle.table.specs.Link.{rules-of, carried-strata, value-counts}
 use Rattle.names.specs.Names.{show-slot, show-value}
-use Rattle.printed.specs.Layout.{layout, by-letters}
-use Rattle.printed.specs.Printed.{canonical}
-use Rattle.printed.specs.Tidy.{Tidy}
+use Rattle.style.specs.Layout.{layout, by-letters}
+use Rattle.style.specs.Printed.{canonical}
+use Rattle.style.specs.Tidy.{Tidy}
 use Rattle.reader.specs.declared.Outcome.the-variants.{Accepted, Refused}
 use Rattle.rule_file.specs.Whole.{reading}
 use Rattle.printing.specs.Printing.{print-of, printed}
@@ -58,6 +58,10 @@ pub record HouseStyle : Type 0 where
   -- Texts that are alike answer every card and slip alike, and count alike.
   pub same-answers : (text text′ : List ℕ) → Alike text text′ → (y : Tally) (card slip : List ℕ) (rooms : Rooms) → responds text y card slip rooms ≡ responds text′ y card slip rooms
   pub same-responses : (text text′ : List ℕ) → Alike text text′ → (y : Tally) (card slip : List ℕ) (rooms : Rooms) → response-to (reading text .table) y card slip rooms ≡ response-to (reading text′ .table) y card slip rooms
+  -- So texts with equal prints do.
+  pub print-answers : (text text′ : List ℕ) → reading text .outcome ≡ Accepted → reading text′ .outcome ≡ Accepted → print-of (read text) ≡ print-of (read text′)
+      → (y : Tally) (card slip : List ℕ) (rooms : Rooms)
+      → (responds text y card slip rooms ≡ responds text′ y card slip rooms) × (response-to (reading text .table) y card slip rooms ≡ response-to (reading text′ .table) y card slip rooms)
   -- The reading's own refusals come first, with both their numbers; then 34, then 33, each exactly where it is due; else the whole print.
   pub own-refusal : (text : List ℕ) (room k n : ℕ) → reading text .outcome ≡ Refused k n → printed text room ≡ refused k n
   pub exactly-34 : (text : List ℕ) (room : ℕ) → (printed text room ≡ refused 34 0) ↔ ((reading text .outcome ≡ Accepted) × (max-text < length (print-of (read text))))

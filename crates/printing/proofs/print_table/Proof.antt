@@ -44,7 +44,7 @@ put-file-requires c κs =
     let s = e .before .before .before .before .before in
     let text = s .args .text .now in
     let I = e .enter-slots .ensures text (file text (s .pre .0) .slots) (slots-tabled s) in
-    rw (s .pre .1) (table-fits text (s .pre .0) (shape s), slots-fit text (s .pre .0), spelled-bounded text (s .pre .0) _ _ I)
+    rw (s .pre .1) (table-fits text (s .pre .0) (shape s), slots-fit text (s .pre .0) (shape s), spelled-bounded text (s .pre .0) _ _ I)
 
 -- The lines of the table are the print of the text.
 is-print : (text : List ℕ) (o : reading text .outcome ≡ Accepted) (t : Table) {ss vs : List ℕ} → t ≡ reading text .table → Indexed text (file text o .slots) ss vs → spelled-file text ss vs t ≡ print-of (read text)
@@ -83,7 +83,7 @@ put-file-requires-2 c κs =
     let s = e .before .before .before .before .before in
     let text = s .args .text .now in
     let I = e .enter-slots .ensures text (file text (s .pre .0) .slots) (slots-tabled s) in
-    rw (s .pre .1) (table-fits text (s .pre .0) (shape s), slots-fit text (s .pre .0), spelled-bounded text (s .pre .0) _ _ I)
+    rw (s .pre .1) (table-fits text (s .pre .0) (shape s), slots-fit text (s .pre .0) (shape s), spelled-bounded text (s .pre .0) _ _ I)
 
 same-length : tie.Need-same-length
 same-length c = c .before .before .put-file2 .ensures .same-length

@@ -8,8 +8,8 @@ use Rattle.laws.specs.Quoted.{bytes}
 use Rattle.text.specs.Covering.{spelling}
 use Rattle.grammar.specs.Reading.{Answer, accepted, refused, read}
 use Rattle.grammar.proofs.Cases.{reads, after-slots}
-use Rattle.printed.specs.Layout.{token-bytes, tight, gap, layout}
-use Rattle.printed.specs.Printed.{print}
+use Rattle.style.specs.Layout.{token-bytes, tight, gap, layout}
+use Rattle.style.specs.Printed.{print}
 
 -- `unfolding prints` opens all that a print runs.
 unfoldable pub prints : Unit {0}

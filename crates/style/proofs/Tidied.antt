@@ -14,12 +14,12 @@ use Rattle.grammar.specs.Files.{Slot, File}
 use Rattle.grammar.specs.Grammar.{RuleTree, ConditionTree, and-literal, one-literal, LiteralTree, not-literal, becomes-value, has-value, AssignTree, braces, AssignmentListTree, one-assignment, comma-assignment, AssignmentTree, ValueListTree, one-value, comma-value, LineTree, line, FileTree, grown, spell, spell-literal, spell-condition, spell-assignment, spell-assignments, spell-assign, spell-rule, spell-rules, spell-values, spell-lines}
 use Rattle.grammar.specs.Meaning.{Names, nots, turned, tests-change, slot-in, value-in, Means-literal, Means-condition, means-and, means-one, means-true, Means-assignment, means-assignment, Means-assignments, means-first, means-comma, Means-assign, means-alone, means-braces, means-trigger, Means-rule, means-rule, Means-rules, no-rules, more-rules, Means}
 use Rattle.grammar.proofs.Leftmost.{grown-last}
-use Rattle.printed.specs.Layout.{layout, by-letters}
-use Rattle.printed.specs.Printed.{slot-named, value-named, literal-tree, condition-tree, assign-tree, assignment-tree, rule-tree, line-tree, canonical, print}
-use Rattle.printed.specs.Tidy.{Tidy-literals, Tidy-condition, Tidy-assign, Tidy-rule, Tidy}
-use Rattle.printed.proofs.Letters.{bare-name}
-use Rattle.printed.proofs.Trees.{names-letters, condition-grown, lines-one}
-use Rattle.printed.proofs.Unplaced.{layout-bare}
+use Rattle.style.specs.Layout.{layout, by-letters}
+use Rattle.style.specs.Printed.{slot-named, value-named, literal-tree, condition-tree, assign-tree, assignment-tree, rule-tree, line-tree, canonical, print}
+use Rattle.style.specs.Tidy.{Tidy-literals, Tidy-condition, Tidy-assign, Tidy-rule, Tidy}
+use Rattle.style.proofs.Letters.{bare-name}
+use Rattle.style.proofs.Trees.{names-letters, condition-grown, lines-one}
+use Rattle.style.proofs.Unplaced.{layout-bare}
 
 -- The canonical tree is tidy.
 literals-tidy : (c : ConditionTree) → Tidy-literals c → Tidy-condition c
