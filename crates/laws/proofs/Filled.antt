@@ -74,9 +74,9 @@ unfolding filled
 filled-front n unused xs = take-append-seam xs (replicate (n - length xs) unused)
 
 -- What stands at a used place.
-pub filled-at : {A : Type 0} (n : ℕ) (unused : A) (xs : List A) (i : ℕ) (d : A) → i < length xs → getD (filled n unused xs) i d ≡ getD xs i d
+pub used-at : {A : Type 0} (n : ℕ) (unused : A) (xs : List A) (i : ℕ) (d : A) → i < length xs → getD (filled n unused xs) i d ≡ getD xs i d
 unfolding filled
-filled-at n unused xs i d h = List·getD-append xs (replicate (n - length xs) unused) d i h
+used-at n unused xs i d h = List·getD-append xs (replicate (n - length xs) unused) d i h
 
 replicated : {A : Type 0} (P : A → Type 0) (u d : A) (k i : ℕ) → P u → i < k → P (getD (replicate k u) i d)
 replicated P u d zero i p h = absurd (omega arith)

@@ -67,9 +67,9 @@ each-imply P Q [] k h = tt
 each-imply P Q (x ∷ xs) k h = (k x (h .0), each-imply P Q xs k (h .1))
 
 -- Two maps that agree on each element.
-pub map-same : {A B : Type 0} (P : A → Type 0) (f g : A → B) (xs : List A) → ((x : A) → P x → f x ≡ g x) → Each P xs → map f xs ≡ map g xs
-map-same P f g [] k h = refl
-map-same {B = B} P f g (x ∷ xs) k h = ap₂ (λ (y : B) (ys : List B). y ∷ ys) (k x (h .0)) (map-same P f g xs k (h .1))
+pub maps-alike : {A B : Type 0} (P : A → Type 0) (f g : A → B) (xs : List A) → ((x : A) → P x → f x ≡ g x) → Each P xs → map f xs ≡ map g xs
+maps-alike P f g [] k h = refl
+maps-alike {B = B} P f g (x ∷ xs) k h = ap₂ (λ (y : B) (ys : List B). y ∷ ys) (k x (h .0)) (maps-alike P f g xs k (h .1))
 
 -- An element more at the end.
 pub each-last : {A : Type 0} (P : A → Type 0) (xs : List A) (x : A) → Each P xs → P x → Each P (xs ++ x ∷ [])

@@ -104,7 +104,7 @@ pub extern "C" fn rl_read(text: &[u8]) -> RlRead
 }
 
 // A print by numbers.
-fn printed(printing: Printing) -> RlPrinted
+fn print_numbers(printing: Printing) -> RlPrinted
     ensures { λ r. ⌜ r ≡ print-result printing ⌝ }
 {
     match printing {
@@ -132,7 +132,7 @@ pub extern "C" fn rl_print(text: &[u8], out: &mut [u8]) -> RlPrinted
         × (now (out .exit) ≡ output-of (printed (now (text .entry)) (length (now (out .entry)))) (now (out .entry))) ⌝ }
 {
     let result = printing::print(text, out);
-    printed(result)
+    print_numbers(result)
 }
 
 // Whether a table is in order: where it is not, the other functions say 31.

@@ -16,9 +16,9 @@ use Rattle.grammar.specs.Meaning.{Is-file}
 use Rattle.laws.specs.Listed.{Each}
 use Rattle.laws.proofs.Listed.{each-map, each-imply}
 use Rattle.style.specs.Printed.{slot-named, value-named, print, Named, Well-named}
-use Rattle.writing.specs.Puts.{longest}
+use Rattle.writing.specs.Puts.{slot-line-most, rule-line-most, longest}
 use Rattle.writing.specs.Written.{followed, separated, test-bytes, literal-bytes, condition-bytes, assign-bytes, rule-bytes, line-bytes, joined}
-use Rattle.printing.specs.Lines.{pair-bytes, slot-bytes, written}
+use Rattle.printing.specs.Lines.{pair-bytes, slot-bytes, file-bytes}
 use Rattle.style.proofs.Formed.{file-formed}
 use Rattle.style.proofs.Trees.{Declared, Rule-declared, rules-declared, Valued, slots-valued}
 use Rattle.style.proofs.Spelled.{slot-formed, value-formed}
@@ -87,7 +87,7 @@ module _ (slots : List Slot) (formed : Each Well-named slots) where
       let a = length-append list (bytes " }") in
       omega arith
 
-  rule-le : (x : Rule) → Rule-declared slots x → length (rule-bytes (pair-bytes slots) x) ≤ 781
+  rule-le : (x : Rule) → Rule-declared slots x → length (rule-bytes (pair-bytes slots) x) ≤ rule-line-most
   unfolding rule-bytes bytes bytes-from max-literals max-assignments
   rule-le x d =
       let p = pair-bytes slots (bytes " *= ") (x .trigger) in
@@ -98,7 +98,7 @@ module _ (slots : List Slot) (formed : Each Well-named slots) where
       let k = length-append s (bytes ";\n") in
       omega (arith, i, j, k, pair-le (bytes " *= ") (x .trigger) (d .trigger-is), condition-le (x .literals) (d .literals-are), assign-le (x .assignments) (d .assignments-are .all-declared), d .few-literals, d .few-assignments)
 
-slot-le : (s : Slot) → Well-named s → Valued s → length (slot-bytes s) ≤ 426
+slot-le : (s : Slot) → Well-named s → Valued s → length (slot-bytes s) ≤ slot-line-most
 unfolding line-bytes bytes bytes-from max-values
 slot-le s n v =
     let list = separated (bytes ", ") (spellings (s .values)) in
@@ -114,19 +114,19 @@ unfolding joined
 joined-le m line [] h = omega arith
 joined-le m line (x ∷ xs) h = omega (arith, joined-le m line xs (h .1), h .0, length-append (line x) (joined (map line xs)), suc-mul (length xs) m)
 
-slots-le : (ss : List Slot) → Each Well-named ss → Each Valued ss → Each (λ (s : Slot). length (slot-bytes s) ≤ 426) ss
+slots-le : (ss : List Slot) → Each Well-named ss → Each Valued ss → Each (λ (s : Slot). length (slot-bytes s) ≤ slot-line-most) ss
 slots-le [] n v = tt
 slots-le (s ∷ ss) n v = (slot-le s (n .0) (v .0), slots-le ss (n .1) (v .1))
 
 -- THE PRINT OF AN ACCEPTED TEXT'S FILE is bounded.
 pub print-bounded : (text : List ℕ) (f : File) → Is-file text f → length (print f) ≤ longest
-unfolding written max-slots max-rules
+unfolding file-bytes max-slots max-rules
 print-bounded text f a =
     let n = file-formed text f a in
     let lines = map slot-bytes (f .slots) in
     let rules = map (rule-bytes (pair-bytes (f .slots))) (f .rules) in
-    let h = joined-le 426 slot-bytes (f .slots) (slots-le (f .slots) n (slots-valued (a .tree) f (a .means))) in
-    let k = joined-le 781 (rule-bytes (pair-bytes (f .slots))) (f .rules)
-    (each-imply (Rule-declared (f .slots)) (λ (x : Rule). length (rule-bytes (pair-bytes (f .slots)) x) ≤ 781) (f .rules) (rule-le (f .slots) n) (rules-declared (a .tree) f (a .means))) in
+    let h = joined-le slot-line-most slot-bytes (f .slots) (slots-le (f .slots) n (slots-valued (a .tree) f (a .means))) in
+    let k = joined-le rule-line-most (rule-bytes (pair-bytes (f .slots))) (f .rules)
+    (each-imply (Rule-declared (f .slots)) (λ (x : Rule). length (rule-bytes (pair-bytes (f .slots)) x) ≤ rule-line-most) (f .rules) (rule-le (f .slots) n) (rules-declared (a .tree) f (a .means))) in
     let e = ap length (print-written text f a) in
     omega (arith, h, k, e, length-append (joined lines) (joined rules), a .means .few-slots, a .means .few-rules)

@@ -4,11 +4,11 @@ use Prim.Native.Nat.{ℕ, zero, suc, _+_, _-_, _*_, _/_, _%_, _≤_, _<_}
 use native.Mathlib.Omega.{arith}
 use mathlib.Core.Path.{_≡_, refl, sym, ap, ap₂, _∙_}
 use mathlib.Core.List.{List, [], _∷_, _++_, map}
-use lib.ListN.{length, drop, getD, length-map, List·getD-map}
+use lib.ListN.{length, take, drop, getD, length-map, length-take, List·getD-map}
 use lib.Seq.{getD-take, getD-drop}
 use borrow.Author.Tests.{le-leb}
 use Rattle.laws.specs.Listed.{Each}
-use Rattle.laws.proofs.Listed.{each-at, each-imply, map-same}
+use Rattle.laws.proofs.Listed.{each-at, each-imply, maps-alike}
 use Rattle.laws.proofs.Truth.{and-l}
 use Rattle.laws.proofs.Tabulated.{is-tabulate}
 use Rattle.text.specs.Tokens.{Name}
@@ -16,7 +16,6 @@ use Rattle.model.specs.Rules.{Pair, Literal, Rule}
 use Rattle.grammar.specs.Limits.{max-slots, max-values}
 use Rattle.grammar.specs.Files.{Slot, File, spellings, slot-names, values-of, no-slot}
 use Rattle.grammar.specs.Meaning.{Is-file}
-use Rattle.grammar.specs.Reading.{read}
 use Rattle.grammar.proofs.Accepts.{accepts-iff}
 use Rattle.grammar.proofs.Stands.{file-stands}
 use Rattle.table.specs.declared.Table.{Table}
@@ -25,6 +24,8 @@ use Rattle.table.specs.Shape.{Shaped}
 use Rattle.table.specs.Fits.{TableFits}
 use Rattle.table.specs.Limits.{value-limit, row}
 use Rattle.table.specs.Flat.{place-of}
+use Rattle.table.specs.Link.{assignment-of, rule-of}
+use Rattle.table.proofs.Link.{rules-length, rule-is}
 use Rattle.strata.specs.Layered.{with-strata}
 use Rattle.soundness.specs.Sound.{sound, well-formed, carries-least}
 use Rattle.soundness.proofs.WellFormed.{well-formed-e, well-formed-fits}
@@ -38,10 +39,9 @@ use Rattle.style.proofs.Formed.{file-formed}
 use Rattle.style.proofs.Trees.{Declared, Rule-declared, rules-declared, Valued, slots-valued}
 use Rattle.style.proofs.Spelled.{slot-inside, value-inside}
 use Rattle.writing.specs.Puts.{longest}
-use Rattle.printing.specs.Printing.{print-of}
 use Rattle.writing.specs.Written.{Pairing, separated, test-bytes, literal-bytes, condition-bytes, assign-bytes, rule-bytes, line-bytes, joined}
-use Rattle.printing.specs.Lines.{slot-bytes, pair-bytes, written}
-use Rattle.writing.specs.Spelled.{spelled, spelled-pair, spelled-values, spelled-line, spelled-lines, spelled-rules, spelled-file, SlotsFit}
+use Rattle.printing.specs.Lines.{slot-bytes, pair-bytes, file-bytes}
+use Rattle.writing.specs.Spelled.{spelled, spelled-pair, spelled-values, spelled-line, spelled-lines, spelled-rules, spelled-file, LinesFit}
 use Rattle.printing.specs.Tabled.{Tabled}
 use Rattle.printing.proofs.Tabled.{slot-there}
 use Rattle.printing.proofs.Written.{print-written}
@@ -65,41 +65,36 @@ module _ (slots : List Slot) (P Q : Pairing) (same : (mark : List ℕ) (p : Pair
   condition-same : (ls : List Literal) → Each (λ (l : Literal). Declared slots (l .pair)) ls → condition-bytes P ls ≡ condition-bytes Q ls
   unfolding condition-bytes
   condition-same [] d = refl
-  condition-same (l ∷ ls) d = ap (separated _) (map-same (λ (m : Literal). Declared slots (m .pair)) (literal-bytes P) (literal-bytes Q) (l ∷ ls) literal-same d)
+  condition-same (l ∷ ls) d = ap (separated _) (maps-alike (λ (m : Literal). Declared slots (m .pair)) (literal-bytes P) (literal-bytes Q) (l ∷ ls) literal-same d)
 
   assign-same : (ps : List Pair) → Each (Declared slots) ps → assign-bytes P ps ≡ assign-bytes Q ps
   unfolding assign-bytes
   assign-same [] d = refl
   assign-same (p ∷ []) d = same _ p (d .0)
-  assign-same (p ∷ q ∷ qs) d = rw (map-same (Declared slots) (P _) (Q _) (p ∷ q ∷ qs) (same _) d)
+  assign-same (p ∷ q ∷ qs) d = rw (maps-alike (Declared slots) (P _) (Q _) (p ∷ q ∷ qs) (same _) d)
 
   rule-same : (r : Rule) → Rule-declared slots r → rule-bytes P r ≡ rule-bytes Q r
   unfolding rule-bytes
   rule-same r d = rw (same _ (r .trigger) (d .trigger-is), condition-same (r .literals) (d .literals-are), assign-same (r .assignments) (d .assignments-are .all-declared))
 
   rules-same : (rs : List Rule) → Each (Rule-declared slots) rs → map (rule-bytes P) rs ≡ map (rule-bytes Q) rs
-  rules-same rs d = map-same (Rule-declared slots) (rule-bytes P) (rule-bytes Q) rs rule-same d
+  rules-same rs d = maps-alike (Rule-declared slots) (rule-bytes P) (rule-bytes Q) rs rule-same d
 
 module _ (text : List ℕ) (o : reading text .outcome ≡ Accepted) where
   -- The file, and its table.
   abbrev pub file : File
   file = accepted-table text o .0
 
-  abbrev pub table : Table
-  table = reading text .table
+  abbrev pub read-table : Table
+  read-table = reading text .table
 
-  is-file : Is-file text file
+  pub is-file : Is-file text file
   is-file = accepts-iff text file .0 (accepted-table text o .1)
 
   valued : Each Valued (file .slots)
   valued = slots-valued (is-file .tree) file (is-file .means)
 
-  -- Its print.
-  pub print-is : print-of (read text) ≡ print file
-  unfolding print-of
-  print-is = ap print-of (accepted-table text o .1)
-
-  pub tabled : Tabled text (file .slots) table
+  pub tabled : Tabled text (file .slots) read-table
   unfolding with-strata table-for max-slots
   tabled =
       rw (accepted-table text o .2) (record {
@@ -113,16 +108,28 @@ module _ (text : List ℕ) (o : reading text .outcome ≡ Accepted) where
       })
 
   -- How many values a slot of the table has.
-  count-is : (i : ℕ) → i < length (file .slots) → getD (table .slots) i zero-values.no-slot .count ≡ length (getD (file .slots) i no-slot .values)
-  count-is i h = rw (slot-there text (file .slots) table tabled i h)
+  count-is : (i : ℕ) → i < length (file .slots) → getD (read-table .slots) i zero-values.no-slot .count ≡ length (getD (file .slots) i no-slot .values)
+  count-is i h = rw (slot-there text (file .slots) read-table tabled i h)
 
-  pub table-fits : Shaped table → TableFits table
+  pub table-fits : Shaped read-table → TableFits read-table
   unfolding sound
-  table-fits sh = well-formed-fits table sh (and-l (well-formed table) (carries-least table) (reading-passes text))
+  table-fits sh = well-formed-fits read-table sh (and-l (well-formed read-table) (carries-least read-table) (reading-passes text))
 
-  pub slots-fit : Shaped table → SlotsFit table
+  -- Each rule assigns something.
+  assigns : Shaped read-table → (j : ℕ) → j < read-table .count → 1 ≤ getD (read-table .rules) j zero-values.no-rule .assigned
+  assigns sh j h =
+      let r = getD (read-table .rules) j zero-values.no-rule in
+      let m : read-table .count ≤ length (read-table .rules) = omega (arith, table-fits sh .rules-fit, sh .rule-places) in
+      let k : j < length (file .rules) = omega (arith, h, rules-length read-table m, ap length (accepted-table text o .3)) in
+      let d = each-at (Rule-declared (file .slots)) (file .rules) j (rule-of zero-values.no-rule) (rules-declared (is-file .tree) file (is-file .means)) k .assignments-are .some in
+      let e = ap (λ (x : Rule). length (x .assignments)) (sym (rule-is read-table j h) ∙ ap (λ (rs : List Rule). getD rs j (rule-of zero-values.no-rule)) (accepted-table text o .3)) in
+      omega (arith, d, e, length-map (take (r .assigned) (r .assignments)) assignment-of, length-take (r .assigned) (r .assignments))
+
+  pub lines-fit : Shaped read-table → LinesFit read-table
   unfolding sound
-  slots-fit sh = let w = well-formed-e table sh (and-l (well-formed table) (carries-least table) (reading-passes text)) in record { few = w .few-slots; some = w .some-value; within = w .few-values }
+  lines-fit sh =
+      let w = well-formed-e read-table sh (and-l (well-formed read-table) (carries-least read-table) (reading-passes text)) in
+      record { few = w .few-slots; some = w .some-value; within = w .few-values; assigns = assigns sh }
 
   module _ (ss vs : List ℕ) (I : Indexed text (file .slots) ss vs) where
     slot-spelled : (s : ℕ) → s < length (file .slots) → spelled text (getD ss s 0) ≡ getD (file .slots) s no-slot .name .letters
@@ -152,19 +159,19 @@ module _ (text : List ℕ) (o : reading text .outcome ≡ Accepted) where
         is-tabulate (λ (j : ℕ). spelled text (getD vs (s * row + 1 + j) 0)) (length (values-of (file .slots) s)) [] (spellings (values-of (file .slots) s)) (length-map (values-of (file .slots) s) (λ (n : Name). n .letters))
         (λ j k. List·getD-map (λ (n : Name). n .letters) (values-of (file .slots) s) j (no-slot .name) ∙ sym (value-spelled s j h k))
 
-    line-spelled : (s : ℕ) → s < length (file .slots) → slot-bytes (getD (file .slots) s no-slot) ≡ spelled-line text ss vs s (getD (table .slots) s zero-values.no-slot .count)
+    line-spelled : (s : ℕ) → s < length (file .slots) → slot-bytes (getD (file .slots) s no-slot) ≡ spelled-line text ss vs s (getD (read-table .slots) s zero-values.no-slot .count)
     line-spelled s h = ap₂ line-bytes (sym (slot-spelled s h)) (values-spelled s h ∙ ap (spelled-values text vs s) (sym (count-is s h)))
 
-    lines-spelled : map slot-bytes (file .slots) ≡ spelled-lines text ss vs table
+    lines-spelled : map slot-bytes (file .slots) ≡ spelled-lines text ss vs read-table
     unfolding spelled-lines
     lines-spelled =
         let e = tabled .width-is in
-        is-tabulate (λ (i : ℕ). spelled-line text ss vs i (getD (table .slots) i zero-values.no-slot .count)) (table .width) (slot-bytes no-slot) (map slot-bytes (file .slots)) (length-map (file .slots) slot-bytes ∙ sym e)
+        is-tabulate (λ (i : ℕ). spelled-line text ss vs i (getD (read-table .slots) i zero-values.no-slot .count)) (read-table .width) (slot-bytes no-slot) (map slot-bytes (file .slots)) (length-map (file .slots) slot-bytes ∙ sym e)
         (λ i h. List·getD-map slot-bytes (file .slots) i no-slot ∙ line-spelled i (omega (arith, e)))
 
     -- THE LINES BY THE SPANS of the text are the print of its file.
-    pub print-spelled : spelled-file text ss vs table ≡ print file
-    unfolding spelled-file spelled-rules written
+    pub print-spelled : spelled-file text ss vs read-table ≡ print file
+    unfolding spelled-file spelled-rules file-bytes
     print-spelled =
         ap₂ (λ (xs ys : List (List ℕ)). joined xs ++ joined ys) (sym lines-spelled)
         (ap (map (rule-bytes (spelled-pair text ss vs))) (accepted-table text o .3)
@@ -172,5 +179,5 @@ module _ (text : List ℕ) (o : reading text .outcome ≡ Accepted) where
         ∙ sym (print-written text file is-file)
 
     -- And are within the bound.
-    pub spelled-bounded : length (spelled-file text ss vs table) ≤ longest
+    pub spelled-bounded : length (spelled-file text ss vs read-table) ≤ longest
     spelled-bounded = rw print-spelled (print-bounded text file is-file)

@@ -7,13 +7,22 @@ use lib.ListN.{length}
 use borrow.Author.Tests.{lt-ltb, le-ltb}
 use Rattle.laws.specs.Answers.{OrRefused, taken, refused, output-of}
 use Rattle.grammar.specs.Limits.{max-text}
+use Rattle.grammar.specs.Files.{File}
+use Rattle.grammar.specs.Meaning.{Is-file}
 use Rattle.grammar.specs.Reading.{read}
+use Rattle.grammar.proofs.Accepts.{accepts-iff}
 use Rattle.reader.specs.declared.Outcome.the-variants.{Accepted, Refused}
 use Rattle.rule_file.specs.Whole.{reading}
+use Rattle.style.specs.Printed.{print}
 use Rattle.printing.specs.declared.Printing.the-variants as printing
 use Rattle.writing.specs.Puts.{put-in}
 use Rattle.printing.specs.Printing.{print-of, fitted, after-reading, printed, printing-of}
 use Rattle.writing.proofs.Putting.{put-front}
+
+-- The print of a text that is a file.
+pub print-is : (text : List ℕ) (f : File) → Is-file text f → print-of (read text) ≡ print f
+unfolding print-of
+print-is text f h = ap print-of (accepts-iff text f .1 h)
 
 -- Bytes for an output: 34, then 33, else all of them.
 pub fitted-34 : (ys : List ℕ) (room : ℕ) → max-text < length ys → fitted ys room ≡ refused 34 0

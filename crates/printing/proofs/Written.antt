@@ -1,4 +1,4 @@
--- The printed form of an accepted text's file is written line by line.
+-- The printed form of an accepted text's file is file-bytes line by line.
 -- Assumes nothing.
 use Prim.Native.Nat.{ℕ, _<_}
 use native.Mathlib.Omega.{arith}
@@ -16,9 +16,10 @@ use Rattle.grammar.specs.Meaning.{Is-file}
 use Rattle.grammar.proofs.Leftmost.{spell-more, spell-name, spells-grown}
 use Rattle.style.specs.Layout.{token-bytes, tight, gap, layout}
 use Rattle.laws.specs.Listed.{Each}
+use Rattle.laws.proofs.Listed.{each-imply}
 use Rattle.style.specs.Printed.{slot-named, value-named, literal-tree, condition-tree, assign-tree, assignment-tree, rule-tree, values-tree, line-tree, print}
 use Rattle.writing.specs.Written.{followed, separated, test-bytes, literal-bytes, condition-bytes, assign-bytes, rule-bytes, line-bytes, joined}
-use Rattle.printing.specs.Lines.{pair-bytes, slot-bytes, written}
+use Rattle.printing.specs.Lines.{pair-bytes, slot-bytes, file-bytes}
 use Rattle.style.proofs.Trees.{rules-declared, Rule-declared}
 
 -- `unfolding laying` opens a layout.
@@ -153,13 +154,9 @@ lines-laid [] r = refl
 lines-laid (s ∷ ss) r =
     slot-laid s (map line-tree ss) r ∙ ap (λ (y : List ℕ). slot-bytes s ++ y) (lines-laid ss r) ∙ sym (append-assoc (slot-bytes s) (joined (map slot-bytes ss)) (layout r))
 
-assigned : (slots : List Slot) (rs : List Rule) → Each (Rule-declared slots) rs → Each (λ (x : Rule). 0 < length (x .assignments)) rs
-assigned slots [] h = tt
-assigned slots (x ∷ rs) h = (h .0 .assignments-are .some, assigned slots rs (h .1))
-
 -- THE PRINT IS WRITTEN LINE BY LINE.
-pub print-written : (text : List ℕ) (f : File) → Is-file text f → print f ≡ written f
-unfolding print written
+pub print-written : (text : List ℕ) (f : File) → Is-file text f → print f ≡ file-bytes f
+unfolding print file-bytes
 print-written text f a =
     lines-laid (f .slots) (spell-rules (map (rule-tree (f .slots)) (f .rules)) [])
-    ∙ ap (λ (y : List ℕ). joined (map slot-bytes (f .slots)) ++ y) (rules-laid (f .slots) (f .rules) (assigned (f .slots) (f .rules) (rules-declared (a .tree) f (a .means))))
+    ∙ ap (λ (y : List ℕ). joined (map slot-bytes (f .slots)) ++ y) (rules-laid (f .slots) (f .rules) (each-imply (Rule-declared (f .slots)) (λ (x : Rule). 0 < length (x .assignments)) (f .rules) (λ x d. d .assignments-are .some) (rules-declared (a .tree) f (a .means))))

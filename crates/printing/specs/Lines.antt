@@ -1,4 +1,4 @@
--- The printed form of a file line by line, by the names that it declares.
+-- The printed form of a file line by line, by the names that it declares. Nothing here need be believed: `print-written` makes it the print.
 use Prim.Native.Nat.{ℕ}
 use mathlib.Core.List.{List, _++_, map}
 use Rattle.grammar.specs.Files.{Slot, File, spellings}
@@ -14,5 +14,5 @@ unfoldable pub pair-bytes : List Slot → Pairing
 pair-bytes slots mark p = slot-named slots p .letters ++ (mark ++ value-named slots p .letters)
 
 -- A file line by line.
-unfoldable pub written : File → List ℕ
-written f = joined (map slot-bytes (f .slots)) ++ joined (map (rule-bytes (pair-bytes (f .slots))) (f .rules))
+unfoldable pub file-bytes : File → List ℕ
+file-bytes f = joined (map slot-bytes (f .slots)) ++ joined (map (rule-bytes (pair-bytes (f .slots))) (f .rules))

@@ -1,4 +1,4 @@
--- A table of a text's slots: its names are stretches of the text.
+-- What is known of the table of an accepted text's slots when their spans are entered: its names are stretches of the text. Nothing here need be believed: `tabled` shows it of every accepted text.
 use Prim.Native.Nat.{ℕ, _≤_, _<_}
 use mathlib.Core.Path.{_≡_}
 use mathlib.Core.List.{List, map}

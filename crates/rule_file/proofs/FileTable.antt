@@ -14,7 +14,7 @@ use Rattle.laws.specs.Filled.{filled}
 use Rattle.laws.proofs.Truth.{and-i, and-l, and-r}
 use Rattle.laws.proofs.Equations.{is-true}
 use Rattle.laws.proofs.Listed.{all-e, all-append}
-use Rattle.laws.proofs.Filled.{filled-length, filled-front, filled-each, filled-at}
+use Rattle.laws.proofs.Filled.{filled-length, filled-front, filled-each, used-at}
 use Rattle.model.specs.Rules as model
 use Rattle.model.specs.Orders as orders
 use Rattle.table.specs.declared.Literal.{Literal}
@@ -53,7 +53,7 @@ used-of n unused f xs = ap (λ (k : ℕ). take k (filled n unused (map f xs))) (
 pub image-at : {A B : Type 0} (n : ℕ) (unused d : B) (f : A → B) (xs : List A) (i : ℕ) (e : A) → i < length xs → getD (filled n unused (map f xs)) i d ≡ f (getD xs i e)
 image-at n unused d f xs i e h =
     let l : i < length (map f xs) = omega (arith, h, length-map xs f) in
-    filled-at n unused (map f xs) i d l ∙ any-default (map f xs) i d (f e) l ∙ List·getD-map f xs i e
+    used-at n unused (map f xs) i d l ∙ any-default (map f xs) i d (f e) l ∙ List·getD-map f xs i e
 
 literals-back : (r : model.Rule) → rule-of (rule-for r) .literals ≡ r .literals
 literals-back r = ap (map literal-of) (used-of literal-limit no-literal literal-for (r .literals)) ∙ literals-kept (r .literals)

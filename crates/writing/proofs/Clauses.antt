@@ -47,11 +47,6 @@ module _ (paired : Pairing) (r : Rule) where
   unfolding more-assignments followed
   assignments-over j h = ap (λ (ps : List model.Pair). followed (bytes ", ") (map (paired (bytes " := ")) ps)) (assigned-end r j h)
 
-  -- No assignment.
-  pub assign-none : r .assigned ≡ 0 → assign-bytes paired (assignments-of r) ≡ []
-  unfolding assign-bytes
-  assign-none z = ap (assign-bytes paired) (sym (assigned-start r) ∙ assigned-end r 0 (omega arith))
-
   module _ (sh : RuleShaped r) where
     -- The first literal and the others.
     pub condition-some : 0 < r .tested → r .tested ≤ literal-limit → condition-bytes paired (literals-of r) ≡ literal-at 0 ++ more-literals 1

@@ -20,8 +20,8 @@ use Rattle.writing.specs.Written.{followed, separated, rule-bytes, joine
 use Rattle.writing.specs.Spelled.{spelled, spelled-pair, spelled-values, spelled-line, spelled-lines, spelled-rules, spelled-file}
 
 -- A list by its rule, from a place on.
-tabulate-next : {A : Type 0} (f : ℕ → A) (n i : ℕ) (d : A) → i < n → drop i (tabulate f n) ≡ f i ∷ drop (i + 1) (tabulate f n)
-tabulate-next f n i d h =
+tabulate-from : {A : Type 0} (f : ℕ → A) (n i : ℕ) (d : A) → i < n → drop i (tabulate f n) ≡ f i ∷ drop (i + 1) (tabulate f n)
+tabulate-from f n i d h =
     let l = tabulate-length f n in
     drop-cons (tabulate f n) i d (omega arith) ∙ rw (tabulate-at f n i d h, add-one i)
 
@@ -40,11 +40,11 @@ module _ (text vs : List ℕ) (slot count : ℕ) where
   unfolding separated more-values spelled-values
   values-some h =
       let z : slot * row + 1 + 0 ≡ slot * row + 1 = omega arith in
-      ap (separated (bytes ", ")) (tabulate-next value-at count 0 [] h) ∙ ap (λ (k : ℕ). spelled text (getD vs k 0) ++ more-values 1) z
+      ap (separated (bytes ", ")) (tabulate-from value-at count 0 [] h) ∙ ap (λ (k : ℕ). spelled text (getD vs k 0) ++ more-values 1) z
 
   pub values-on : (j : ℕ) → j < count → more-values j ≡ bytes ", " ++ (value-at j ++ more-values (j + 1))
   unfolding followed more-values spelled-values
-  values-on j h = ap (followed (bytes ", ")) (tabulate-next value-at count j [] h)
+  values-on j h = ap (followed (bytes ", ")) (tabulate-from value-at count j [] h)
 
   pub values-over : (j : ℕ) → count ≤ j → more-values j ≡ []
   unfolding followed more-values spelled-values
@@ -72,7 +72,7 @@ module _ (text ss vs : List ℕ) (t : Table) where
 
   pub lines-on : (i : ℕ) → i < t .width → lines-from i ≡ line-at i ++ lines-from (i + 1)
   unfolding joined lines-from spelled-lines
-  lines-on i h = ap joined (tabulate-next line-at (t .width) i [] h)
+  lines-on i h = ap joined (tabulate-from line-at (t .width) i [] h)
 
   pub lines-over : (i : ℕ) → t .width ≤ i → lines-from i ≡ []
   unfolding joined lines-from spelled-lines

@@ -1,12 +1,19 @@
 -- What a function that puts bytes into an output leaves: the output with them at their place, where they fit, and the place after them.
-use Prim.Native.Nat.{ℕ, _+_, _≤_}
+use Prim.Native.Nat.{ℕ, _+_, _*_, _≤_}
 use mathlib.Core.Path.{_≡_}
 use mathlib.Core.List.{List, _++_}
 use lib.ListN.{length, take, drop}
+use Rattle.table.specs.Limits.{slot-limit, rule-limit}
 
--- No print of an accepted text is longer: 32 slot lines of at most 426 bytes and 255 rules of at most 781.
+-- No line of a slot and no line of a rule has more bytes, and so no print of an accepted text has more than `longest` (`print-bounded`, crate `printing`).
+abbrev pub slot-line-most : ℕ
+slot-line-most = 426
+
+abbrev pub rule-line-most : ℕ
+rule-line-most = 781
+
 abbrev pub longest : ℕ
-longest = 212787
+longest = slot-limit * slot-line-most + rule-limit * rule-line-most
 
 -- An output with bytes put at a place of it: what stands before and after them stays.
 unfoldable pub put-in : List ℕ → ℕ → List ℕ → List ℕ

@@ -1,4 +1,4 @@
--- The same lines by the spans of a text: names are stretches of it, found by the number of a slot and by the place of a pair.
+-- The same lines by the spans of a text: names are stretches of it, found by the number of a slot and by the place of a pair. Nothing here need be believed: for an accepted text it is the print (`print-spelled`, crate `printing`).
 use Prim.Native.Nat.{ℕ, _+_, _*_, _/_, _%_, _≤_, _<_}
 use mathlib.Core.Bool.{cond}
 use mathlib.Core.List.{List, [], _++_, map}
@@ -7,7 +7,7 @@ use lib.ListN.{length, getD}
 use Rattle.laws.specs.Tabulated.{tabulate}
 use Rattle.table.specs.declared.Table.{Table}
 use Rattle.table.specs.Limits.{slot-limit, value-limit, row}
-use Rattle.table.specs.Shape.{no-slot}
+use Rattle.table.specs.Shape.{no-slot, no-rule}
 use Rattle.table.specs.Flat.{place-of}
 use Rattle.table.specs.Link.{rules-of}
 use Rattle.steps.specs.Spans.{span-letters}
@@ -41,8 +41,9 @@ spelled-rules text slotspans valuespans t = map (rule-bytes (spelled-pair text s
 unfoldable pub spelled-file : List ℕ → List ℕ → List ℕ → Table → List ℕ
 spelled-file text slotspans valuespans t = joined (spelled-lines text slotspans valuespans t) ++ joined (spelled-rules text slotspans valuespans t)
 
--- The slots of a table are within the limits, each with values.
-pub record SlotsFit (t : Table) : Type 0 where
+-- The slots of a table are within the limits, each with values, and each rule assigns something.
+pub record LinesFit (t : Table) : Type 0 where
   pub few : t .width ≤ slot-limit
   pub some : (i : ℕ) → i < t .width → 1 ≤ getD (t .slots) i no-slot .count
   pub within : (i : ℕ) → i < t .width → getD (t .slots) i no-slot .count ≤ value-limit
+  pub assigns : (j : ℕ) → j < t .count → 1 ≤ getD (t .rules) j no-rule .assigned

@@ -1,4 +1,4 @@
--- The printed form byte by byte, statement after statement, as the code puts it. How a slot, a mark and a value are written is handed in: by the names of a file, or by the spans of its text.
+-- The lines of the printed form byte by byte, as the code puts them. How a slot, a mark and a value are written is handed in: by the names of a file, or by the spans of its text. Nothing here need be believed: `print-written` (crate `printing`) makes it the print.
 use Prim.Native.Nat.{ℕ}
 use mathlib.Core.Bool.{cond}
 use mathlib.Core.List.{List, [], _∷_, _++_, map}
@@ -32,7 +32,7 @@ unfoldable pub condition-bytes : Pairing → List Literal → List ℕ
 condition-bytes paired [] = bytes "TRUE"
 condition-bytes paired (m ∷ ms) = separated (bytes " AND ") (map (literal-bytes paired) (m ∷ ms))
 
--- Assignments: one alone, or two and more in braces.
+-- Assignments: one alone, or two and more in braces. (No rule of an accepted text has none.)
 unfoldable pub assign-bytes : Pairing → List Pair → List ℕ
 assign-bytes paired [] = []
 assign-bytes paired (p ∷ []) = paired (bytes " := ") p

@@ -6,7 +6,7 @@ ghost use Rattle.table.specs.Limits.{slot-limit, value-limit};
 ghost use Rattle.table.specs.Fits.{TableFits};
 ghost use Rattle.writing.specs.Puts.{longest, Puts};
 ghost use Rattle.writing.specs.Written.{separated};
-ghost use Rattle.writing.specs.Spelled.{spelled-values, spelled-line, spelled-file, SlotsFit};
+ghost use Rattle.writing.specs.Spelled.{spelled-values, spelled-line, spelled-file, LinesFit};
 use crate::put::put;
 use crate::put::put_name;
 use crate::rules::put_rule;
@@ -66,7 +66,7 @@ pub fn put_file(
     valuespans: &[usize; PAIRS],
     t: Table,
 ) -> usize
-    requires { ⌜ TableFits t × SlotsFit t × (length (spelled-file (now text) (now slotspans) (now valuespans) t) ≤ longest) ⌝ }
+    requires { ⌜ TableFits t × LinesFit t × (length (spelled-file (now text) (now slotspans) (now valuespans) t) ≤ longest) ⌝ }
     ensures { λ r. ⌜ Puts (now (out .entry)) 0 (spelled-file (now (text .entry)) (now (slotspans .entry)) (now (valuespans .entry)) t) (now (out .exit)) r ⌝ }
 {
     let width = t.width;

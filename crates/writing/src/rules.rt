@@ -173,13 +173,10 @@ fn put_assign(
     valuespans: &[usize; PAIRS],
     r: Rule,
 ) -> usize
-    requires { ⌜ RuleFits r × (at + length (assign-bytes (spelled-pair (now text) (now slotspans) (now valuespans)) (assignments-of r)) ≤ longest) ⌝ }
+    requires { ⌜ RuleFits r × (1 ≤ r .assigned) × (at + length (assign-bytes (spelled-pair (now text) (now slotspans) (now valuespans)) (assignments-of r)) ≤ longest) ⌝ }
     ensures { λ e. ⌜ Puts (now (out .entry)) at (assign-bytes (spelled-pair (now (text .entry)) (now (slotspans .entry)) (now (valuespans .entry))) (assignments-of r)) (now (out .exit)) e ⌝ }
 {
     let n = r.assigned;
-    if n == 0 {
-        return at;
-    }
     if n == 1 {
         return put_assignments(out, at, text, slotspans, valuespans, r);
     }
@@ -197,7 +194,7 @@ pub fn put_rule(
     valuespans: &[usize; PAIRS],
     r: Rule,
 ) -> usize
-    requires { ⌜ RuleFits r × (at + length (rule-bytes (spelled-pair (now text) (now slotspans) (now valuespans)) (rule-of r)) ≤ longest) ⌝ }
+    requires { ⌜ RuleFits r × (1 ≤ r .assigned) × (at + length (rule-bytes (spelled-pair (now text) (now slotspans) (now valuespans)) (rule-of r)) ≤ longest) ⌝ }
     ensures { λ e. ⌜ Puts (now (out .entry)) at (rule-bytes (spelled-pair (now (text .entry)) (now (slotspans .entry)) (now (valuespans .entry))) (rule-of r)) (now (out .exit)) e ⌝ }
 {
     let begun = put(out, at, b"WHEN ");

@@ -18,8 +18,8 @@ use Rattle.writing.specs.Puts.{put-in}
 use Rattle.printing.specs.Printing.{print-of}
 use Rattle.printing.specs.Tabled.{Tabled}
 use Rattle.writing.specs.Spelled.{spelled-file}
-use Rattle.printing.proofs.Filed.{file, print-is, tabled, slots-fit, table-fits, print-spelled, spelled-bounded}
-use Rattle.printing.proofs.Fitting.{fitted-34, fitted-33, fitted-all, answer-refused, answer-taken}
+use Rattle.printing.proofs.Filed.{file, is-file, tabled, lines-fit, table-fits, print-spelled, spelled-bounded}
+use Rattle.printing.proofs.Fitting.{print-is, fitted-34, fitted-33, fitted-all, answer-refused, answer-taken}
 use Rattle.printing.proofs.print_table.Statement.{statement}
 use Rattle.printing.proofs.print_table.Tie as tie
 
@@ -44,11 +44,11 @@ put-file-requires c κs =
     let s = e .before .before .before .before .before in
     let text = s .args .text .now in
     let I = e .enter-slots .ensures text (file text (s .pre .0) .slots) (slots-tabled s) in
-    rw (s .pre .1) (table-fits text (s .pre .0) (shape s), slots-fit text (s .pre .0) (shape s), spelled-bounded text (s .pre .0) _ _ I)
+    rw (s .pre .1) (table-fits text (s .pre .0) (shape s), lines-fit text (s .pre .0) (shape s), spelled-bounded text (s .pre .0) _ _ I)
 
 -- The lines of the table are the print of the text.
 is-print : (text : List ℕ) (o : reading text .outcome ≡ Accepted) (t : Table) {ss vs : List ℕ} → t ≡ reading text .table → Indexed text (file text o .slots) ss vs → spelled-file text ss vs t ≡ print-of (read text)
-is-print text o t {ss} {vs} e I = rw e (print-spelled text o ss vs I ∙ sym (print-is text o))
+is-print text o t {ss} {vs} e I = rw e (print-spelled text o ss vs I ∙ sym (print-is text (file text o) (is-file text o)))
 
 -- How long the print is.
 size : (c : tie.After-nowhere2) → let s = c .before .before .before .before .before .before .before .before .before .before in length (print-of (read (s .args .text .now))) ≡ c .before .put-file .result
@@ -83,7 +83,7 @@ put-file-requires-2 c κs =
     let s = e .before .before .before .before .before in
     let text = s .args .text .now in
     let I = e .enter-slots .ensures text (file text (s .pre .0) .slots) (slots-tabled s) in
-    rw (s .pre .1) (table-fits text (s .pre .0) (shape s), slots-fit text (s .pre .0) (shape s), spelled-bounded text (s .pre .0) _ _ I)
+    rw (s .pre .1) (table-fits text (s .pre .0) (shape s), lines-fit text (s .pre .0) (shape s), spelled-bounded text (s .pre .0) _ _ I)
 
 same-length : tie.Need-same-length
 same-length c = c .before .before .put-file2 .ensures .same-length

@@ -114,7 +114,7 @@ put-rule-requires c κs =
     let n = c .before .before in
     let l = n .before .loop2 in
     let s = n .before .before .before .before .before .before in
-    (s .pre .0 .each-fits (l .j) (omega arith), left-room (one-rule s (l .j)) (rules s (l .j + 1)) (left-as (next-rule n) (l .inv)))
+    (s .pre .0 .each-fits (l .j) (omega arith), s .pre .1 .assigns (l .j) (omega arith), left-room (one-rule s (l .j)) (rules s (l .j + 1)) (left-as (next-rule n) (l .inv)))
 
 add-j : tie.Need-add-j Inv-loop μ-loop Inv-loop2 μ-loop2
 add-j c = search needs

@@ -49,7 +49,7 @@ put-requires : tie.Need-put-requires
 unfolding bytes bytes-from
 put-requires c κs =
     let s = c .before .before .before .before in
-    let l0 = all-left (paired s) (ruled s) (s .args .out .now) (s .args .at) (s .pre .1) in
+    let l0 = all-left (paired s) (ruled s) (s .args .out .now) (s .args .at) (s .pre .2) in
     left-room (bytes "WHEN ") (after-when (paired s) (ruled s)) l0
 
 slice-aggregate-put-pair : tie.Need-slice-aggregate-put-pair
@@ -60,7 +60,7 @@ unfolding bytes bytes-from
 put-pair-requires c κs =
     let p1 = c .before .before .before .before in
     let s = p1 .before .before .before .before .before in
-    let l0 = all-left (paired s) (ruled s) (s .args .out .now) (s .args .at) (s .pre .1) in
+    let l0 = all-left (paired s) (ruled s) (s .args .out .now) (s .args .at) (s .pre .2) in
     let l1 = left-on (after-when (paired s) (ruled s)) l0 (p1 .put .ensures) in
     (s .pre .0 .trigger, left-room (paired s (bytes " *= ") (ruled s .trigger)) (after-trigger (paired s) (ruled s)) l1)
 
@@ -73,7 +73,7 @@ put-requires-2 c κs =
     let p2 = c .before .before .before .before in
     let p1 = p2 .before .before .before .before .before in
     let s = p1 .before .before .before .before .before in
-    let l0 = all-left (paired s) (ruled s) (s .args .out .now) (s .args .at) (s .pre .1) in
+    let l0 = all-left (paired s) (ruled s) (s .args .out .now) (s .args .at) (s .pre .2) in
     let l1 = left-on (after-when (paired s) (ruled s)) l0 (p1 .put .ensures) in
     let l2 = left-on (after-trigger (paired s) (ruled s)) l1 (p2 .put-pair .ensures) in
     left-room (bytes " IF ") (after-if (paired s) (ruled s)) l2
@@ -85,7 +85,7 @@ put-condition-requires c κs =
     let p2 = p3 .before .before .before .before .before in
     let p1 = p2 .before .before .before .before .before in
     let s = p1 .before .before .before .before .before in
-    let l0 = all-left (paired s) (ruled s) (s .args .out .now) (s .args .at) (s .pre .1) in
+    let l0 = all-left (paired s) (ruled s) (s .args .out .now) (s .args .at) (s .pre .2) in
     let l1 = left-on (after-when (paired s) (ruled s)) l0 (p1 .put .ensures) in
     let l2 = left-on (after-trigger (paired s) (ruled s)) l1 (p2 .put-pair .ensures) in
     let l3 = left-on (after-if (paired s) (ruled s)) l2 (p3 .put2 .ensures) in
@@ -102,7 +102,7 @@ put-requires-3 c κs =
     let p2 = p3 .before .before .before .before .before in
     let p1 = p2 .before .before .before .before .before in
     let s = p1 .before .before .before .before .before in
-    let l0 = all-left (paired s) (ruled s) (s .args .out .now) (s .args .at) (s .pre .1) in
+    let l0 = all-left (paired s) (ruled s) (s .args .out .now) (s .args .at) (s .pre .2) in
     let l1 = left-on (after-when (paired s) (ruled s)) l0 (p1 .put .ensures) in
     let l2 = left-on (after-trigger (paired s) (ruled s)) l1 (p2 .put-pair .ensures) in
     let l3 = left-on (after-if (paired s) (ruled s)) l2 (p3 .put2 .ensures) in
@@ -118,13 +118,13 @@ put-assign-requires c κs =
     let p2 = p3 .before .before .before .before .before in
     let p1 = p2 .before .before .before .before .before in
     let s = p1 .before .before .before .before .before in
-    let l0 = all-left (paired s) (ruled s) (s .args .out .now) (s .args .at) (s .pre .1) in
+    let l0 = all-left (paired s) (ruled s) (s .args .out .now) (s .args .at) (s .pre .2) in
     let l1 = left-on (after-when (paired s) (ruled s)) l0 (p1 .put .ensures) in
     let l2 = left-on (after-trigger (paired s) (ruled s)) l1 (p2 .put-pair .ensures) in
     let l3 = left-on (after-if (paired s) (ruled s)) l2 (p3 .put2 .ensures) in
     let l4 = left-on (after-condition (paired s) (ruled s)) l3 (p4 .put-condition .ensures) in
     let l5 = left-on (after-then (paired s) (ruled s)) l4 (p5 .put3 .ensures) in
-    (s .pre .0, left-room (assign-bytes (paired s) (ruled s .assignments)) (bytes ";\n") l5)
+    (s .pre .0, s .pre .1, left-room (assign-bytes (paired s) (ruled s .assignments)) (bytes ";\n") l5)
 
 slice-aggregate-put-4 : tie.Need-slice-aggregate-put-4
 slice-aggregate-put-4 c = search needs
@@ -139,7 +139,7 @@ put-requires-4 c κs =
     let p2 = p3 .before .before .before .before .before in
     let p1 = p2 .before .before .before .before .before in
     let s = p1 .before .before .before .before .before in
-    let l0 = all-left (paired s) (ruled s) (s .args .out .now) (s .args .at) (s .pre .1) in
+    let l0 = all-left (paired s) (ruled s) (s .args .out .now) (s .args .at) (s .pre .2) in
     let l1 = left-on (after-when (paired s) (ruled s)) l0 (p1 .put .ensures) in
     let l2 = left-on (after-trigger (paired s) (ruled s)) l1 (p2 .put-pair .ensures) in
     let l3 = left-on (after-if (paired s) (ruled s)) l2 (p3 .put2 .ensures) in
@@ -159,7 +159,7 @@ returns c =
     let p2 = p3 .before .before .before .before .before in
     let p1 = p2 .before .before .before .before .before in
     let s = p1 .before .before .before .before .before in
-    let l0 = all-left (paired s) (ruled s) (s .args .out .now) (s .args .at) (s .pre .1) in
+    let l0 = all-left (paired s) (ruled s) (s .args .out .now) (s .args .at) (s .pre .2) in
     let l1 = left-on (after-when (paired s) (ruled s)) l0 (p1 .put .ensures) in
     let l2 = left-on (after-trigger (paired s) (ruled s)) l1 (p2 .put-pair .ensures) in
     let l3 = left-on (after-if (paired s) (ruled s)) l2 (p3 .put2 .ensures) in
