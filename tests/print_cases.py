@@ -66,6 +66,19 @@ def example(name):
         return file.read()
 
 
+def guide():
+    """The editors' guide."""
+    with open(os.path.join(TOP, 'docs/EDITORS.md'), encoding='utf-8') as file:
+        return file.read()
+
+
+def guided():
+    """The file of the guide's section on the house style, and what it is said to print as."""
+    section = guide().split('\n## The house style\n')[1].split('\n## ')[0]
+    before, after = re.findall(r'(?:^    .*\n|^\n(?=    ))+', section, re.M)
+    return [re.sub(r'^    ', '', block, flags=re.M).lstrip('\n').encode() for block in (before, after)]
+
+
 def lettered():
     """The rules of cases A to L: F and K and L have those of C, G those of A."""
     a, b, c = b'WHEN x *= 1 IF y |= 0 THEN z := 1;', b'WHEN z *= 1 IF y |= 0 THEN y := 1;', b'WHEN z *= 1 IF y |= 0 THEN x := 1;'
@@ -117,7 +130,7 @@ def respaced(chance, text):
 
 def cases():
     yield from [(b'', 0), (b'', 5), (b' \t\r\n', 0)]
-    for text in [*lettered(), example('case-c'), example('dialect'), CANCELLED]:
+    for text in [*lettered(), example('case-c'), example('dialect'), *guided(), CANCELLED]:
         outcome = printed(text, LONGEST)
         length = 40 if isinstance(outcome, bytes) else sum(map(len, outcome))
         yield from [(text, room) for room in (length, length - 1, length + 7, 0)]
