@@ -56,7 +56,7 @@ def main():
         print(f'rows stand for {rows}')
         wrong = 1
     before, after = print_cases.guided()
-    if b''.join(print_cases.printed(before, print_cases.LONGEST)) != after:
+    if b''.join(print_cases.printed(before, print_cases.PRINT_BYTES)) != after:
         print('the file in the house style is not the print of the one before it')
         wrong = 1
     if not printed((SLOTS, CARD, SLIP)).startswith('change dating before-1900\n'):

@@ -3,7 +3,8 @@
 use std::collections::HashSet;
 
 use crate::fault::Fault;
-use crate::print::{self, lines, PRINT};
+use crate::print::{self, lines};
+use crate::raw::PRINT_BYTES;
 use crate::read::{is_value_in_rule, meaning, read, read_rules, walk, Placed, Walk, Want, GRAMMAR, NAME};
 use crate::table::{Name, Rule, SlotLine};
 use crate::text::Kind;
@@ -144,9 +145,9 @@ fn printed(fault: Fault, text: &[u8], room: usize) -> Result<Vec<u8>, Refusal> {
     refused(fault, text)?;
     let print = styled(fault, text);
     let most = match fault {
-        Fault::LongestPrintRefused => PRINT - 1,
-        Fault::LongerPrintAccepted => PRINT + 1,
-        _ => PRINT,
+        Fault::LongestPrintRefused => PRINT_BYTES - 1,
+        Fault::LongerPrintAccepted => PRINT_BYTES + 1,
+        _ => PRINT_BYTES,
     };
     let short = room + usize::from(fault == Fault::OneShortPrinted) < print.len();
     match (print.len() > most, short) {
