@@ -29,13 +29,6 @@ def examples(guide):
             yield row[0], (SLOTS + found[2].encode(), CARD, SLIP)
 
 
-def styled(guide):
-    """The file of the section on the house style, and what it is said to print as."""
-    section = guide.split('\n## The house style\n')[1].split('\n## ')[0]
-    blocks = re.findall(r'(?:^    .*\n|^\n(?=    ))+', section, re.M)
-    return [re.sub(r'^    ', '', block, flags=re.M).lstrip('\n').encode() for block in blocks]
-
-
 def printed(files):
     """What the program prints for three files."""
     with tempfile.TemporaryDirectory() as folder:
@@ -46,8 +39,7 @@ def printed(files):
 
 
 def main():
-    with open(os.path.join(TOP, 'docs/EDITORS.md'), encoding='utf-8') as file:
-        guide = file.read()
+    guide = print_cases.guide()
     with open(os.path.join(TOP, 'examples/dialect/expected'), encoding='utf-8') as file:
         listing = ''.join(f'    {line}' for line in file)
     wrong, numbers = 0, []
@@ -63,8 +55,8 @@ def main():
     if rows != [*range(10, 19), 34, *range(20, 29), 40, *range(30, 34)]:
         print(f'rows stand for {rows}')
         wrong = 1
-    before, after = styled(guide)
-    if b''.join(print_cases.printed(before, print_cases.LONGEST)) != after:
+    before, after = print_cases.guided()
+    if b''.join(print_cases.printed(before, print_cases.PRINT_BYTES)) != after:
         print('the file in the house style is not the print of the one before it')
         wrong = 1
     if not printed((SLOTS, CARD, SLIP)).startswith('change dating before-1900\n'):

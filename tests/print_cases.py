@@ -18,7 +18,7 @@ from read_cases import XYZ, File, reading, rule, tokens
 from stored import run
 
 TOP = os.path.dirname(os.path.dirname(os.path.abspath(__file__)))
-LONGEST = 65535
+PRINT_BYTES = 65535
 MARGIN = 16
 
 
@@ -47,7 +47,7 @@ def printed(text, room):
     file.read()
     lines = styled(file)
     length = sum(map(len, lines))
-    return b'refused 34 0' if length > LONGEST else b'refused 33 0' if length > room else lines
+    return b'refused 34 0' if length > PRINT_BYTES else b'refused 33 0' if length > room else lines
 
 
 def written(text, room):
@@ -64,6 +64,19 @@ def example(name):
     """The rules of an example's folder."""
     with open(os.path.join(TOP, 'examples', name, 'rules.txt'), 'rb') as file:
         return file.read()
+
+
+def guide():
+    """The editors' guide."""
+    with open(os.path.join(TOP, 'docs/EDITORS.md'), encoding='utf-8') as file:
+        return file.read()
+
+
+def guided():
+    """The file of the guide's section on the house style, and what it is said to print as."""
+    section = guide().split('\n## The house style\n')[1].split('\n## ')[0]
+    before, after = re.findall(r'(?:^    .*\n|^\n(?=    ))+', section, re.M)
+    return [re.sub(r'^    ', '', block, flags=re.M).lstrip('\n').encode() for block in (before, after)]
 
 
 def lettered():
@@ -117,16 +130,16 @@ def respaced(chance, text):
 
 def cases():
     yield from [(b'', 0), (b'', 5), (b' \t\r\n', 0)]
-    for text in [*lettered(), example('case-c'), example('dialect'), CANCELLED]:
-        outcome = printed(text, LONGEST)
+    for text in [*lettered(), example('case-c'), example('dialect'), *guided(), CANCELLED]:
+        outcome = printed(text, PRINT_BYTES)
         length = 40 if isinstance(outcome, bytes) else sum(map(len, outcome))
         yield from [(text, room) for room in (length, length - 1, length + 7, 0)]
     chance = random.Random(34)
     yield from [(respaced(chance, CANCELLED), 256) for _ in range(20)]
     for text in REFUSED:
         yield from [(text, 0), (text, 300)]
-    yield from [(longest(0), LONGEST), (longest(0), LONGEST + 1), (longest(0), LONGEST - 1), (longest(0), 0)]
-    yield from [(longest(more), room) for more in (1, 2) for room in (0, LONGEST, LONGEST + more)]
+    yield from [(longest(0), PRINT_BYTES), (longest(0), PRINT_BYTES + 1), (longest(0), PRINT_BYTES - 1), (longest(0), 0)]
+    yield from [(longest(more), room) for more in (1, 2) for room in (0, PRINT_BYTES, PRINT_BYTES + more)]
 
 
 def stretch(part):
@@ -143,7 +156,7 @@ def stored():
     yield 'tests/stored/prints/input', given
     yield 'tests/stored/prints/expected', lines
     for name in ('case-c', 'dialect'):
-        yield f'examples/{name}/print.txt', b''.join(printed(example(name), LONGEST))
+        yield f'examples/{name}/print.txt', b''.join(printed(example(name), PRINT_BYTES))
 
 
 def quoted():
@@ -151,7 +164,7 @@ def quoted():
     path = 'crates/style/proofs/Cases.antt'
     with open(os.path.join(TOP, path), encoding='utf-8') as file:
         before, after = re.search(r'^dialect =$(.*?)^pub case-dialect(.*?)^unfolding', file.read(), re.M | re.S).groups()
-    for part, text in ((before, example('dialect')), (after, b''.join(printed(example('dialect'), LONGEST)))):
+    for part, text in ((before, example('dialect')), (after, b''.join(printed(example('dialect'), PRINT_BYTES)))):
         if ''.join(line + '\n' for line in re.findall('"(.*?)"', part)).encode() != text:
             print(f'{path} quotes examples/dialect otherwise')
             return 1

@@ -1,7 +1,7 @@
 //! The native engine held to the second engine on generated inputs, good and damaged.
 
 use native::engine::{Engine, Native};
-use native::raw::Tally;
+use native::raw::{Tally, PRINT_BYTES};
 use native::response::Outputs;
 use native::table::{Assignment, Literal, Name, Rule, Slot, Table};
 use native::Refusal;
@@ -9,7 +9,7 @@ use second::engine::{Engine as _, Second};
 use second::gen::{any_file, card, rooms, slip, tally, Rng};
 use second::gen_tables::damaged;
 use second::gen_text::Sketch;
-use second::print::{printed, put, PRINT};
+use second::print::{printed, put};
 use second::table::Table as SecondTable;
 
 /// The second engine's table in the native layout.
@@ -72,7 +72,7 @@ fn responses(rng: &mut Rng, table: &SecondTable, sketch: &Sketch, engine: &mut N
 /// Prints of both engines into outputs about as long as the print; gives the numbers they came to.
 fn prints(text: &[u8], engine: &mut Native) -> [u8; 4] {
     let print = printed(text);
-    let length = print.as_ref().map_or(PRINT + 1, Vec::len);
+    let length = print.as_ref().map_or(PRINT_BYTES + 1, Vec::len);
     [length, length.saturating_sub(1), length + 5, 0].map(|room| {
         let (mut theirs, mut ours) = (vec![0xA5; room], vec![0xA5; room]);
         let their_length = print.as_ref().map_err(|why| *why).and_then(|print| put(print, &mut theirs));
@@ -96,7 +96,9 @@ fn agrees_with_the_second_engine() {
         assert_eq!(why.map(refused), ours.err(), "{}", String::from_utf8_lossy(&file.text));
         assert!(*converted(&theirs) == *engine.table(), "round {round}");
         seen[why.map_or(0, |why| why.number) as usize] += 1;
-        prints(&file.text, &mut engine).map(|number| seen[number as usize] += 1);
+        for number in prints(&file.text, &mut engine) {
+            seen[number as usize] += 1;
+        }
         let given = if round % 4 == 0 { damaged(&mut rng, &theirs, file.text.len()) } else { theirs };
         for _ in 0..3 {
             seen[responses(&mut rng, &given, &file.sketch, &mut engine) as usize] += 1;

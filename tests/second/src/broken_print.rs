@@ -1,8 +1,12 @@
 //! Printing with one fault.
 
+use std::collections::HashSet;
+
 use crate::fault::Fault;
-use crate::print::{self, lines, PRINT};
-use crate::read::{read, read_rules, walk, Placed, Want, GRAMMAR};
+use crate::print::{self, lines};
+use crate::raw::PRINT_BYTES;
+use crate::read::{is_value_in_rule, meaning, read, read_rules, walk, Placed, Walk, Want, GRAMMAR, NAME};
+use crate::table::{Name, Rule, SlotLine};
 use crate::text::Kind;
 use crate::{refusal, Refusal};
 
@@ -33,12 +37,92 @@ fn between(fault: Fault, last: Kind, next: Kind) -> &'static str {
     }
 }
 
+/// The names of values in rules, in their order, each the one of its number in the first slot that has so many.
+fn of_first_slots(slots: &[SlotLine], rules: &[Rule]) -> Vec<Name> {
+    let mut names = Vec::new();
+    for rule in rules {
+        let literals = rule.literals.iter().map(|literal| literal.pair);
+        let pairs = std::iter::once(rule.trigger).chain(literals).chain(rule.assignments.iter().copied());
+        names.extend(pairs.filter_map(|(_, value)| slots.iter().find_map(|slot| slot.values.get(value as usize - 1))));
+    }
+    names
+}
+
+/// The walk of an accepted text, its names placed as the fault has them.
+fn walked(fault: Fault, text: &[u8]) -> Walk {
+    let mut walk = walk(text, GRAMMAR);
+    match fault {
+        Fault::LongNameCut => {
+            let names = walk.placed.iter_mut().filter(|at| at.token.kind == Kind::Name);
+            names.for_each(|at| at.token.size = at.token.size.min(NAME - 1));
+        }
+        Fault::ValueOfFirstSlot => {
+            let (slots, rules) = meaning(text, &walk);
+            let values = walk.placed.iter_mut().filter(|at| is_value_in_rule(at));
+            let named = values.zip(of_first_slots(&slots, &rules));
+            named.for_each(|(at, name)| (at.token.start, at.token.size) = (name.start, name.size));
+        }
+        _ => {}
+    }
+    walk
+}
+
+/// A printed line with the list changed that stands between two marks, its parts divided by a third.
+fn relisted(line: &str, marks: [&str; 3], change: impl FnOnce(&mut Vec<&str>)) -> String {
+    let [from, by, to] = marks;
+    match line.split_once(from).and_then(|(front, rest)| Some((front, rest.split_once(to)?))) {
+        Some((front, (list, back))) => {
+            let mut parts: Vec<&str> = list.split(by).collect();
+            change(&mut parts);
+            [front, from, &parts.join(by), to, back].concat()
+        }
+        _ => line.to_string(),
+    }
+}
+
+/// Keeps the first of equal parts.
+fn once(parts: &mut Vec<&str>) {
+    let mut seen = HashSet::new();
+    parts.retain(|part| seen.insert(*part));
+}
+
+/// A printed line as the fault has it.
+fn changed(fault: Fault, line: &str) -> String {
+    let (listed, literals) = ([" { ", ", ", " };"], [" IF ", " AND ", " THEN "]);
+    match fault {
+        Fault::WasAsChangesTo => line.replace("|=", "*="),
+        Fault::ValuesSorted if line.starts_with("SLOT ") => relisted(line, listed, |values| values.sort_unstable()),
+        Fault::AssignmentsSorted if line.starts_with("WHEN ") => {
+            relisted(line, listed, |assignments| assignments.sort_unstable())
+        }
+        Fault::NegatedLast => relisted(line, literals, |tests| tests.sort_by_key(|test| test.starts_with("NOT "))),
+        Fault::LiteralOnce => relisted(line, literals, once),
+        _ => line.to_string(),
+    }
+}
+
+/// Puts the lines of an accepted text's rules in the order of the strata.
+fn by_strata(text: &[u8], lines: &mut Vec<Vec<u8>>) {
+    let table = read(text).expect("the text is accepted");
+    let strata = table.rules.iter().map(|rule| rule.stratum);
+    let mut rules: Vec<(u8, Vec<u8>)> = strata.zip(lines.split_off(table.width)).collect();
+    rules.sort_by_key(|(stratum, _)| *stratum);
+    lines.extend(rules.into_iter().map(|(_, line)| line));
+}
+
 /// The text in the style that the fault has.
 fn styled(fault: Fault, text: &[u8]) -> Vec<u8> {
-    let walk = walk(text, GRAMMAR);
     let stays = |statement: &[Placed], at: usize| stays(fault, statement, at);
-    let mut lines = lines(text, &walk, stays, |last, next| between(fault, last, next));
+    let mut lines = lines(text, &walked(fault, text), stays, |last, next| between(fault, last, next));
+    for line in &mut lines {
+        *line = changed(fault, &String::from_utf8_lossy(line)).into_bytes();
+    }
     match fault {
+        Fault::SlotsSorted => {
+            let slots = lines.partition_point(|line| line.starts_with(b"SLOT "));
+            lines[..slots].sort_unstable();
+        }
+        Fault::RulesByStrata => by_strata(text, &mut lines),
         Fault::RuleOnce => lines.dedup(),
         Fault::ReturnPrinted => lines.iter_mut().for_each(|line| line.insert(line.len() - 1, b'\r')),
         Fault::NoLastNewline => lines.last_mut().into_iter().for_each(|line| line.truncate(line.len() - 1)),
@@ -61,9 +145,9 @@ fn printed(fault: Fault, text: &[u8], room: usize) -> Result<Vec<u8>, Refusal> {
     refused(fault, text)?;
     let print = styled(fault, text);
     let most = match fault {
-        Fault::LongestPrintRefused => PRINT - 1,
-        Fault::LongerPrintAccepted => PRINT + 1,
-        _ => PRINT,
+        Fault::LongestPrintRefused => PRINT_BYTES - 1,
+        Fault::LongerPrintAccepted => PRINT_BYTES + 1,
+        _ => PRINT_BYTES,
     };
     let short = room + usize::from(fault == Fault::OneShortPrinted) < print.len();
     match (print.len() > most, short) {

@@ -7,7 +7,8 @@ use crate::engine::{Engine, Second};
 use crate::gen::{self, any_file, File, Rng};
 use crate::gen_tables::damaged;
 use crate::gen_text::Sketch;
-use crate::print::{print_of, put, PRINT};
+use crate::print::{print_of, put};
+use crate::raw::PRINT_BYTES;
 use crate::read::read_rules;
 use crate::response::{needed, Outputs, Tally};
 use crate::table::{table_of, Table};
@@ -96,7 +97,7 @@ fn compare_print(other: &mut dyn Engine, text: &[u8], refused: Option<Refusal>) 
     let about = |length: usize| vec![length, length.saturating_sub(1), length + 5, 0];
     let rooms = match &print {
         Ok(print) => about(print.len()),
-        Err(why) if why.number == 34 => about(PRINT + 1),
+        Err(why) if why.number == 34 => about(PRINT_BYTES + 1),
         Err(_) => vec![text.len(), 0],
     };
     for room in rooms {

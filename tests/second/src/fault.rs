@@ -169,6 +169,24 @@ faults! {
     OneInBraces,
     /// Two assignments or more are printed without braces.
     TwoWithoutBraces,
+    /// A name of 24 bytes is printed without its last byte.
+    LongNameCut,
+    /// A value in a rule is printed as the value of its number in the first slot that has so many.
+    ValueOfFirstSlot,
+    /// `|=` is printed as `*=`.
+    WasAsChangesTo,
+    /// Slots are printed in the order of their names.
+    SlotsSorted,
+    /// The values of a slot are printed in the order of their names.
+    ValuesSorted,
+    /// Rules are printed in the order of their strata.
+    RulesByStrata,
+    /// Literals under NOT are printed after the others.
+    NegatedLast,
+    /// A literal that prints like one before it in its rule is not printed.
+    LiteralOnce,
+    /// Assignments are printed in the order of their names.
+    AssignmentsSorted,
     /// A rule that prints like the one before it is not printed.
     RuleOnce,
     /// Byte 13 is printed before byte 10.

@@ -2,7 +2,8 @@
 
 use crate::gen::{File, Rng};
 use crate::gen_text::{join, sketch, sketch_tokens, Shape, Sketch};
-use crate::print::{styled, PRINT};
+use crate::print::styled;
+use crate::raw::PRINT_BYTES;
 use crate::table::{Literal, Rule, LITERALS, RULES, SLOTS, VALUES};
 
 /// The shape that the slots and rules are taken from.
@@ -37,7 +38,7 @@ fn slot_of(number: usize, length: usize) -> (String, Vec<String>) {
     (name.to_string(), (0..values).map(value).collect())
 }
 
-/// How many bytes the slots of a sketch print as with one of some rules, or without.
+/// How many bytes the slots of a sketch print as, with a rule or without.
 fn length(rng: &mut Rng, sketch: &Sketch, rule: Option<&Rule>) -> usize {
     let part = Sketch { rules: rule.into_iter().cloned().collect(), ..sketch.clone() };
     let tokens = sketch_tokens(rng, &part);
@@ -51,7 +52,7 @@ pub fn long_print(rng: &mut Rng) -> File {
     let rules: Vec<Rule> = std::mem::take(&mut sketch.rules).iter().map(crowded).collect();
     let lines = length(rng, &sketch, None);
     let lengths: Vec<usize> = rules.iter().map(|rule| length(rng, &sketch, Some(rule)) - lines).collect();
-    let mut left = PRINT - 1 + *rng.pick(&[0, 1, 1, 2, 2, 300]) - lines;
+    let mut left = PRINT_BYTES - 1 + *rng.pick(&[0, 1, 1, 2, 2, 300]) - lines;
     for (rule, length) in rules.iter().zip(&lengths).cycle().take(RULES) {
         if left < length + LEAST {
             break;

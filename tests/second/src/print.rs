@@ -1,11 +1,9 @@
 //! The house style: an accepted text's own tokens, without those that say nothing, spaced in one manner.
 
+use crate::raw::PRINT_BYTES;
 use crate::read::{read, walk, Placed, Walk, Want, GRAMMAR};
 use crate::text::Kind;
 use crate::{refusal, Refusal};
-
-/// The most bytes of a print.
-pub const PRINT: usize = 65_535;
 
 /// Whether a token of a statement stays in its print: of a run of NOTs the last where their number is odd, TRUE without AND, braces of a rule round two assignments or more, all else.
 pub fn stays(statement: &[Placed], at: usize) -> bool {
@@ -62,7 +60,7 @@ pub fn styled(text: &[u8]) -> Vec<u8> {
 /// The print of an accepted text, or 34.
 pub fn print_of(text: &[u8]) -> Result<Vec<u8>, Refusal> {
     let print = styled(text);
-    if print.len() > PRINT {
+    if print.len() > PRINT_BYTES {
         Err(refusal(34, 0))
     } else {
         Ok(print)

@@ -13,8 +13,8 @@ fn number(input: &mut &[u8], bytes: usize) -> usize {
     front.iter().fold(0, |so_far, byte| so_far * 256 + usize::from(*byte))
 }
 
-/// A length in two bytes and so many bytes.
-fn stretch<'a>(input: &mut &'a [u8]) -> &'a [u8] {
+/// A length in two bytes and so many bytes, from the front of an input.
+pub fn stretch<'a>(input: &mut &'a [u8]) -> &'a [u8] {
     let length = number(input, 2);
     let (front, rest) = input.split_at(length);
     *input = rest;

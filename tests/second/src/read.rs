@@ -155,7 +155,7 @@ fn is_slot_in_rule(at: &Placed) -> bool {
 }
 
 /// Whether a token is a value's name in a rule.
-fn is_value_in_rule(at: &Placed) -> bool {
+pub fn is_value_in_rule(at: &Placed) -> bool {
     matches!(at.want, Want::TriggerValue | Want::LiteralValue | Want::OnlyValue | Want::ListedValue)
 }
 

@@ -1,15 +1,14 @@
 //! The stored texts, two bytes of length before each, and the lines of what an engine says of them.
 
 use crate::engine::Engine;
+use crate::print_lines::stretch;
 use crate::table::{Name, RulePlace, Table, VALUES};
 
 /// The texts in an input.
 fn texts(mut input: &[u8]) -> Vec<&[u8]> {
     let mut found = Vec::new();
-    while let [high, low, rest @ ..] = input {
-        let (text, after) = rest.split_at(usize::from(*high) * 256 + usize::from(*low));
-        found.push(text);
-        input = after;
+    while !input.is_empty() {
+        found.push(stretch(&mut input));
     }
     found
 }

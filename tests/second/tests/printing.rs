@@ -2,8 +2,9 @@
 
 use second::engine::{Engine, Second};
 use second::gen::{any_file, Rng};
-use second::print::{printed, PRINT};
+use second::print::printed;
 use second::program_cases::{A, B, C, D, E, H, SLOTS};
+use second::raw::PRINT_BYTES;
 use second::read::read;
 use second::table::{Name, Table};
 use second::{refusal, Refusal};
@@ -95,12 +96,12 @@ fn order_and_repeats_stay() {
 #[test]
 fn the_longest_print_and_one_byte_more() {
     let (longest, longer) = (long_text(8), long_text(9));
-    assert!(longer.len() < PRINT);
-    let (result, output) = into(&longest, PRINT);
-    assert_eq!((result, output.len()), (Ok(PRINT), 65_535));
+    assert!(longer.len() < PRINT_BYTES);
+    let (result, output) = into(&longest, PRINT_BYTES);
+    assert_eq!((result, output.len()), (Ok(PRINT_BYTES), 65_535));
     assert_eq!(printed(&output), Ok(output));
-    assert_eq!(into(&longest, PRINT - 1), (Err(refusal(33, 0)), vec![7; PRINT - 1]));
-    for room in [0, PRINT, PRINT + 1, PRINT + 9] {
+    assert_eq!(into(&longest, PRINT_BYTES - 1), (Err(refusal(33, 0)), vec![7; PRINT_BYTES - 1]));
+    for room in [0, PRINT_BYTES, PRINT_BYTES + 1, PRINT_BYTES + 9] {
         assert_eq!(into(&longer, room), (Err(refusal(34, 0)), vec![7; room]));
     }
 }
