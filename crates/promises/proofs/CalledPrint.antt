@@ -7,7 +7,6 @@ use lib.ListN.{length}
 use Rattle.laws.specs.Answers.{OrRefused, taken, refused, output-of}
 use Rattle.reader.specs.declared.Outcome.{Outcome}
 use Rattle.reader.specs.Tables as reader
-use Rattle.rule_file.specs.Whole.{reading}
 use Rattle.printing.specs.Printing.{printed, printing-of, printing-refusal, printing-second, printing-length}
 use Rattle.promises.specs.Refusals.{OneOf, Only, of-file, of-print}
 use Rattle.promises.specs.HouseStyle.{InStyle}
