@@ -10,6 +10,7 @@ use lib.Seq.{ext-getD}
 use borrow.Author.Tests.{lt-ltb, le-leb}
 use Rattle.laws.specs.Truth.{_∧ᵇ_}
 use Rattle.text.specs.Tokens.{Name}
+use Rattle.model.specs.Rules.{Rule}
 use Rattle.model.specs.Strata.{strict}
 use Rattle.model.specs.Least.{strata-of}
 use Rattle.table.specs.declared.Table.{Table}
@@ -19,7 +20,7 @@ use Rattle.names.specs.Names.{Showing, refused, has-slot, has-value}
 use Rattle.grammar.specs.Files.{Slot, File, spellings, no-slot, values-of, slot-counts}
 use Rattle.grammar.proofs.Accepts.{accepts-iff}
 use Rattle.style.specs.Printed.{lettered, Agree}
-use Rattle.style.proofs.Prints.{agree-behave}
+use Rattle.style.proofs.Prints.{agree-counts}
 use Rattle.rule_file.specs.Whole.{reading}
 use Rattle.rule_file.specs.Carries.{declared-slot, declared-value, Carries}
 use Rattle.rule_file.proofs.Declared.{Declared, read-declared}
@@ -86,7 +87,7 @@ module _ (text text′ : List ℕ) (c : Carries text (reading text .table)) (c�
   -- Files that agree make their texts alike.
   pub agree-alike : Agree f g → Alike text text′
   agree-alike a = record {
-    same-counts = c .counts-are ∙ agree-behave f g a .same-counts ∙ sym (c′ .counts-are);
+    same-counts = c .counts-are ∙ agree-counts f g a ∙ sym (c′ .counts-are);
     same-slots = λ s. c .slots-shown s ∙ slots-alike (f .slots) (g .slots) (a .same-slots) s ∙ sym (c′ .slots-shown s);
     same-values = λ s v. c .values-shown s v ∙ values-alike (f .slots) (g .slots) (a .same-slots) s v ∙ sym (c′ .values-shown s v);
     same-rules = c .rules-are ∙ a .same-rules ∙ sym (c′ .rules-are);
@@ -102,7 +103,7 @@ module _ (text text′ : List ℕ) (c : Carries text (reading text .table)) (c�
       each : (i : ℕ) → i < length (carried-strata (reading text .table)) → getD (carried-strata (reading text .table)) i 0 ≡ getD (carried-strata (reading text′ .table)) i 0
       each i h =
           let k : i < length (f .rules) = omega (arith, h, as-many-strata text _ c) in
-          strata-at text _ c i k ∙ ap (λ (u : ℕ → ℕ). u (suc i)) (agree-behave f g a .same-strata strict) ∙ sym (strata-at text′ _ c′ i (omega (arith, k, counted)))
+          strata-at text _ c i k ∙ ap (λ (rs : List Rule). strata-of strict rs (suc i)) (a .same-rules) ∙ sym (strata-at text′ _ c′ i (omega (arith, k, counted)))
 
   declared : Declared f
   declared = read-declared text f (accepts-iff text f .1 (c .is-file))

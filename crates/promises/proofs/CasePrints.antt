@@ -1,12 +1,14 @@
--- Texts printed by evaluation, with the order of refusals: 18 before 33, 33 at its edge, and nothing printed into no room.
+-- Texts printed by evaluation: the lettered cases of document 01, and the order of refusals: 18 and 12 before 33, 33 at its edge, and nothing printed into no room.
 -- Assumes nothing.
 use Prim.Native.Nat.{ℕ}
+use Prim.Native.String.{String}
 use mathlib.Core.Path.{_≡_, refl}
-use mathlib.Core.List.{List, [], _∷_, _++_}
+use mathlib.Core.List.{List, [], _∷_}
 use Rattle.laws.specs.Quoted.{bytes}
-use Rattle.laws.specs.Answers.{taken, refused}
+use Rattle.laws.specs.Answers.{OrRefused, taken, refused}
+use Rattle.grammar.specs.Limits.{max-text}
 use Rattle.grammar.proofs.Cases.{after-slots}
-use Rattle.style.proofs.Cases.{prints}
+use Rattle.style.proofs.Cases.{prints, lines}
 use Rattle.rule_file.proofs.Cases.{runs}
 use Rattle.printing.specs.Printing.{print-of, fitted, after-reading, printed}
 
@@ -15,11 +17,52 @@ unfoldable runs-print : Unit {0}
 unfolding runs prints print-of fitted after-reading printed
 runs-print = tt
 
+-- The print of rules after the slots of document 01's cases, into an output as long as a text may be.
+abbrev case-printed : String → OrRefused (List ℕ)
+case-printed s = printed (after-slots s) max-text
+
+-- What it comes to: these slots and the lines of rules.
+abbrev as-lines : List String → OrRefused (List ℕ)
+as-lines ss = taken (lines ("SLOT x { 0, 1 };" ∷ "SLOT y { 0, 1 };" ∷ "SLOT z { 0, 1 };" ∷ ss))
+
+-- Cases A (G), B, C (F, K, L), D, which is refused with 18 and rule 1, E, H, I, which prints as A does, and J, which is refused with 12.
+pub case-A : case-printed "WHEN x *= 1 IF y |= 0 THEN z := 1;" ≡ as-lines ("WHEN x *= 1 IF y |= 0 THEN z := 1;" ∷ [])
+unfolding runs-print
+case-A = refl
+
+pub case-B : case-printed "WHEN z *= 1 IF y |= 0 THEN y := 1;" ≡ as-lines ("WHEN z *= 1 IF y |= 0 THEN y := 1;" ∷ [])
+unfolding runs-print
+case-B = refl
+
+pub case-C : case-printed "WHEN x *= 1 IF y |= 0 THEN z := 1;WHEN z *= 1 IF y |= 0 THEN y := 1;" ≡ as-lines ("WHEN x *= 1 IF y |= 0 THEN z := 1;" ∷ "WHEN z *= 1 IF y |= 0 THEN y := 1;" ∷ [])
+unfolding runs-print
+case-C = refl
+
+pub case-D : case-printed "WHEN x *= 1 IF y |= 0 THEN z := 1;WHEN z *= 1 IF y |= 0 THEN x := 1;" ≡ refused 18 1
+unfolding runs-print
+case-D = refl
+
+pub case-E : case-printed "WHEN y *= 1 IF NOT x *= 1 THEN z := 1;WHEN y *= 1 IF x |= 0 THEN x := 1;" ≡ as-lines ("WHEN y *= 1 IF NOT x *= 1 THEN z := 1;" ∷ "WHEN y *= 1 IF x |= 0 THEN x := 1;" ∷ [])
+unfolding runs-print
+case-E = refl
+
+pub case-H : case-printed "WHEN x *= 1 IF TRUE THEN x := 0;" ≡ as-lines ("WHEN x *= 1 IF TRUE THEN x := 0;" ∷ [])
+unfolding runs-print
+case-H = refl
+
+pub case-I : case-printed "WHEN x *= 1 IF TRUE AND y |= 0 THEN z := 1;" ≡ as-lines ("WHEN x *= 1 IF y |= 0 THEN z := 1;" ∷ [])
+unfolding runs-print
+case-I = refl
+
+pub case-J : case-printed "WHEN x *= 1 IF y |= 0 AND TRUE THEN z := 1;" ≡ refused 12 0
+unfolding runs-print
+case-J = refl
+
 -- One slot, whose print takes 17 bytes.
 abbrev one-slot : List ℕ
 one-slot = bytes "SLOT x{0,1};"
 
-pub case-edge : (printed one-slot 16 ≡ refused 33 0) × (printed one-slot 17 ≡ taken (bytes "SLOT x { 0, 1 };" ++ 10 ∷ [])) × (printed one-slot 99 ≡ printed one-slot 17)
+pub case-edge : (printed one-slot 16 ≡ refused 33 0) × (printed one-slot 17 ≡ taken (lines ("SLOT x { 0, 1 };" ∷ []))) × (printed one-slot 99 ≡ printed one-slot 17)
 unfolding runs-print
 case-edge = (refl, refl, refl)
 

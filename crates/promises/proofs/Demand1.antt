@@ -23,7 +23,7 @@ use Rattle.tally.specs.Counting.{is-full, one-refused}
 use Rattle.response.specs.Respond.{Rooms, answer-to, counted, tally-after, response-to, outputs-after}
 use Rattle.promises.specs.Refusals.{OneOf, Only, of-card, of-slip, of-card-packed, of-slip-packed, Demand1}
 use Rattle.promises.proofs.Refusals.{one-of, one-of-more, only-more, only-cond, card-refused, slip-refused, card-write-refused, slip-write-refused, response-refused}
-use Rattle.promises.proofs.Fitted.{text-comes, print-refused, print-second}
+use Rattle.promises.proofs.Outcomes.{text-comes, print-refused, print-second}
 use Rattle.promises.proofs.Engines.{only-full, always-full}
 
 -- 31 before other refusals.

@@ -5,7 +5,7 @@ use mathlib.Core.Path.{_≡_, sym, ap, subst, _∙_}
 use mathlib.Core.List.{List}
 use mathlib.Core.Logic.{_↔_}
 use lib.ListN.{length}
-use Rattle.laws.specs.Answers.{OrRefused, taken}
+use Rattle.laws.specs.Answers.{taken}
 use Rattle.laws.proofs.Equations.{is-true}
 use Rattle.text.specs.Tokens.{tokens}
 use Rattle.model.specs.Rules.{Rule}
@@ -29,20 +29,30 @@ use Rattle.rule_file.specs.Whole.{reading}
 use Rattle.rule_file.specs.Carries.{Carries}
 use Rattle.rule_file.proofs.Answers.{reading-accepted-iff, reading-carries, reading-passes}
 use Rattle.printing.specs.Printing.{print-of, printed}
-use Rattle.printing.proofs.Fitting.{refused-first}
+use Rattle.printing.proofs.Fitting.{print-is, refused-first}
 use Rattle.cards.specs.Cards.{if-sound}
 use Rattle.tally.specs.declared.Tally.{Tally}
-use Rattle.response.specs.Ending.{Answer}
-use Rattle.response.specs.Respond.{Rooms, answer-by-table, answer-to, outcome-of, tally-after, response-to}
+use Rattle.response.specs.Respond.{Rooms, answer-by-table, answer-to}
 use Rattle.promises.specs.Agreement.{responds}
 use Rattle.promises.specs.HouseStyle.{Alike, InStyle, HouseStyle}
-use Rattle.promises.proofs.Fitted.{comes-34, comes-33, comes-whole, is-34, is-33, is-whole}
+use Rattle.promises.proofs.Outcomes.{comes-34, comes-33, comes-whole, is-34, is-33, is-whole}
 use Rattle.promises.proofs.Alike.{agree-alike, alike-agree}
 
--- What is printed of an accepted text is the print of its file.
-print-is : (text : List ℕ) (f : File) → Is-file text f → print-of (read text) ≡ print f
-unfolding print-of
-print-is text f h = ap print-of (accepts-iff text f .1 h)
+-- The print of every accepted text is in the style, whatever its length.
+style : (text : List ℕ) → reading text .outcome ≡ Accepted → InStyle text (print-of (read text))
+unfolding print
+style text o =
+    let c = reading-carries text o in
+    let p = print-is text (c .file) (c .is-file) in
+    record {
+      file = c .file;
+      is-file = c .is-file;
+      means = canonical-means (c .is-file .tree) (c .file) (c .is-file .means);
+      tidy = canonical-tidy (c .file);
+      laid-out = p;
+      tokens-are = ap (λ (b : List ℕ). by-letters (tokens b)) p ∙ print-tokens text (c .file) (c .is-file);
+      no-other = λ t m d. tidy-print t (c .file) m d ∙ sym p;
+    }
 
 -- Two accepted texts print alike exactly when they are alike.
 alike-iff : (text text′ : List ℕ) → reading text .outcome ≡ Accepted → reading text′ .outcome ≡ Accepted → (print-of (read text) ≡ print-of (read text′)) ↔ Alike text text′
@@ -110,21 +120,6 @@ module _ (text : List ℕ) (room : ℕ) (bytes : List ℕ) (e : printed text roo
   short : length bytes ≤ max-text
   short = is-whole text room bytes e .2
 
-  style : InStyle text bytes
-  unfolding print
-  style =
-      let c = reading-carries text is-accepted in
-      let p = is-print ∙ print-is text (c .file) (c .is-file) in
-      record {
-        file = c .file;
-        is-file = c .is-file;
-        means = canonical-means (c .is-file .tree) (c .file) (c .is-file .means);
-        tidy = canonical-tidy (c .file);
-        laid-out = p;
-        tokens-are = ap (λ (b : List ℕ). by-letters (tokens b)) p ∙ print-tokens text (c .file) (c .is-file);
-        no-other = λ t m d. tidy-print t (c .file) m d ∙ sym p;
-      }
-
   back : (reading bytes .outcome ≡ Accepted) × Alike text bytes
   back = subst (λ (b : List ℕ). (reading b .outcome ≡ Accepted) × Alike text b) (sym is-print) (reads-back text is-accepted (subst (λ (b : List ℕ). length b ≤ max-text) is-print short))
 
@@ -145,11 +140,6 @@ unfolding answer-to answer-by-table if-sound
 answers-alike text text′ a y card slip rooms =
     rw (is-true (sound (reading text .table)) (reading-passes text), is-true (sound (reading text′ .table)) (reading-passes text′), a .same-counts, a .same-rules)
 
-responses-alike : (text text′ : List ℕ) → Alike text text′ → (y : Tally) (card slip : List ℕ) (rooms : Rooms)
-    → response-to (reading text .table) y card slip rooms ≡ response-to (reading text′ .table) y card slip rooms
-unfolding response-to
-responses-alike text text′ a y card slip rooms = ap (λ (u : OrRefused Answer). record { outcome = outcome-of u; tally = tally-after y u }) (answers-alike text text′ a y card slip rooms)
-
 -- THE HOUSE STYLE.
 pub house-style : HouseStyle
 house-style = record {
@@ -159,8 +149,7 @@ house-style = record {
   print-alike = alike-iff;
   same-print = λ text text′ room bytes e o′. other text room bytes e text′ o′;
   same-answers = answers-alike;
-  same-responses = responses-alike;
-  print-answers = λ text text′ o o′ e y card slip rooms. let a = alike-iff text text′ o o′ .0 e in (answers-alike text text′ a y card slip rooms, responses-alike text text′ a y card slip rooms);
+  print-answers = λ text text′ o o′ e. answers-alike text text′ (alike-iff text text′ o o′ .0 e);
   own-refusal = refused-first;
   exactly-34 = λ text room. (is-34 text room, comes-34 text room);
   exactly-33 = λ text room. (is-33 text room, comes-33 text room);

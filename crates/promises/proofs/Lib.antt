@@ -1,7 +1,7 @@
 pub mod Cases
 pub mod CasePrints
 pub mod Refusals
-pub mod Fitted
+pub mod Outcomes
 pub mod Engines
 pub mod Day
 pub mod Ends
@@ -15,3 +15,4 @@ pub mod Called
 pub mod Demand2
 pub mod Alike
 pub mod HouseStyle
+pub mod CalledPrint

@@ -21,7 +21,7 @@ use Rattle.reader.specs.declared.Outcome.the-variants.{Accepted, Refused}
 use Rattle.rule_file.specs.Whole.{reading}
 use Rattle.printing.specs.Printing.{print-of, printed}
 use Rattle.tally.specs.declared.Tally.{Tally}
-use Rattle.response.specs.Respond.{Rooms, response-to}
+use Rattle.response.specs.Respond.{Rooms}
 use Rattle.promises.specs.Agreement.{responds}
 
 -- Two texts are alike: the tables that they are read to have as many slots and values, show the same names for them, and have the same rules and the same strata.
@@ -45,9 +45,9 @@ pub record InStyle (text bytes : List ℕ) : Type 0 where
   pub no-other : (t : FileTree) → Means t file → Tidy t → layout (spell t) ≡ bytes
 
 pub record HouseStyle : Type 0 where
-  -- What is printed is in the style.
-  pub in-style : (text : List ℕ) (room : ℕ) (bytes : List ℕ) → printed text room ≡ taken bytes → InStyle text bytes
-  -- Reading it yields the same slots, names, rules and strata.
+  -- The print of an accepted text is in the style, also where it is over the limit. What an output is given is this print, where it is within the limit and fits (exactly-printed).
+  pub in-style : (text : List ℕ) → reading text .outcome ≡ Accepted → InStyle text (print-of (read text))
+  -- Reading what is given yields the same slots, names, rules and strata.
   pub read-back : (text : List ℕ) (room : ℕ) (bytes : List ℕ) → printed text room ≡ taken bytes → (reading bytes .outcome ≡ Accepted) × Alike text bytes
   -- Printing it changes nothing.
   pub again : (text : List ℕ) (room : ℕ) (bytes : List ℕ) → printed text room ≡ taken bytes → (room′ : ℕ) → length bytes ≤ room′ → printed bytes room′ ≡ taken bytes
@@ -55,13 +55,11 @@ pub record HouseStyle : Type 0 where
   pub print-alike : (text text′ : List ℕ) → reading text .outcome ≡ Accepted → reading text′ .outcome ≡ Accepted → (print-of (read text) ≡ print-of (read text′)) ↔ Alike text text′
   -- So a text that is accepted gets the print of another exactly when they are alike.
   pub same-print : (text text′ : List ℕ) (room : ℕ) (bytes : List ℕ) → printed text room ≡ taken bytes → reading text′ .outcome ≡ Accepted → (printed text′ room ≡ taken bytes) ↔ Alike text text′
-  -- Texts that are alike answer every card and slip alike, and count alike.
+  -- Texts that are alike get the same bytes or the same refusal for every card and slip. What is told, the tally after it and the outputs are functions of these.
   pub same-answers : (text text′ : List ℕ) → Alike text text′ → (y : Tally) (card slip : List ℕ) (rooms : Rooms) → responds text y card slip rooms ≡ responds text′ y card slip rooms
-  pub same-responses : (text text′ : List ℕ) → Alike text text′ → (y : Tally) (card slip : List ℕ) (rooms : Rooms) → response-to (reading text .table) y card slip rooms ≡ response-to (reading text′ .table) y card slip rooms
   -- So texts with equal prints do.
   pub print-answers : (text text′ : List ℕ) → reading text .outcome ≡ Accepted → reading text′ .outcome ≡ Accepted → print-of (read text) ≡ print-of (read text′)
-      → (y : Tally) (card slip : List ℕ) (rooms : Rooms)
-      → (responds text y card slip rooms ≡ responds text′ y card slip rooms) × (response-to (reading text .table) y card slip rooms ≡ response-to (reading text′ .table) y card slip rooms)
+      → (y : Tally) (card slip : List ℕ) (rooms : Rooms) → responds text y card slip rooms ≡ responds text′ y card slip rooms
   -- The reading's own refusals come first, with both their numbers; then 34, then 33, each exactly where it is due; else the whole print.
   pub own-refusal : (text : List ℕ) (room k n : ℕ) → reading text .outcome ≡ Refused k n → printed text room ≡ refused k n
   pub exactly-34 : (text : List ℕ) (room : ℕ) → (printed text room ≡ refused 34 0) ↔ ((reading text .outcome ≡ Accepted) × (max-text < length (print-of (read text))))

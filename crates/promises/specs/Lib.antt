@@ -5,3 +5,4 @@ pub mod Day
 pub mod Listing
 pub mod Called
 pub mod HouseStyle
+pub mod CalledPrint

@@ -1,4 +1,4 @@
--- Texts printed by evaluation: every form that the print leaves out, the lettered cases of document 01, the empty file and the example.
+-- Texts printed by evaluation: every form that the print leaves out, the print of that, the empty file and the example.
 -- Assumes nothing.
 use Prim.Native.Nat.{ℕ}
 use Prim.Native.String.{String}
@@ -7,7 +7,7 @@ use mathlib.Core.List.{List, [], _∷_, _++_}
 use Rattle.laws.specs.Quoted.{bytes}
 use Rattle.text.specs.Covering.{spelling}
 use Rattle.grammar.specs.Reading.{Answer, accepted, refused, read}
-use Rattle.grammar.proofs.Cases.{reads, after-slots}
+use Rattle.grammar.proofs.Cases.{reads}
 use Rattle.style.specs.Layout.{token-bytes, tight, gap, layout}
 use Rattle.style.specs.Printed.{print}
 
@@ -16,13 +16,13 @@ unfoldable pub prints : Unit {0}
 unfolding reads spelling token-bytes tight gap layout print
 prints = tt
 
--- The print of what was read; of a refusal, its number after a byte that no print begins with.
-abbrev shown : Answer → List ℕ
-shown (accepted f) = print f
-shown (refused k n) = 0 ∷ k ∷ []
+-- What was read is a file, and these bytes are its print.
+abbrev Printed-as : Answer → List ℕ → Type 0
+Printed-as (accepted f) ys = print f ≡ ys
+Printed-as (refused k n) ys = ⊥
 
 -- Lines, byte 10 after each.
-abbrev lines : List String → List ℕ
+abbrev pub lines : List String → List ℕ
 lines [] = []
 lines (s ∷ ss) = bytes s ++ 10 ∷ lines ss
 
@@ -30,61 +30,28 @@ lines (s ∷ ss) = bytes s ++ 10 ∷ lines ss
 abbrev untidy : List ℕ
 untidy = bytes "SLOT x{0,1}\t;SLOT y {0 , 1-a};WHEN x*=1 IF TRUE THEN{y:=0};WHEN x *= 1 IF TRUE AND NOT NOT y|=0 AND NOT NOT NOT x *=0 THEN{y:=1-a ,x:=0} ; WHEN y*=0   IF NOT y|=0 AND NOT y|=0 THEN x:=1; "
 
-pub case-untidy : shown (read untidy)
-    ≡ lines ("SLOT x { 0, 1 };"
+-- Its print.
+abbrev tidied : List ℕ
+tidied =
+    lines ("SLOT x { 0, 1 };"
     ∷ "SLOT y { 0, 1-a };"
     ∷ "WHEN x *= 1 IF TRUE THEN y := 0;"
     ∷ "WHEN x *= 1 IF y |= 0 AND NOT x *= 0 THEN { y := 1-a, x := 0 };"
     ∷ "WHEN y *= 0 IF NOT y |= 0 AND NOT y |= 0 THEN x := 1;" ∷ [])
+
+pub case-untidy : Printed-as (read untidy) tidied
 unfolding prints
 case-untidy = refl
 
 -- The print of the print.
-pub case-again : shown (read (shown (read untidy))) ≡ shown (read untidy)
+pub case-again : Printed-as (read tidied) tidied
 unfolding prints
 case-again = refl
 
 -- Nothing but white prints as no bytes.
-pub case-empty : (shown (read []) ≡ []) × (shown (read (bytes "  ")) ≡ [])
+pub case-empty : Printed-as (read []) [] × Printed-as (read (bytes "  ")) []
 unfolding prints
 case-empty = (refl, refl)
-
--- The print of a text after the slots of document 01's cases.
-abbrev case-print : List String → List ℕ
-case-print ss = lines ("SLOT x { 0, 1 };" ∷ "SLOT y { 0, 1 };" ∷ "SLOT z { 0, 1 };" ∷ ss)
-
--- Cases A (G), B, C (F, K, L), D, E, H, and I, which prints as A does. J is refused with 12.
-pub case-A : shown (read (after-slots "WHEN x *= 1 IF y |= 0 THEN z := 1;")) ≡ case-print ("WHEN x *= 1 IF y |= 0 THEN z := 1;" ∷ [])
-unfolding prints
-case-A = refl
-
-pub case-B : shown (read (after-slots "WHEN z *= 1 IF y |= 0 THEN y := 1;")) ≡ case-print ("WHEN z *= 1 IF y |= 0 THEN y := 1;" ∷ [])
-unfolding prints
-case-B = refl
-
-pub case-C : shown (read (after-slots "WHEN x *= 1 IF y |= 0 THEN z := 1;WHEN z *= 1 IF y |= 0 THEN y := 1;")) ≡ case-print ("WHEN x *= 1 IF y |= 0 THEN z := 1;" ∷ "WHEN z *= 1 IF y |= 0 THEN y := 1;" ∷ [])
-unfolding prints
-case-C = refl
-
-pub case-D : shown (read (after-slots "WHEN x *= 1 IF y |= 0 THEN z := 1;WHEN z *= 1 IF y |= 0 THEN x := 1;")) ≡ case-print ("WHEN x *= 1 IF y |= 0 THEN z := 1;" ∷ "WHEN z *= 1 IF y |= 0 THEN x := 1;" ∷ [])
-unfolding prints
-case-D = refl
-
-pub case-E : shown (read (after-slots "WHEN y *= 1 IF NOT x *= 1 THEN z := 1;WHEN y *= 1 IF x |= 0 THEN x := 1;")) ≡ case-print ("WHEN y *= 1 IF NOT x *= 1 THEN z := 1;" ∷ "WHEN y *= 1 IF x |= 0 THEN x := 1;" ∷ [])
-unfolding prints
-case-E = refl
-
-pub case-H : shown (read (after-slots "WHEN x *= 1 IF TRUE THEN x := 0;")) ≡ case-print ("WHEN x *= 1 IF TRUE THEN x := 0;" ∷ [])
-unfolding prints
-case-H = refl
-
-pub case-I : shown (read (after-slots "WHEN x *= 1 IF TRUE AND y |= 0 THEN z := 1;")) ≡ case-print ("WHEN x *= 1 IF y |= 0 THEN z := 1;" ∷ [])
-unfolding prints
-case-I = refl
-
-pub case-J : shown (read (after-slots "WHEN x *= 1 IF y |= 0 AND TRUE THEN z := 1;")) ≡ 0 ∷ 12 ∷ []
-unfolding prints
-case-J = refl
 
 -- The rules of the example, examples/dialect/rules.txt, and their print.
 abbrev dialect : List ℕ
@@ -112,8 +79,8 @@ dialect =
     ∷ "WHEN label *= dated IF page |= set THEN page := proof;"
     ∷ "WHEN spelling *= old IF class |= noun AND NOT page *= proof THEN register := plain;" ∷ [])
 
-pub case-dialect : shown (read dialect)
-    ≡ lines ("SLOT class { noun, verb, adjective };"
+pub case-dialect : Printed-as (read dialect)
+    (lines ("SLOT class { noun, verb, adjective };"
     ∷ "SLOT first-attested { before-1600, 1600s, 1700s, 1800s, 1900s };"
     ∷ "SLOT last-attested { before-1800, 1800s, 1900s, in-use };"
     ∷ "SLOT status { current, rare, obsolete };"
@@ -133,6 +100,6 @@ pub case-dialect : shown (read dialect)
     ∷ "WHEN spread *= one-county IF NOT status *= obsolete THEN label := local;"
     ∷ "WHEN label *= local IF page |= set THEN page := proof;"
     ∷ "WHEN label *= dated IF page |= set THEN page := proof;"
-    ∷ "WHEN spelling *= old IF class |= noun AND NOT page *= proof THEN register := plain;" ∷ [])
+    ∷ "WHEN spelling *= old IF class |= noun AND NOT page *= proof THEN register := plain;" ∷ []))
 unfolding prints
 case-dialect = refl

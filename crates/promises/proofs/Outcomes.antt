@@ -1,9 +1,9 @@
--- What the reading and the printing of a rule file come to.
+-- What the reading of a rule file comes to, accepted or one refusal from the list; and what its printing comes to, and exactly where.
 -- Assumes nothing.
 use Prim.Native.Nat.{ℕ, _≤_, _<_}
 use native.Mathlib.Omega.{arith}
 use native.Mathlib.Nat.{eq-or-lt-of-le}
-use mathlib.Core.Path.{_≡_, refl, sym, ap, _∙_}
+use mathlib.Core.Path.{_≡_, refl, sym, ap, ap₂, _∙_}
 use mathlib.Core.Bool.{Bool, true, false, cond}
 use mathlib.Core.List.{List, [], _∷_}
 use mathlib.Core.Logic.{_⊎_, inl, inr, ⊎-elim}
@@ -125,6 +125,16 @@ module _ (text : List ℕ) (room : ℕ) where
   only-prints u (over o l) = one-of of-print 34 tt
   only-prints u (short o l s) = one-of of-print 33 tt
   only-prints u (all o l s) = tt
+
+  from-own : (u : OrRefused (List ℕ)) (k s : ℕ) → Prints u → u ≡ refused k s → OneOf of-file k → reading text .outcome ≡ Refused k s
+  from-own u k s (own-refusal {k = j} {n = n} h o) e m = let y : j ≡ k = cc in let z : n ≡ s = cc in o ∙ ap₂ Refused y z
+  from-own u k s (over o l) e m = absurd (one-of-other of-file 34 tt k m (let z : k ≡ 34 = cc in z))
+  from-own u k s (short o l q) e m = absurd (one-of-other of-file 33 tt k m (let z : k ≡ 33 = cc in z))
+  from-own u k s (all o l q) e m = absurd (let z : _≡_ {A = ℕ} 0 1 = cc in omega arith)
+
+  -- A refusal of 10 to 18 is the reading's.
+  pub is-own : (k s : ℕ) → printed text room ≡ refused k s → OneOf of-file k → reading text .outcome ≡ Refused k s
+  is-own k s e m = from-own (printed text room) k s prints e m
 
   no-seconds : (u : OrRefused (List ℕ)) (k s : ℕ) → Prints u → u ≡ refused k s → OneOf (34 ∷ 33 ∷ []) k → s ≡ 0
   no-seconds u k s (own-refusal {k = j} {n = n} h o) e m =
