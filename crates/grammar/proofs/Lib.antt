@@ -10,6 +10,7 @@ pub mod Ends
 pub mod Statements
 pub mod Rearranged
 pub mod Stands
+pub mod Declared
 pub mod Cases
 pub mod Stopping
 pub mod Choosing

@@ -1,9 +1,9 @@
 -- What a rule file declares and says: slots with their names, and rules over slot and value numbers (document 01, 'Rule text').
-use Prim.Native.Nat.{ℕ}
+use Prim.Native.Nat.{ℕ, _-_}
 use mathlib.Core.List.{List, [], map}
 use lib.ListN.{length, getD}
 use Rattle.text.specs.Tokens.{Name, place}
-use Rattle.model.specs.Rules.{Rule}
+use Rattle.model.specs.Rules.{Pair, Rule}
 
 -- A slot as declared: its name, and the names of its values, numbered from 1 in declared order.
 pub record Slot : Type 0 where
@@ -34,6 +34,14 @@ no-slot = record { name = record { start = 0; letters = [] }; values = [] }
 -- The names of the values of slot `s`.
 abbrev pub values-of : List Slot → ℕ → List Name
 values-of slots s = getD slots s no-slot .values
+
+-- The declared name of a pair's slot.
+abbrev pub slot-named : List Slot → Pair → Name
+slot-named slots p = getD slots (p .slot) no-slot .name
+
+-- The declared name of a pair's value; values are numbered from 1.
+abbrev pub value-named : List Slot → Pair → Name
+value-named slots p = getD (values-of slots (p .slot)) (p .value - 1) (no-slot .name)
 
 -- How many values each slot has.
 abbrev pub slot-counts : List Slot → List ℕ

@@ -1,8 +1,7 @@
 -- The printed form of a file line by line, by the names that it declares. Nothing here need be believed: `print-written` makes it the print.
 use Prim.Native.Nat.{ℕ}
 use mathlib.Core.List.{List, _++_, map}
-use Rattle.grammar.specs.Files.{Slot, File, spellings}
-use Rattle.style.specs.Printed.{slot-named, value-named}
+use Rattle.grammar.specs.Files.{Slot, File, spellings, slot-named, value-named}
 use Rattle.writing.specs.Written.{Pairing, rule-bytes, line-bytes, joined}
 
 -- The line of a slot of a file.

@@ -18,12 +18,12 @@ use Rattle.table.specs.Limits.{slot-limit, value-limit}
 use Rattle.table.specs.Link.{used-rules, rules-of, carried-strata, stratum-at}
 use Rattle.names.specs.Names.{Showing, refused, has-slot, has-value}
 use Rattle.grammar.specs.Files.{Slot, File, spellings, no-slot, values-of, slot-counts}
-use Rattle.grammar.proofs.Accepts.{accepts-iff}
+use Rattle.grammar.specs.Limits.{max-slots}
 use Rattle.style.specs.Printed.{lettered, Agree}
 use Rattle.style.proofs.Prints.{agree-counts}
 use Rattle.rule_file.specs.Whole.{reading}
 use Rattle.rule_file.specs.Carries.{declared-slot, declared-value, Carries}
-use Rattle.rule_file.proofs.Declared.{Declared, read-declared}
+use Rattle.grammar.proofs.Declared.{Declared, file-declared}
 use Rattle.promises.specs.HouseStyle.{Alike}
 use Rattle.promises.proofs.Bounds.{few-values}
 
@@ -106,10 +106,10 @@ module _ (text text′ : List ℕ) (c : Carries text (reading text .table)) (c�
           strata-at text _ c i k ∙ ap (λ (rs : List Rule). strata-of strict rs (suc i)) (a .same-rules) ∙ sym (strata-at text′ _ c′ i (omega (arith, k, counted)))
 
   declared : Declared f
-  declared = read-declared text f (accepts-iff text f .1 (c .is-file))
+  declared = file-declared text f (c .is-file)
 
   declared′ : Declared g
-  declared′ = read-declared text′ g (accepts-iff text′ g .1 (c′ .is-file))
+  declared′ = file-declared text′ g (c′ .is-file)
 
   -- A slot of a file has no more values than the limit.
   most : (h : File) → Declared h → (s : ℕ) → length (values-of (h .slots) s) ≤ value-limit
@@ -117,6 +117,7 @@ module _ (text text′ : List ℕ) (c : Carries text (reading text .table)) (c�
 
   -- Texts that are alike have files that agree.
   pub alike-agree : Alike text text′ → Agree f g
+  unfolding max-slots
   alike-agree a = record {
     same-slots = ext-getD (lettered no-slot) (map lettered (f .slots)) (map lettered (g .slots)) (length-map (f .slots) lettered ∙ as-many-slots ∙ sym (length-map (g .slots) lettered)) each;
     same-rules = sym (c .rules-are) ∙ a .same-rules ∙ c′ .rules-are;

@@ -6,13 +6,12 @@ use mathlib.Core.Path.{_≡_}
 use mathlib.Core.Bool.{Bool, true, false, cond}
 use mathlib.Core.List.{List, [], _∷_}
 use mathlib.Core.Logic.{⊎-elim}
-use lib.Dec.{T, leb→le}
+use lib.Dec.{T}
 use lib.ListN.{length, getD, length-map, List·getD-map, List·getD-eq-default}
-use Rattle.laws.specs.Listed.{all-of}
+use Rattle.laws.specs.Listed.{Each}
 use Rattle.laws.specs.Numbers.{Numbered}
-use Rattle.laws.proofs.Truth.{and-l, and-r, or-e, le-or-lt}
-use Rattle.laws.proofs.Equations.{is-true}
-use Rattle.laws.proofs.Listed.{all-e}
+use Rattle.laws.proofs.Truth.{or-e, le-or-lt}
+use Rattle.laws.proofs.Listed.{each-at}
 use Rattle.model.specs.Rules.{Pair, Pairs, same, among}
 use Rattle.model.specs.Orders.{no-rule, rule-at, changes, firing-order}
 use Rattle.model.specs.Result.{pair, value-in, is-changed, new-value, new-card, changes-slip, Bounded}
@@ -20,49 +19,47 @@ use Rattle.model.proofs.Pairs.{same-eq, among-at}
 use Rattle.model.proofs.Changes.{cause}
 use Rattle.model.proofs.Orders.{are-rules}
 use Rattle.model.proofs.Results.{value-in-right, slip-e, slip-rising, new-card-length, new-card-at}
-use Rattle.table.specs.Limits.{value-limit, row}
-use Rattle.names.proofs.Names.{slot-inside, value-inside}
-use Rattle.soundness.specs.Sound.{has-pair}
+use Rattle.table.specs.Limits.{row}
 use Rattle.grammar.specs.Files.{Slot, File, no-slot, slot-counts}
-use Rattle.rule_file.proofs.Declared.{has-some, Declared}
+use Rattle.grammar.specs.Limits.{max-slots, max-values}
+use Rattle.grammar.proofs.Declared.{Found, found-slot, found-value, Found-rule, Valued, Declared}
 use Rattle.laws.specs.Answers.{passed}
 use Rattle.cards.specs.Forms.{card-test, slip-test}
 use Rattle.cards.proofs.Tested.{same-count, no-pair}
 use Rattle.cards.proofs.Passed.{Slots, values-pass, card-pass}
 use Rattle.cards.proofs.Having.{Has, tested-has, rising-passes, within-passes}
 
--- What all of some pairs pass, each does.
-each-passes : (f : Pair → Bool) (ps : List Pair) → T (all-of f ps) → (p : Pair) → T (among p ps) → T (f p)
-unfolding all-of among
-each-passes f [] h p t = absurd t
-each-passes f (q ∷ qs) h p t = ⊎-elim (λ s. rw (same-eq p q s) (and-l (f q) _ h)) (each-passes f qs (and-r (f q) _ h) p) (or-e (same p q) (among p qs) t)
+-- What each of some pairs has, one among them has.
+each-among : (P : Pair → Type 0) (ps : List Pair) → Each P ps → (p : Pair) → T (among p ps) → P p
+unfolding among
+each-among P [] h p t = absurd t
+each-among P (q ∷ qs) h p t = ⊎-elim (λ s. rw (same-eq p q s) (h .0)) (each-among P qs (h .1) p) (or-e (same p q) (among p qs) t)
 
 module _ (f : File) (declared : Declared f) where
   -- No slot has more than 15 values.
   pub few-values : (s : ℕ) → getD (slot-counts (f .slots)) s 0 ≤ 15
+  unfolding max-values
   few-values s = ⊎-elim beyond inside (le-or-lt (length (f .slots)) s)
     where
       beyond : length (f .slots) ≤ s → getD (slot-counts (f .slots)) s 0 ≤ 15
       beyond l = rw (List·getD-eq-default (slot-counts (f .slots)) 0 {n = s} (rw length-map l)) (omega arith)
 
       inside : s < length (f .slots) → getD (slot-counts (f .slots)) s 0 ≤ 15
-      inside l =
-          rw (List·getD-map (λ (z : Slot). length (z .values)) (f .slots) s no-slot)
-          (leb→le (length (getD (f .slots) s no-slot .values)) value-limit (and-r _ _ (all-e has-some (f .slots) no-slot (declared .slots-some) s l)))
+      inside l = rw (List·getD-map (λ (z : Slot). length (z .values)) (f .slots) s no-slot) (each-at Valued (f .slots) s no-slot (declared .slots-valued) l .1)
 
   -- They are slots of the limits.
   pub file-slots : Slots (slot-counts (f .slots))
+  unfolding max-slots
   file-slots = record { few = rw length-map (declared .few-slots); small = λ i h. few-values i }
 
   -- What the rules assign, the slots have.
   assigned-has : (n : ℕ) (p : Pair) → Numbered (length (f .rules)) n → T (among p (rule-at (f .rules) n .assignments)) → Has (slot-counts (f .slots)) p
-  unfolding rule-at has-pair
+  unfolding rule-at
   assigned-has zero p i t = absurd (omega (arith, i .first))
   assigned-has (suc k) p i t =
-      let h = each-passes (has-pair (length (f .slots)) (slot-counts (f .slots))) (getD (f .rules) k no-rule .assignments) (declared .each-rule k (omega (arith, i .last)) .assignments-there) p t in
-      let a = slot-inside (length (f .slots)) (p .slot) (is-true _ (and-l _ _ h)) in
-      let b = value-inside (getD (slot-counts (f .slots)) (p .slot) 0) (p .value) (is-true _ (and-r _ _ h)) in
-      record { below = omega (arith, a .1, length-map (f .slots) (λ (z : Slot). length (z .values))); first = b .0; last = b .1 .1 }
+      let r = each-at (Found-rule (f .slots)) (f .rules) k no-rule (declared .each-found) (omega (arith, i .last)) in
+      let n = each-among (Found (f .slots)) (getD (f .rules) k no-rule .assignments) (r .assignments-found) p t in
+      record { below = rw length-map (found-slot (f .slots) p n); first = n .value-there; last = rw (List·getD-map (λ (z : Slot). length (z .values)) (f .slots) (p .slot) no-slot) (found-value (f .slots) p n) }
 
   module _ (S : List ℕ) (I : List Pair) (slip : slip-test (slot-counts (f .slots)) I ≡ passed) (ns : List ℕ) (order : T (firing-order (f .rules) S I ns)) where
     -- So does C, at the end of a firing order from a slip that passes its tests.

@@ -9,10 +9,9 @@ use Rattle.model.specs.Strata.{strict}
 use Rattle.model.specs.Response.{response}
 use Rattle.grammar.specs.Files.{File, slot-counts}
 use Rattle.grammar.specs.Meaning.{Is-file}
-use Rattle.grammar.proofs.Accepts.{accepts-iff}
 use Rattle.reader.specs.declared.Outcome.the-variants.{Accepted}
 use Rattle.rule_file.specs.Whole.{reading}
-use Rattle.rule_file.proofs.Declared.{Declared, read-declared}
+use Rattle.grammar.proofs.Declared.{Declared, file-declared}
 use Rattle.rule_file.proofs.Answers.{reading-accepted-iff}
 use Rattle.laws.specs.Answers.{taken, refused}
 use Rattle.cards.proofs.Having.{card-tested, slip-tested}
@@ -32,7 +31,7 @@ demand-3 text f h o = record {
 }
   where
     declared : Declared f
-    declared = read-declared text f (accepts-iff text f .1 h)
+    declared = file-declared text f h
 
     answered : (card slip : List ℕ) (a : Answer) → Ended f card slip (taken a) → Agreed f card slip (λ S I ns. Shows f S I a ns)
     answered card slip a e =

@@ -22,7 +22,7 @@ use Rattle.model.proofs.Demand3.{response-is-whole, demand-3}
 use Rattle.model.proofs.Results.{conflict-e, conflict-i, conflict-slot-right, conflict-slot-lowest, slip-length, no-conflict-e, slip-exact, new-card-length, new-card-at, new-value-kept, new-value-is}
 use Rattle.table.specs.Limits.{row}
 use Rattle.grammar.specs.Files.{File, slot-counts}
-use Rattle.rule_file.proofs.Declared.{Declared}
+use Rattle.grammar.proofs.Declared.{Declared}
 use Rattle.laws.specs.Answers.{passed, taken}
 use Rattle.cards.specs.Forms.{card-test, slip-test, read-card, read-slip}
 use Rattle.cards.proofs.Passed.{card-pass}

@@ -23,6 +23,7 @@ use Rattle.grammar.specs.Meaning.{Is-file}
 use Rattle.grammar.specs.Reading.{Answer, accepted, refused, read}
 use Rattle.grammar.specs.Refusals.{Fault, no-token, no-place, ends-inside, too-long, in-place}
 use Rattle.grammar.proofs.Accepts.{accepts-iff}
+use Rattle.grammar.proofs.Declared.{file-declared}
 use Rattle.grammar.proofs.Refusals.{refusal-stands}
 use Rattle.grammar.proofs.Stands.{file-stands}
 use Rattle.names.specs.Names.{show-slot, show-value}
@@ -40,7 +41,6 @@ use Rattle.reader.specs.declared.Outcome.the-variants.{Accepted, Refused}
 use Rattle.reader.specs.declared.FileRead.{FileRead}
 use Rattle.rule_file.specs.Carries.{Carries}
 use Rattle.rule_file.specs.Whole.{layered, answered-whole, reading}
-use Rattle.rule_file.proofs.Declared.{read-declared}
 use Rattle.rule_file.proofs.FileTable.{file-rules, file-counts, file-shaped, file-well-formed}
 use Rattle.rule_file.proofs.Shown.{slots-show, values-show}
 
@@ -86,7 +86,7 @@ accepted-file text q e o = go (read text) refl e
 pub file-fits : (text : List ℕ) (q : FileRead) → q ≡ answered (read text) → q .outcome ≡ Accepted → TableFits (q .table)
 file-fits text q e o =
     let w = accepted-file text q e o in
-    let D = read-declared text (w .0) (w .1) in
+    let D = file-declared text (w .0) (accepts-iff text (w .0) .0 (w .1)) in
     rw (w .2) (well-formed-fits (table-for (w .0)) (file-shaped (w .0) D) (file-well-formed (w .0) D))
 
 pub whole-layered : (text : List ℕ) (q : FileRead) (l : Layering) (o : found.Outcome) → q ≡ answered (read text) → q .outcome ≡ Accepted → l ≡ layering (q .table) → l .outcome ≡ o
@@ -159,7 +159,7 @@ accepted-table text o =
     let w = reading-accepted-iff text .1 o in
     let f = w .0 in
     let e = accepts-iff text f .1 (w .1) in
-    let D = read-declared text f e in
+    let D = file-declared text f (w .1) in
     let sh = file-shaped f D in
     let t = ap (λ (a : FileRead). a .table) (reading-file text f e ∙ layered-zero f (no-circle strict (f .rules) (w .2 .0) (w .2 .1))) in
     (f, e, t, ap rules-of t ∙ same-rules (table-for f) (well-formed-fits (table-for f) sh (file-well-formed f D)) sh ∙ file-rules f)
@@ -171,7 +171,7 @@ reading-carries text o =
     let f = w .0 in
     let e = accepts-iff text f .1 (w .1) in
     let z = no-circle strict (f .rules) (w .2 .0) (w .2 .1) in
-    let D = read-declared text f e in
+    let D = file-declared text f (w .1) in
     let sh = file-shaped f D in
     let fits = well-formed-fits (table-for f) sh (file-well-formed f D) in
     rw (reading-file text f e ∙ layered-zero f z) (record {
@@ -220,7 +220,7 @@ reading-passes text = go (read text) refl
   where
     go : (a : Answer) → read text ≡ a → T (sound (reading text .table))
     go (accepted f) e =
-        let D = read-declared text f e in
+        let D = file-declared text f (accepts-iff text f .0 e) in
         rw (reading-file text f e ∙ sym (layered-table f)) (layer-passes (table-for f) (file-shaped f D) (file-well-formed f D))
     go (refused k n) e = rw (reading-refused text k n e) empty-passes
 

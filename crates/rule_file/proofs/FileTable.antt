@@ -5,15 +5,14 @@ use mathlib.Core.Bool.{Bool, false}
 use mathlib.Core.List.{List, [], _∷_, map}
 use Prim.Native.Nat.{ℕ, _≤_, _<_}
 use native.Mathlib.Omega.{arith}
-use lib.Dec.{T, leb, leb→le, le→leb}
+use lib.Dec.{T, leb, ltb, le→leb, lt→ltb}
 use lib.ListN.{length, getD, take, length-map, List·getD-map}
 use Rattle.laws.proofs.Lists.{any-default}
 use Rattle.laws.specs.Truth.{_∧ᵇ_}
-use Rattle.laws.specs.Listed.{all-of}
+use Rattle.laws.specs.Listed.{all-of, Each}
 use Rattle.laws.specs.Filled.{filled}
-use Rattle.laws.proofs.Truth.{and-i, and-l, and-r}
-use Rattle.laws.proofs.Equations.{is-true}
-use Rattle.laws.proofs.Listed.{all-e, all-append}
+use Rattle.laws.proofs.Truth.{and-i}
+use Rattle.laws.proofs.Listed.{all-i, all-append, each-at, each-map, each-imply}
 use Rattle.laws.proofs.Filled.{filled-length, filled-front, filled-each, used-at}
 use Rattle.model.specs.Rules as model
 use Rattle.model.specs.Orders as orders
@@ -24,17 +23,17 @@ use Rattle.table.specs.Limits.{slot-limit, value-limit, rule-limit, literal-lim
 use Rattle.table.specs.Shape.{no-literal, no-assignment, no-rule, no-slot, no-name, LiteralShaped, AssignmentShaped, RuleShaped, SlotShaped, Shaped}
 use Rattle.table.specs.Empty.{unused-rule, unused-slot}
 use Rattle.table.specs.Link.{literal-of, assignment-of, rule-of, rules-of, value-counts}
-use Rattle.names.specs.Names.{has-slot}
-use Rattle.names.proofs.Names.{slot-inside, value-inside}
+use Rattle.names.specs.Names.{has-slot, has-value}
 use Rattle.table.proofs.Link.{count-is}
 use Rattle.grammar.specs.Files as files
+use Rattle.grammar.specs.Limits.{max-slots, max-values, max-rules, max-literals, max-assignments}
 use Rattle.grammar.specs.Files.{File, slot-counts}
+use Rattle.grammar.proofs.Declared.{Found, found-slot, found-value, Found-rule, Valued, Declared}
 use Rattle.soundness.specs.Sound.{has-pair, named, rule-right, well-formed}
 use Rattle.soundness.proofs.WellFormed.{well-formed-i}
 use Rattle.lines.specs.Index.{slot-for, name-for}
 use Rattle.clauses.specs.Assignments.{assignment-for}
 use Rattle.reader.specs.Tables.{literal-for, rule-for, table-for}
-use Rattle.rule_file.proofs.Declared.{has-some, tested-pairs, RuleDeclared, Declared}
 
 -- What goes into its place and back is what it was.
 literals-kept : (ls : List model.Literal) → map literal-of (map literal-for ls) ≡ ls
@@ -82,14 +81,6 @@ pub file-counts : (f : File) → value-counts (table-for f) ≡ slot-counts (f .
 unfolding value-counts table-for
 file-counts f = ap (map (λ (s : Slot). s .count)) (used-of slot-limit unused-slot slot-for (f .slots)) ∙ counts-kept (f .slots)
 
--- A pair that a file has is one of two bytes.
-small : (width : ℕ) (counts : List ℕ) (p : model.Pair) → T (has-pair width counts p) → (p .slot < 256) × (p .value < 256)
-unfolding has-pair
-small width counts p h =
-    let s = slot-inside width (p .slot) (is-true _ (and-l (has-slot width (p .slot)) _ h)) in
-    let v = value-inside (getD counts (p .slot) 0) (p .value) (is-true _ (and-r (has-slot width (p .slot)) _ h)) in
-    (omega (arith, s .0), omega (arith, v .1 .0))
-
 -- Both numbers of a pair are bytes.
 abbrev Small : model.Pair → Type 0
 Small p = (p .slot < 256) × (p .value < 256)
@@ -101,14 +92,9 @@ no-test = record { becomes = false; negated = false; pair = record { slot = 0; v
 abbrev no-pair : model.Pair
 no-pair = record { slot = 0; value = 0 }
 
--- Each pair of a list that a file has is small.
-each-small : (slots : List files.Slot) (ps : List model.Pair) → T (all-of (has-pair (length slots) (slot-counts slots)) ps) → (i : ℕ) → i < length ps → Small (getD ps i no-pair)
-each-small slots ps h i l = small (length slots) (slot-counts slots) (getD ps i no-pair) (all-e _ ps no-pair h i l)
-
 -- A rule in its places has their shape.
 rule-for-shaped : (r : model.Rule) → length (r .literals) ≤ literal-limit → length (r .assignments) ≤ assignment-limit → Small (r .trigger)
-    → ((i : ℕ) → i < length (tested-pairs (r .literals)) → Small (getD (tested-pairs (r .literals)) i no-pair)) → ((i : ℕ) → i < length (r .assignments) → Small (getD (r .assignments) i no-pair))
-    → RuleShaped (rule-for r)
+    → Each (λ (l : model.Literal). Small (l .pair)) (r .literals) → Each Small (r .assignments) → RuleShaped (rule-for r)
 rule-for-shaped r few-l few-a t ls ps =
     record {
       slot-byte = t .0;
@@ -128,32 +114,60 @@ rule-for-shaped r few-l few-a t ls ps =
 
     literal : (i : ℕ) → i < length (map literal-for (r .literals)) → LiteralShaped (getD (map literal-for (r .literals)) i no-literal)
     literal i h =
-        let s = rw (List·getD-map (λ (l : model.Literal). l .pair) (r .literals) i no-test) at (ls i (omega (arith, h, sized, length-map (r .literals) (λ (l : model.Literal). l .pair)))) in
+        let s = each-at (λ (l : model.Literal). Small (l .pair)) (r .literals) i no-test ls (omega (arith, h, sized)) in
         rw (List·getD-map literal-for (r .literals) i no-test) (record { slot-byte = s .0; value-byte = s .1 })
 
     assignment : (i : ℕ) → i < length (map assignment-for (r .assignments)) → AssignmentShaped (getD (map assignment-for (r .assignments)) i no-assignment)
     assignment i h =
-        let s = ps i (omega (arith, h, counted)) in
+        let s = each-at Small (r .assignments) i no-pair ps (omega (arith, h, counted)) in
         rw (List·getD-map assignment-for (r .assignments) i no-pair) (record { slot-byte = s .0; value-byte = s .1 })
 
 -- So has the place of a rule that is not used.
 unused-shaped : RuleShaped unused-rule
 unfolding filled orders.no-rule
-unused-shaped = rule-for-shaped orders.no-rule (omega arith) (omega arith) (omega arith, omega arith) (λ i h. absurd (omega arith)) (λ i h. absurd (omega arith))
+unused-shaped = rule-for-shaped orders.no-rule (omega arith) (omega arith) (omega arith, omega arith) tt tt
 
 module _ (f : File) (D : Declared f) where
-  declared-shaped : (i : ℕ) → i < length (map rule-for (f .rules)) → RuleShaped (getD (map rule-for (f .rules)) i no-rule)
-  declared-shaped i h =
-      let k : i < length (f .rules) = omega (arith, h, length-map (f .rules) rule-for) in
-      let d = D .each-rule i k in
-      let r : model.Rule = getD (f .rules) i orders.no-rule in
-      rw (any-default (map rule-for (f .rules)) i no-rule (rule-for orders.no-rule) h, List·getD-map rule-for (f .rules) i orders.no-rule)
-      (rule-for-shaped (getD (f .rules) i orders.no-rule) (d .few-literals) (d .few-assignments) (small _ _ _ (d .trigger-there)) (each-small (f .slots) _ (d .literals-there)) (each-small (f .slots) _ (d .assignments-there)))
-
   slot-some : (i : ℕ) → i < length (f .slots) → (1 ≤ length (getD (f .slots) i files.no-slot .values)) × (length (getD (f .slots) i files.no-slot .values) ≤ value-limit)
-  slot-some i h =
-      let s = all-e has-some (f .slots) files.no-slot (D .slots-some) i h in
-      (leb→le 1 _ (and-l (leb 1 (length (getD (f .slots) i files.no-slot .values))) _ s), leb→le _ value-limit (and-r (leb 1 (length (getD (f .slots) i files.no-slot .values))) _ s))
+  unfolding max-values
+  slot-some i h = each-at Valued (f .slots) i files.no-slot (D .slots-valued) h
+
+  -- What a pair that is found keeps to.
+  within : (p : model.Pair) → Found (f .slots) p → (p .slot < slot-limit) × (p .value ≤ value-limit)
+  unfolding max-slots
+  within p n = let k = found-slot (f .slots) p n in (omega (arith, k, D .few-slots), omega (arith, found-value (f .slots) p n, slot-some (p .slot) k .1))
+
+  small : (p : model.Pair) → Found (f .slots) p → Small p
+  small p n = (omega (arith, within p n .0), omega (arith, within p n .1))
+
+  -- The table has it.
+  abbrev own : model.Pair → Bool
+  own p = has-pair (length (f .slots)) (slot-counts (f .slots)) p
+
+  found-own : (p : model.Pair) → Found (f .slots) p → T (own p)
+  unfolding has-pair has-slot has-value
+  found-own p n =
+      and-i (ltb (p .slot) slot-limit ∧ᵇ ltb (p .slot) (length (f .slots))) _
+      (and-i (ltb (p .slot) slot-limit) _ (lt→ltb (p .slot) slot-limit (within p n .0)) (lt→ltb (p .slot) (length (f .slots)) (found-slot (f .slots) p n)))
+      (rw (List·getD-map (λ (z : files.Slot). length (z .values)) (f .slots) (p .slot) files.no-slot)
+      (and-i (leb 1 (p .value) ∧ᵇ leb (p .value) value-limit) _
+      (and-i (leb 1 (p .value)) _ (le→leb 1 (p .value) (n .value-there)) (le→leb (p .value) value-limit (within p n .1)))
+      (le→leb (p .value) _ (found-value (f .slots) p n))))
+
+  all-own : (ps : List model.Pair) → Each (Found (f .slots)) ps → T (all-of own ps)
+  all-own ps h = all-i own ps no-pair (λ i l. found-own (getD ps i no-pair) (each-at (Found (f .slots)) ps i no-pair h l))
+
+  rule-found : (i : ℕ) → i < length (f .rules) → Found-rule (f .slots) (getD (f .rules) i orders.no-rule)
+  rule-found i h = each-at (Found-rule (f .slots)) (f .rules) i orders.no-rule (D .each-found) h
+
+  found-shaped : (i : ℕ) → i < length (map rule-for (f .rules)) → RuleShaped (getD (map rule-for (f .rules)) i no-rule)
+  unfolding max-literals max-assignments
+  found-shaped i h =
+      let r : model.Rule = getD (f .rules) i orders.no-rule in
+      let d = rule-found i (omega (arith, h, length-map (f .rules) rule-for)) in
+      rw (any-default (map rule-for (f .rules)) i no-rule (rule-for orders.no-rule) h, List·getD-map rule-for (f .rules) i orders.no-rule)
+      (rule-for-shaped r (d .few-literals) (d .few-assignments) (small (r .trigger) (d .trigger-found))
+      (each-imply (λ (l : model.Literal). Found (f .slots) (l .pair)) (λ (l : model.Literal). Small (l .pair)) (r .literals) (λ l. small (l .pair)) (d .literals-found)) (each-imply (Found (f .slots)) Small (r .assignments) small (d .assignments-found)))
 
   slot-shaped : (i : ℕ) → i < length (map slot-for (f .slots)) → SlotShaped (getD (map slot-for (f .slots)) i no-slot)
   slot-shaped i h =
@@ -163,7 +177,7 @@ module _ (f : File) (D : Declared f) where
 
   -- The table's places are full.
   pub file-shaped : Shaped (table-for f)
-  unfolding table-for
+  unfolding table-for max-slots max-rules
   file-shaped =
       let s = length-map (f .slots) slot-for in
       let r = length-map (f .rules) rule-for in
@@ -171,7 +185,7 @@ module _ (f : File) (D : Declared f) where
         slot-places = filled-length slot-limit unused-slot (map slot-for (f .slots)) (omega (arith, s, D .few-slots));
         each-slot = filled-each SlotShaped slot-limit unused-slot (map slot-for (f .slots)) no-slot (omega (arith, s, D .few-slots)) (record { value-places = refl }) slot-shaped;
         rule-places = filled-length rule-limit unused-rule (map rule-for (f .rules)) (omega (arith, r, D .few-rules));
-        each-rule = filled-each RuleShaped rule-limit unused-rule (map rule-for (f .rules)) no-rule (omega (arith, r, D .few-rules)) unused-shaped declared-shaped;
+        each-rule = filled-each RuleShaped rule-limit unused-rule (map rule-for (f .rules)) no-rule (omega (arith, r, D .few-rules)) unused-shaped found-shaped;
       }
 
   -- The rule at a place used, and the number of values of a slot.
@@ -192,26 +206,25 @@ module _ (f : File) (D : Declared f) where
       sym (count-is (table-for f) i (omega (arith, h, same-width))) ∙ ap (λ (ns : List ℕ). getD ns i 0) (file-counts f)
       ∙ List·getD-map (λ (s : files.Slot). length (s .values)) (f .slots) i files.no-slot
 
-  -- A rule that keeps to what is declared is right in its places.
-  right-here : (r : model.Rule) → RuleDeclared (f .slots) r → T (rule-right (length (f .slots)) (slot-counts (f .slots)) (rule-for r))
-  unfolding rule-right named all-of
+  -- A rule whose pairs are found is right in its places.
+  right-here : (r : model.Rule) → Found-rule (f .slots) r → T (rule-right (length (f .slots)) (slot-counts (f .slots)) (rule-for r))
+  unfolding rule-right named all-of max-literals max-assignments
   right-here r d =
       and-i (leb (length (r .literals)) literal-limit ∧ᵇ leb (length (r .assignments)) assignment-limit ∧ᵇ all-of own (named (rule-for r))) _
       (and-i (leb (length (r .literals)) literal-limit ∧ᵇ leb (length (r .assignments)) assignment-limit) _
       (and-i (leb (length (r .literals)) literal-limit) _ (le→leb (length (r .literals)) literal-limit (d .few-literals)) (le→leb (length (r .assignments)) assignment-limit (d .few-assignments)))
-      (and-i (own (r .trigger)) _ (d .trigger-there)
-      (rw (all-append own (tested-pairs (rule-of (rule-for r) .literals)) (rule-of (rule-for r) .assignments), literals-back r, assignments-back r) (and-i _ _ (d .literals-there) (d .assignments-there)))))
+      (and-i (own (r .trigger)) _ (found-own (r .trigger) (d .trigger-found))
+      (rw (all-append own (map (λ (l : model.Literal). l .pair) (rule-of (rule-for r) .literals)) (rule-of (rule-for r) .assignments), literals-back r, assignments-back r)
+      (and-i _ _ (all-own (map (λ (l : model.Literal). l .pair) (r .literals)) (each-map (λ (l : model.Literal). Found (f .slots) (l .pair)) (Found (f .slots)) (λ (l : model.Literal). l .pair) (r .literals) (λ l n. n) (d .literals-found))) (all-own (r .assignments) (d .assignments-found))))))
       (rw (assignments-back r) (d .once))
-    where
-      own : model.Pair → Bool
-      own p = has-pair (length (f .slots)) (slot-counts (f .slots)) p
 
   -- The table is well-formed.
   pub file-well-formed : T (well-formed (table-for f))
+  unfolding max-slots max-rules
   file-well-formed = well-formed-i (table-for f) (record {
     few-slots = omega (arith, D .few-slots, same-width);
     some-value = λ i h. let k : i < length (f .slots) = omega (arith, h, same-width) in rw (values-here i k) (slot-some i k .0);
     few-values = λ i h. let k : i < length (f .slots) = omega (arith, h, same-width) in rw (values-here i k) (slot-some i k .1);
     few-rules = omega (arith, D .few-rules, same-count);
-    each-right = λ i h. let k : i < length (f .rules) = omega (arith, h, same-count) in rw (file-counts f, same-width, rule-here i k) (right-here (getD (f .rules) i orders.no-rule) (D .each-rule i k));
+    each-right = λ i h. let k : i < length (f .rules) = omega (arith, h, same-count) in rw (file-counts f, same-width, rule-here i k) (right-here (getD (f .rules) i orders.no-rule) (rule-found i k));
   })

@@ -1,4 +1,3 @@
-pub mod Declared
 pub mod FileTable
 pub mod Shown
 pub mod Answers

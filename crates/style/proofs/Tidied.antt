@@ -10,15 +10,16 @@ use Rattle.laws.specs.Listed.{Each}
 use Rattle.laws.proofs.Lists.{map-append}
 use Rattle.text.specs.Tokens.{Name, Token, word, name, SLOT, WHEN, IF, THEN, AND, NOT, TRUE, OPEN, CLOSE, COMMA, SEMICOLON, BECOMES, HAS, GETS}
 use Rattle.model.specs.Rules.{Pair, Literal, Rule}
-use Rattle.grammar.specs.Files.{Slot, File}
+use Rattle.grammar.specs.Files.{Slot, File, slot-named, value-named}
 use Rattle.grammar.specs.Grammar.{RuleTree, ConditionTree, and-literal, one-literal, LiteralTree, not-literal, becomes-value, has-value, AssignTree, braces, AssignmentListTree, one-assignment, comma-assignment, AssignmentTree, ValueListTree, one-value, comma-value, LineTree, line, FileTree, grown, spell, spell-literal, spell-condition, spell-assignment, spell-assignments, spell-assign, spell-rule, spell-rules, spell-values, spell-lines}
 use Rattle.grammar.specs.Meaning.{Names, nots, turned, tests-change, slot-in, value-in, Means-literal, Means-condition, means-and, means-one, means-true, Means-assignment, means-assignment, Means-assignments, means-first, means-comma, Means-assign, means-alone, means-braces, means-trigger, Means-rule, means-rule, Means-rules, no-rules, more-rules, Means}
 use Rattle.grammar.proofs.Leftmost.{grown-last}
+use Rattle.grammar.proofs.Declared.{names-letters}
 use Rattle.style.specs.Layout.{layout, by-letters}
-use Rattle.style.specs.Printed.{slot-named, value-named, literal-tree, condition-tree, assign-tree, assignment-tree, rule-tree, line-tree, canonical, print}
+use Rattle.style.specs.Printed.{literal-tree, condition-tree, assign-tree, assignment-tree, rule-tree, line-tree, canonical, print}
 use Rattle.style.specs.Tidy.{Tidy-literals, Tidy-condition, Tidy-assign, Tidy-rule, Tidy}
 use Rattle.style.proofs.Letters.{bare-name}
-use Rattle.style.proofs.Trees.{names-letters, condition-grown, lines-one}
+use Rattle.style.proofs.Trees.{lines-one}
 use Rattle.style.proofs.Unplaced.{layout-bare}
 
 -- The canonical tree is tidy.
@@ -101,13 +102,20 @@ module _ (slots : List Slot) where
   literals-some c ms (means-one h) t = omega arith
   literals-some c ms means-true t = absurd t
 
+  -- The tree of a condition that has a literal more.
+  condition-grown : (x : Literal) (ms : List Literal) (m : Literal)
+      → condition-tree (map (literal-tree slots) (x ∷ ms ++ m ∷ [])) ≡ and-literal (condition-tree (map (literal-tree slots) (x ∷ ms))) (literal-tree slots m)
+  condition-grown x ms m =
+      ap (grown and-literal (one-literal (literal-tree slots x))) (map-append (literal-tree slots) ms (m ∷ []))
+      ∙ grown-last and-literal (one-literal (literal-tree slots x)) (map (literal-tree slots) ms) (literal-tree slots m)
+
   condition-same : (c : ConditionTree) (ms : List Literal) → Means-condition slots c ms → Tidy-condition c → Same (spell-condition c) (spell-condition (condition-tree (map (literal-tree slots) ms)))
   condition-same c ms (means-and {c = d} {ms = ls} {l = l} {m = m} g h) t = go ls (literals-some d ls g (t .0)) (condition-same d ls g (literals-tidy d (t .0)))
     where
       go : (ls : List Literal) → 0 < length ls → Same (spell-condition d) (spell-condition (condition-tree (map (literal-tree slots) ls)))
           → Same (spell-condition (and-literal d l)) (spell-condition (condition-tree (map (literal-tree slots) (ls ++ m ∷ []))))
       go [] i s = absurd (omega arith)
-      go (x ∷ xs) i s = rw (condition-grown slots x xs m) (λ r q e. s (word AND ∷ spell-literal l r) (word AND ∷ spell-literal (literal-tree slots m) q) (word-first AND (literal-same l m h (t .1) r q e)))
+      go (x ∷ xs) i s = rw (condition-grown x xs m) (λ r q e. s (word AND ∷ spell-literal l r) (word AND ∷ spell-literal (literal-tree slots m) q) (word-first AND (literal-same l m h (t .1) r q e)))
   condition-same c ms (means-one {l = l} {m = m} h) t = literal-same l m h t
   condition-same c ms means-true t = λ r q e. word-first TRUE e
 

@@ -1,0 +1,180 @@
+-- A file that a tree means is declared: it keeps to the limits, each slot has values, and its rules name only what it declares.
+-- Assumes nothing.
+use Prim.Native.Nat.{ℕ, suc, _-_, _≤_, _<_}
+use native.Mathlib.Omega.{arith}
+use mathlib.Core.Path.{_≡_, refl, sym, ap, subst, _∙_}
+use mathlib.Core.Bool.{Bool, true, false}
+use mathlib.Core.List.{List, [], _∷_, _++_, append-nil}
+use lib.Dec.{T, eqb}
+use lib.ListN.{length, getD, length-append, length-map, List·getD-map}
+use borrow.Author.Tests.{eqb-false, ne-eqb}
+use Rattle.laws.specs.Truth.{_∨ᵇ_, notᵇ}
+use Rattle.laws.specs.Listed.{Each}
+use Rattle.laws.proofs.Truth.{and-i, and-l, and-r}
+use Rattle.laws.proofs.Listed.{each-last}
+use Rattle.text.specs.Tokens.{Name, place}
+use Rattle.text.proofs.Cut.{place-le}
+use Rattle.text.proofs.Covering.{place-spelled}
+use Rattle.model.specs.Rules.{Pair, Literal, Rule, assigns, each-once}
+use Rattle.grammar.specs.Limits.{max-slots, max-values, max-rules, max-literals, max-assignments}
+use Rattle.grammar.specs.Files.{Slot, File, spellings, slot-names, no-slot, values-of, slot-named, value-named}
+use Rattle.grammar.specs.Grammar.{RuleTree, ConditionTree, AssignTree, AssignmentListTree, AssignmentTree, ValueListTree, LineTree, FileTree}
+use Rattle.grammar.specs.Meaning.{Names, Means-condition, means-and, means-one, means-true, Means-assignment, means-assignment, Means-assignments, means-first, means-comma, Means-assign, means-alone, means-braces, means-trigger, means-rule, Means-rules, no-rules, more-rules, Means-values, means-value, means-values, means-line, Means-lines, no-lines, more-lines, Means, Is-file}
+
+-- A pair is found by the declared names of its slot and its value.
+abbrev pub Found : List Slot → Pair → Type 0
+Found slots p = Names slots (slot-named slots p) (value-named slots p) p
+
+-- A name that is found has the letters of the declared name.
+pub names-letters : (slots : List Slot) (s v : Name) (p : Pair) → Names slots s v p → (s .letters ≡ slot-named slots p .letters) × (v .letters ≡ value-named slots p .letters)
+names-letters slots s v p n =
+    let i : p .value ≡ suc (p .value - 1) = let j = n .value-there in omega arith in (
+      found (s .letters) (spellings (slot-names slots)) (p .slot) (n .slot-is)
+          ∙ List·getD-map (λ (m : Name). m .letters) (slot-names slots) (p .slot) (no-slot .name)
+          ∙ ap (λ (m : Name). m .letters) (List·getD-map (λ (x : Slot). x .name) slots (p .slot) no-slot),
+      found (v .letters) (spellings (values-of slots (p .slot))) (p .value - 1) (n .value-is ∙ i)
+          ∙ List·getD-map (λ (m : Name). m .letters) (values-of slots (p .slot)) (p .value - 1) (no-slot .name),
+    )
+  where
+    found : (l : List ℕ) (ls : List (List ℕ)) (k : ℕ) → place l ls ≡ suc k → l ≡ getD ls k []
+    found l ls k e = place-spelled l ls [] k e ∙ ap (λ (ms : List (List ℕ)). getD ms k []) (append-nil ls)
+
+named-found : (slots : List Slot) (s v : Name) (p : Pair) → Names slots s v p → Found slots p
+named-found slots s v p n =
+    let e = names-letters slots s v p n in
+    record {
+      slot-is = ap (λ (l : List ℕ). place l (spellings (slot-names slots))) (sym (e .0)) ∙ n .slot-is;
+      value-is = ap (λ (l : List ℕ). place l (spellings (values-of slots (p .slot)))) (sym (e .1)) ∙ n .value-is;
+      value-there = n .value-there;
+    }
+
+-- A pair that is found is of a slot that is there, and of a value that is there.
+pub found-slot : (slots : List Slot) (p : Pair) → Found slots p → p .slot < length slots
+found-slot slots p n =
+    let l : length (spellings (slot-names slots)) ≡ length slots = rw (length-map, length-map) in
+    omega (arith, l, n .slot-is, place-le (slot-named slots p .letters) (spellings (slot-names slots)))
+
+pub found-value : (slots : List Slot) (p : Pair) → Found slots p → p .value ≤ length (values-of slots (p .slot))
+found-value slots p n =
+    let l : length (spellings (values-of slots (p .slot))) ≡ length (values-of slots (p .slot)) = rw length-map in
+    omega (arith, l, n .value-is, place-le (value-named slots p .letters) (spellings (values-of slots (p .slot))))
+
+-- Neither of two tests holds.
+neither : (a b : Bool) → (a ∨ᵇ b) ≡ false → (a ≡ false) × (b ≡ false)
+unfolding _∨ᵇ_
+neither true b e = absurd (subst T e tt)
+neither false b e = (refl, e)
+
+not-true : (b : Bool) → T (notᵇ b) → b ≡ false
+unfolding notᵇ
+not-true true t = absurd t
+not-true false t = refl
+
+turned-round : (m n : ℕ) → eqb m n ≡ false → eqb n m ≡ false
+turned-round m n e = ne-eqb n m (λ same. eqb-false m n e (sym same))
+
+-- One assignment more, to another slot.
+assigns-more : (ps : List Pair) (p : Pair) (s : ℕ) → assigns ps s ≡ false → eqb (p .slot) s ≡ false → assigns (ps ++ p ∷ []) s ≡ false
+unfolding assigns _∨ᵇ_
+assigns-more [] p s e n = rw n
+assigns-more (q ∷ ps) p s e n = let w = neither (eqb (q .slot) s) (assigns ps s) e in rw (w .0) (assigns-more ps p s (w .1) n)
+
+once-more : (ps : List Pair) (p : Pair) → T (each-once ps) → assigns ps (p .slot) ≡ false → T (each-once (ps ++ p ∷ []))
+unfolding each-once assigns notᵇ
+once-more [] p t e = and-i true true tt tt
+once-more (q ∷ ps) p t e =
+    let w = neither (eqb (q .slot) (p .slot)) (assigns ps (p .slot)) e in
+    let none = not-true (assigns ps (q .slot)) (and-l (notᵇ (assigns ps (q .slot))) _ t) in
+    and-i (notᵇ (assigns (ps ++ p ∷ []) (q .slot))) _ (rw (assigns-more ps p (q .slot) none (turned-round (q .slot) (p .slot) (w .0))) tt) (once-more ps p (and-r (notᵇ (assigns ps (q .slot))) _ t) (w .1))
+
+-- Of assignments to a slot each, none is to a slot that one before it assigns.
+pub once-before : (os ps : List Pair) (p : Pair) → T (each-once (os ++ p ∷ ps)) → assigns os (p .slot) ≡ false
+unfolding each-once assigns _∨ᵇ_
+once-before [] ps p t = refl
+once-before (q ∷ os) ps p t =
+    let none = not-true (assigns (os ++ p ∷ ps) (q .slot)) (and-l (notᵇ (assigns (os ++ p ∷ ps) (q .slot))) _ t) in
+    rw (turned-round (p .slot) (q .slot) (among os none)) (once-before os ps p (and-r (notᵇ (assigns (os ++ p ∷ ps) (q .slot))) _ t))
+  where
+    among : (rs : List Pair) → assigns (rs ++ p ∷ ps) (q .slot) ≡ false → eqb (p .slot) (q .slot) ≡ false
+    among [] e = neither (eqb (p .slot) (q .slot)) _ e .0
+    among (r ∷ rs) e = among rs (neither (eqb (r .slot) (q .slot)) _ e .1)
+
+-- A rule keeps to the limits, its pairs are found, and it assigns some slots, none twice.
+pub record Found-rule (slots : List Slot) (r : Rule) : Type 0 where
+  pub trigger-found : Found slots (r .trigger)
+  pub literals-found : Each (λ (m : Literal). Found slots (m .pair)) (r .literals)
+  pub few-literals : length (r .literals) ≤ max-literals
+  pub assignments-found : Each (Found slots) (r .assignments)
+  pub once : T (each-once (r .assignments))
+  pub some : 0 < length (r .assignments)
+  pub few-assignments : length (r .assignments) ≤ max-assignments
+
+module _ (slots : List Slot) where
+  condition-found : (c : ConditionTree) (ms : List Literal) → Means-condition slots c ms → Each (λ (m : Literal). Found slots (m .pair)) ms
+  condition-found c ms (means-and {c = d} {ms = ls} {m = m} g h) = each-last (λ (x : Literal). Found slots (x .pair)) ls m (condition-found d ls g) (named-found slots _ _ (m .pair) (h .names))
+  condition-found c ms (means-one {m = m} h) = (named-found slots _ _ (m .pair) (h .names), tt)
+  condition-found c ms means-true = tt
+
+  -- What is said of a rule's assignments.
+  abbrev Assigned : List Pair → Type 0
+  Assigned ps = Each (Found slots) ps × T (each-once ps) × (0 < length ps)
+
+  assignment-found : (a : AssignmentTree) (p : Pair) → Means-assignment slots a p → Found slots p
+  assignment-found a p (means-assignment {s = s} {v = v} n) = named-found slots s v p n
+
+  one-assigned : (a : AssignmentTree) (p : Pair) → Means-assignment slots a p → Assigned (p ∷ [])
+  unfolding each-once assigns notᵇ
+  one-assigned a p g = ((assignment-found a p g, tt), and-i true true tt tt, omega arith)
+
+  assignments-found : (l : AssignmentListTree) (ps : List Pair) → Means-assignments slots l ps → Assigned ps
+  assignments-found l ps (means-first {a = a} {p = p} g) = one-assigned a p g
+  assignments-found l ps (means-comma {l = k} {ps = os} {a = a} {p = p} g h e) =
+      let w = assignments-found k os g in
+      (each-last (Found slots) os p (w .0) (assignment-found a p h), once-more os p (w .1) e, omega (arith, length-append os (p ∷ [])))
+
+  assign-found : (a : AssignTree) (ps : List Pair) → Means-assign slots a ps → Assigned ps
+  assign-found a ps (means-alone {a = b} {p = p} g) = one-assigned b p g
+  assign-found a ps (means-braces {l = l} g) = assignments-found l ps g
+
+  rules-found : (ts : List RuleTree) (rs : List Rule) → Means-rules slots ts rs → Each (Found-rule slots) rs
+  rules-found ts rs no-rules = tt
+  rules-found ts rs (more-rules {r = r} {ts = us} {rs = qs} (means-rule {c = c} {a = a} (means-trigger {s = s} {v = v} n) m few g most) gs) =
+      let w = assign-found a (r .assignments) g in (
+        record {
+          trigger-found = named-found slots s v (r .trigger) n;
+          literals-found = condition-found c (r .literals) m;
+          few-literals = few;
+          assignments-found = w .0;
+          once = w .1;
+          some = w .2;
+          few-assignments = most;
+        },
+        rules-found us qs gs,
+      )
+
+-- A slot has a value, and values within the limit.
+abbrev pub Valued : Slot → Type 0
+Valued s = (0 < length (s .values)) × (length (s .values) ≤ max-values)
+
+values-some : (t : ValueListTree) (ns : List Name) → Means-values t ns → 0 < length ns
+values-some t ns means-value = omega arith
+values-some t ns (means-values {ns = ms} {n = n} h e) = omega (arith, length-append ms (n ∷ []))
+
+lines-valued : (before : List Slot) (ts : List LineTree) (slots : List Slot) → Means-lines before ts slots → Each Valued before → Each Valued slots
+lines-valued before ts slots no-lines h = h
+lines-valued before ts slots (more-lines {s = s} {ts = us} (means-line {vs = vs} d g few) ms) h = lines-valued (before ++ s ∷ []) us slots ms (each-last Valued before s h (values-some vs (s .values) g, few))
+
+-- A file is declared.
+pub record Declared (f : File) : Type 0 where
+  pub few-slots : length (f .slots) ≤ max-slots
+  pub slots-valued : Each Valued (f .slots)
+  pub few-rules : length (f .rules) ≤ max-rules
+  pub each-found : Each (Found-rule (f .slots)) (f .rules)
+
+-- A FILE THAT A TREE MEANS is declared.
+pub means-declared : (t : FileTree) (f : File) → Means t f → Declared f
+means-declared t f m =
+    record { few-slots = m .few-slots; slots-valued = lines-valued [] (t .lines) (f .slots) (m .lines-are) tt; few-rules = m .few-rules; each-found = rules-found (f .slots) (t .rules) (f .rules) (m .rules-are) }
+
+pub file-declared : (text : List ℕ) (f : File) → Is-file text f → Declared f
+file-declared text f a = means-declared (a .tree) f (a .means)
