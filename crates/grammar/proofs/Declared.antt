@@ -1,4 +1,4 @@
--- A file that a tree means is declared: it keeps to the limits, each slot has values, and its rules name only what it declares.
+-- A file that a tree means keeps to the limits, each of its slots has values, and its rules name only what it declares.
 -- Assumes nothing.
 use Prim.Native.Nat.{ℕ, suc, _-_, _≤_, _<_}
 use native.Mathlib.Omega.{arith}
@@ -21,9 +21,9 @@ use Rattle.grammar.specs.Files.{Slot, File, spellings, slot-names, no-sl
 use Rattle.grammar.specs.Grammar.{RuleTree, ConditionTree, AssignTree, AssignmentListTree, AssignmentTree, ValueListTree, LineTree, FileTree}
 use Rattle.grammar.specs.Meaning.{Names, Means-condition, means-and, means-one, means-true, Means-assignment, means-assignment, Means-assignments, means-first, means-comma, Means-assign, means-alone, means-braces, means-trigger, means-rule, Means-rules, no-rules, more-rules, Means-values, means-value, means-values, means-line, Means-lines, no-lines, more-lines, Means, Is-file}
 
--- A pair is found by the declared names of its slot and its value.
-abbrev pub Found : List Slot → Pair → Type 0
-Found slots p = Names slots (slot-named slots p) (value-named slots p) p
+-- A pair is declared: its slot and its value have names, by which they are found.
+abbrev pub Declared-pair : List Slot → Pair → Type 0
+Declared-pair slots p = Names slots (slot-named slots p) (value-named slots p) p
 
 -- A name that is found has the letters of the declared name.
 pub names-letters : (slots : List Slot) (s v : Name) (p : Pair) → Names slots s v p → (s .letters ≡ slot-named slots p .letters) × (v .letters ≡ value-named slots p .letters)
@@ -39,8 +39,8 @@ names-letters slots s v p n =
     found : (l : List ℕ) (ls : List (List ℕ)) (k : ℕ) → place l ls ≡ suc k → l ≡ getD ls k []
     found l ls k e = place-spelled l ls [] k e ∙ ap (λ (ms : List (List ℕ)). getD ms k []) (append-nil ls)
 
-named-found : (slots : List Slot) (s v : Name) (p : Pair) → Names slots s v p → Found slots p
-named-found slots s v p n =
+named-declared : (slots : List Slot) (s v : Name) (p : Pair) → Names slots s v p → Declared-pair slots p
+named-declared slots s v p n =
     let e = names-letters slots s v p n in
     record {
       slot-is = ap (λ (l : List ℕ). place l (spellings (slot-names slots))) (sym (e .0)) ∙ n .slot-is;
@@ -48,14 +48,14 @@ named-found slots s v p n =
       value-there = n .value-there;
     }
 
--- A pair that is found is of a slot that is there, and of a value that is there.
-pub found-slot : (slots : List Slot) (p : Pair) → Found slots p → p .slot < length slots
-found-slot slots p n =
+-- A declared pair is of a slot that is there, and of a value that is there.
+pub slot-declared : (slots : List Slot) (p : Pair) → Declared-pair slots p → p .slot < length slots
+slot-declared slots p n =
     let l : length (spellings (slot-names slots)) ≡ length slots = rw (length-map, length-map) in
     omega (arith, l, n .slot-is, place-le (slot-named slots p .letters) (spellings (slot-names slots)))
 
-pub found-value : (slots : List Slot) (p : Pair) → Found slots p → p .value ≤ length (values-of slots (p .slot))
-found-value slots p n =
+pub value-declared : (slots : List Slot) (p : Pair) → Declared-pair slots p → p .value ≤ length (values-of slots (p .slot))
+value-declared slots p n =
     let l : length (spellings (values-of slots (p .slot))) ≡ length (values-of slots (p .slot)) = rw length-map in
     omega (arith, l, n .value-is, place-le (value-named slots p .letters) (spellings (values-of slots (p .slot))))
 
@@ -87,7 +87,7 @@ once-more (q ∷ ps) p t e =
     let none = not-true (assigns ps (q .slot)) (and-l (notᵇ (assigns ps (q .slot))) _ t) in
     and-i (notᵇ (assigns (ps ++ p ∷ []) (q .slot))) _ (rw (assigns-more ps p (q .slot) none (turned-round (q .slot) (p .slot) (w .0))) tt) (once-more ps p (and-r (notᵇ (assigns ps (q .slot))) _ t) (w .1))
 
--- Of assignments to a slot each, none is to a slot that one before it assigns.
+-- Where no slot is assigned twice, none is that one before it assigns.
 pub once-before : (os ps : List Pair) (p : Pair) → T (each-once (os ++ p ∷ ps)) → assigns os (p .slot) ≡ false
 unfolding each-once assigns _∨ᵇ_
 once-before [] ps p t = refl
@@ -99,57 +99,57 @@ once-before (q ∷ os) ps p t =
     among [] e = neither (eqb (p .slot) (q .slot)) _ e .0
     among (r ∷ rs) e = among rs (neither (eqb (r .slot) (q .slot)) _ e .1)
 
--- A rule keeps to the limits, its pairs are found, and it assigns some slots, none twice.
-pub record Found-rule (slots : List Slot) (r : Rule) : Type 0 where
-  pub trigger-found : Found slots (r .trigger)
-  pub literals-found : Each (λ (m : Literal). Found slots (m .pair)) (r .literals)
+-- A rule keeps to the limits, its pairs are declared, and it assigns some slots, none twice.
+pub record Declared-rule (slots : List Slot) (r : Rule) : Type 0 where
+  pub trigger-declared : Declared-pair slots (r .trigger)
+  pub literals-declared : Each (λ (m : Literal). Declared-pair slots (m .pair)) (r .literals)
   pub few-literals : length (r .literals) ≤ max-literals
-  pub assignments-found : Each (Found slots) (r .assignments)
+  pub assignments-declared : Each (Declared-pair slots) (r .assignments)
   pub once : T (each-once (r .assignments))
   pub some : 0 < length (r .assignments)
   pub few-assignments : length (r .assignments) ≤ max-assignments
 
 module _ (slots : List Slot) where
-  condition-found : (c : ConditionTree) (ms : List Literal) → Means-condition slots c ms → Each (λ (m : Literal). Found slots (m .pair)) ms
-  condition-found c ms (means-and {c = d} {ms = ls} {m = m} g h) = each-last (λ (x : Literal). Found slots (x .pair)) ls m (condition-found d ls g) (named-found slots _ _ (m .pair) (h .names))
-  condition-found c ms (means-one {m = m} h) = (named-found slots _ _ (m .pair) (h .names), tt)
-  condition-found c ms means-true = tt
+  condition-declared : (c : ConditionTree) (ms : List Literal) → Means-condition slots c ms → Each (λ (m : Literal). Declared-pair slots (m .pair)) ms
+  condition-declared c ms (means-and {c = d} {ms = ls} {m = m} g h) = each-last (λ (x : Literal). Declared-pair slots (x .pair)) ls m (condition-declared d ls g) (named-declared slots _ _ (m .pair) (h .names))
+  condition-declared c ms (means-one {m = m} h) = (named-declared slots _ _ (m .pair) (h .names), tt)
+  condition-declared c ms means-true = tt
 
   -- What is said of a rule's assignments.
   abbrev Assigned : List Pair → Type 0
-  Assigned ps = Each (Found slots) ps × T (each-once ps) × (0 < length ps)
+  Assigned ps = Each (Declared-pair slots) ps × T (each-once ps) × (0 < length ps)
 
-  assignment-found : (a : AssignmentTree) (p : Pair) → Means-assignment slots a p → Found slots p
-  assignment-found a p (means-assignment {s = s} {v = v} n) = named-found slots s v p n
+  assignment-declared : (a : AssignmentTree) (p : Pair) → Means-assignment slots a p → Declared-pair slots p
+  assignment-declared a p (means-assignment {s = s} {v = v} n) = named-declared slots s v p n
 
   one-assigned : (a : AssignmentTree) (p : Pair) → Means-assignment slots a p → Assigned (p ∷ [])
   unfolding each-once assigns notᵇ
-  one-assigned a p g = ((assignment-found a p g, tt), and-i true true tt tt, omega arith)
+  one-assigned a p g = ((assignment-declared a p g, tt), and-i true true tt tt, omega arith)
 
-  assignments-found : (l : AssignmentListTree) (ps : List Pair) → Means-assignments slots l ps → Assigned ps
-  assignments-found l ps (means-first {a = a} {p = p} g) = one-assigned a p g
-  assignments-found l ps (means-comma {l = k} {ps = os} {a = a} {p = p} g h e) =
-      let w = assignments-found k os g in
-      (each-last (Found slots) os p (w .0) (assignment-found a p h), once-more os p (w .1) e, omega (arith, length-append os (p ∷ [])))
+  assignments-declared : (l : AssignmentListTree) (ps : List Pair) → Means-assignments slots l ps → Assigned ps
+  assignments-declared l ps (means-first {a = a} {p = p} g) = one-assigned a p g
+  assignments-declared l ps (means-comma {l = k} {ps = os} {a = a} {p = p} g h e) =
+      let w = assignments-declared k os g in
+      (each-last (Declared-pair slots) os p (w .0) (assignment-declared a p h), once-more os p (w .1) e, omega (arith, length-append os (p ∷ [])))
 
-  assign-found : (a : AssignTree) (ps : List Pair) → Means-assign slots a ps → Assigned ps
-  assign-found a ps (means-alone {a = b} {p = p} g) = one-assigned b p g
-  assign-found a ps (means-braces {l = l} g) = assignments-found l ps g
+  assign-declared : (a : AssignTree) (ps : List Pair) → Means-assign slots a ps → Assigned ps
+  assign-declared a ps (means-alone {a = b} {p = p} g) = one-assigned b p g
+  assign-declared a ps (means-braces {l = l} g) = assignments-declared l ps g
 
-  rules-found : (ts : List RuleTree) (rs : List Rule) → Means-rules slots ts rs → Each (Found-rule slots) rs
-  rules-found ts rs no-rules = tt
-  rules-found ts rs (more-rules {r = r} {ts = us} {rs = qs} (means-rule {c = c} {a = a} (means-trigger {s = s} {v = v} n) m few g most) gs) =
-      let w = assign-found a (r .assignments) g in (
+  rules-declared : (ts : List RuleTree) (rs : List Rule) → Means-rules slots ts rs → Each (Declared-rule slots) rs
+  rules-declared ts rs no-rules = tt
+  rules-declared ts rs (more-rules {r = r} {ts = us} {rs = qs} (means-rule {c = c} {a = a} (means-trigger {s = s} {v = v} n) m few g most) gs) =
+      let w = assign-declared a (r .assignments) g in (
         record {
-          trigger-found = named-found slots s v (r .trigger) n;
-          literals-found = condition-found c (r .literals) m;
+          trigger-declared = named-declared slots s v (r .trigger) n;
+          literals-declared = condition-declared c (r .literals) m;
           few-literals = few;
-          assignments-found = w .0;
+          assignments-declared = w .0;
           once = w .1;
           some = w .2;
           few-assignments = most;
         },
-        rules-found us qs gs,
+        rules-declared us qs gs,
       )
 
 -- A slot has a value, and values within the limit.
@@ -164,17 +164,17 @@ lines-valued : (before : List Slot) (ts : List LineTree) (slots : List Slot) →
 lines-valued before ts slots no-lines h = h
 lines-valued before ts slots (more-lines {s = s} {ts = us} (means-line {vs = vs} d g few) ms) h = lines-valued (before ++ s ∷ []) us slots ms (each-last Valued before s h (values-some vs (s .values) g, few))
 
--- A file is declared.
-pub record Declared (f : File) : Type 0 where
+-- A file keeps to the limits, each slot has values, and each rule is declared.
+pub record Declared-file (f : File) : Type 0 where
   pub few-slots : length (f .slots) ≤ max-slots
   pub slots-valued : Each Valued (f .slots)
   pub few-rules : length (f .rules) ≤ max-rules
-  pub each-found : Each (Found-rule (f .slots)) (f .rules)
+  pub each-rule : Each (Declared-rule (f .slots)) (f .rules)
 
--- A FILE THAT A TREE MEANS is declared.
-pub means-declared : (t : FileTree) (f : File) → Means t f → Declared f
+-- A FILE THAT A TREE MEANS does.
+pub means-declared : (t : FileTree) (f : File) → Means t f → Declared-file f
 means-declared t f m =
-    record { few-slots = m .few-slots; slots-valued = lines-valued [] (t .lines) (f .slots) (m .lines-are) tt; few-rules = m .few-rules; each-found = rules-found (f .slots) (t .rules) (f .rules) (m .rules-are) }
+    record { few-slots = m .few-slots; slots-valued = lines-valued [] (t .lines) (f .slots) (m .lines-are) tt; few-rules = m .few-rules; each-rule = rules-declared (f .slots) (t .rules) (f .rules) (m .rules-are) }
 
-pub file-declared : (text : List ℕ) (f : File) → Is-file text f → Declared f
+pub file-declared : (text : List ℕ) (f : File) → Is-file text f → Declared-file f
 file-declared text f a = means-declared (a .tree) f (a .means)

@@ -13,7 +13,7 @@ use Rattle.model.specs.Rules.{Pair, Literal, Rule}
 use Rattle.grammar.specs.Limits.{max-slots, max-values, max-rules, max-literals, max-assignments}
 use Rattle.grammar.specs.Files.{Slot, File, spellings, slot-named, value-named}
 use Rattle.grammar.specs.Meaning.{Is-file}
-use Rattle.grammar.proofs.Declared.{Found, Found-rule, Valued, file-declared}
+use Rattle.grammar.proofs.Declared.{Declared-pair, Declared-rule, Valued, file-declared}
 use Rattle.laws.specs.Listed.{Each}
 use Rattle.laws.proofs.Listed.{each-map, each-imply}
 use Rattle.style.specs.Printed.{print, Named, Well-named}
@@ -49,7 +49,7 @@ separated-le {A} sep m part (x ∷ xs) h =
     omega arith
 
 module _ (slots : List Slot) (formed : Each Well-named slots) where
-  pair-le : (mark : List ℕ) (p : Pair) → Found slots p → length (pair-bytes slots mark p) ≤ 48 + length mark
+  pair-le : (mark : List ℕ) (p : Pair) → Declared-pair slots p → length (pair-bytes slots mark p) ≤ 48 + length mark
   unfolding pair-bytes
   pair-le mark p d =
       let s = slot-formed slots formed p d .0 .short in
@@ -58,7 +58,7 @@ module _ (slots : List Slot) (formed : Each Well-named slots) where
       let b = length-append mark (value-named slots p .letters) in
       omega arith
 
-  literal-le : (m : Literal) → Found slots (m .pair) → length (literal-bytes (pair-bytes slots) m) ≤ 56
+  literal-le : (m : Literal) → Declared-pair slots (m .pair) → length (literal-bytes (pair-bytes slots) m) ≤ 56
   unfolding literal-bytes test-bytes bytes bytes-from
   literal-le m d = go (m .becomes) (m .negated)
     where
@@ -68,26 +68,26 @@ module _ (slots : List Slot) (formed : Each Well-named slots) where
       go false true = let h = pair-le (bytes " |= ") (m .pair) d in omega arith
       go false false = let h = pair-le (bytes " |= ") (m .pair) d in omega arith
 
-  condition-le : (ms : List Literal) → Each (λ (m : Literal). Found slots (m .pair)) ms → length (condition-bytes (pair-bytes slots) ms) ≤ 4 + length ms * 61
+  condition-le : (ms : List Literal) → Each (λ (m : Literal). Declared-pair slots (m .pair)) ms → length (condition-bytes (pair-bytes slots) ms) ≤ 4 + length ms * 61
   unfolding condition-bytes bytes bytes-from
   condition-le [] d = omega arith
   condition-le (m ∷ ms) d =
       let r : length (separated (bytes " AND ") (map (literal-bytes (pair-bytes slots)) (m ∷ ms))) ≤ length (m ∷ ms) * 61 =
-      separated-le (bytes " AND ") 56 (literal-bytes (pair-bytes slots)) (m ∷ ms) (each-imply (λ (x : Literal). Found slots (x .pair)) (λ (x : Literal). length (literal-bytes (pair-bytes slots) x) ≤ 56) (m ∷ ms) literal-le d) in
+      separated-le (bytes " AND ") 56 (literal-bytes (pair-bytes slots)) (m ∷ ms) (each-imply (λ (x : Literal). Declared-pair slots (x .pair)) (λ (x : Literal). length (literal-bytes (pair-bytes slots) x) ≤ 56) (m ∷ ms) literal-le d) in
       omega arith
 
-  assign-le : (ps : List Pair) → Each (Found slots) ps → length (assign-bytes (pair-bytes slots) ps) ≤ 4 + length ps * 54
+  assign-le : (ps : List Pair) → Each (Declared-pair slots) ps → length (assign-bytes (pair-bytes slots) ps) ≤ 4 + length ps * 54
   unfolding assign-bytes bytes bytes-from
   assign-le [] d = omega arith
   assign-le (p ∷ []) d = let h = pair-le (bytes " := ") p (d .0) in omega arith
   assign-le (p ∷ q ∷ qs) d =
       let list = separated (bytes ", ") (map (pair-bytes slots (bytes " := ")) (p ∷ q ∷ qs)) in
       let r : length list ≤ length (p ∷ q ∷ qs) * 54 =
-      separated-le (bytes ", ") 52 (pair-bytes slots (bytes " := ")) (p ∷ q ∷ qs) (each-imply (Found slots) (λ (x : Pair). length (pair-bytes slots (bytes " := ") x) ≤ 52) (p ∷ q ∷ qs) (pair-le (bytes " := ")) d) in
+      separated-le (bytes ", ") 52 (pair-bytes slots (bytes " := ")) (p ∷ q ∷ qs) (each-imply (Declared-pair slots) (λ (x : Pair). length (pair-bytes slots (bytes " := ") x) ≤ 52) (p ∷ q ∷ qs) (pair-le (bytes " := ")) d) in
       let a = length-append list (bytes " }") in
       omega arith
 
-  rule-le : (x : Rule) → Found-rule slots x → length (rule-bytes (pair-bytes slots) x) ≤ rule-line-most
+  rule-le : (x : Rule) → Declared-rule slots x → length (rule-bytes (pair-bytes slots) x) ≤ rule-line-most
   unfolding rule-bytes bytes bytes-from max-literals max-assignments
   rule-le x d =
       let p = pair-bytes slots (bytes " *= ") (x .trigger) in
@@ -96,7 +96,7 @@ module _ (slots : List Slot) (formed : Each Well-named slots) where
       let i = length-append p (bytes " IF " ++ (c ++ (bytes " THEN " ++ (s ++ bytes ";\n")))) in
       let j = length-append c (bytes " THEN " ++ (s ++ bytes ";\n")) in
       let k = length-append s (bytes ";\n") in
-      omega (arith, i, j, k, pair-le (bytes " *= ") (x .trigger) (d .trigger-found), condition-le (x .literals) (d .literals-found), assign-le (x .assignments) (d .assignments-found), d .few-literals, d .few-assignments)
+      omega (arith, i, j, k, pair-le (bytes " *= ") (x .trigger) (d .trigger-declared), condition-le (x .literals) (d .literals-declared), assign-le (x .assignments) (d .assignments-declared), d .few-literals, d .few-assignments)
 
 slot-le : (s : Slot) → Well-named s → Valued s → length (slot-bytes s) ≤ slot-line-most
 unfolding line-bytes bytes bytes-from max-values
@@ -128,6 +128,6 @@ print-bounded text f a =
     let rules = map (rule-bytes (pair-bytes (f .slots))) (f .rules) in
     let h = joined-le slot-line-most slot-bytes (f .slots) (slots-le (f .slots) n (d .slots-valued)) in
     let k = joined-le rule-line-most (rule-bytes (pair-bytes (f .slots))) (f .rules)
-    (each-imply (Found-rule (f .slots)) (λ (x : Rule). length (rule-bytes (pair-bytes (f .slots)) x) ≤ rule-line-most) (f .rules) (rule-le (f .slots) n) (d .each-found)) in
+    (each-imply (Declared-rule (f .slots)) (λ (x : Rule). length (rule-bytes (pair-bytes (f .slots)) x) ≤ rule-line-most) (f .rules) (rule-le (f .slots) n) (d .each-rule)) in
     let e = ap length (print-written text f a) in
     omega (arith, h, k, e, length-append (joined lines) (joined rules), d .few-slots, d .few-rules)

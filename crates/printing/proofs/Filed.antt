@@ -18,7 +18,7 @@ use Rattle.grammar.specs.Files.{Slot, File, spellings, slot-names, values-of, n
 use Rattle.grammar.specs.Meaning.{Is-file}
 use Rattle.grammar.proofs.Accepts.{accepts-iff}
 use Rattle.grammar.proofs.Stands.{file-stands}
-use Rattle.grammar.proofs.Declared.{Found, found-slot, found-value, Found-rule, Valued, Declared, file-declared}
+use Rattle.grammar.proofs.Declared.{Declared-pair, slot-declared, value-declared, Declared-rule, Valued, Declared-file, file-declared}
 use Rattle.table.specs.declared.Table.{Table}
 use Rattle.table.specs.Shape as zero-values
 use Rattle.table.specs.Shape.{Shaped}
@@ -56,28 +56,28 @@ spanned-at text (k ∷ ks) (n ∷ ns) zero S h = rw (le-leb (k / 32 + k % 32) (l
 spanned-at text (k ∷ ks) (n ∷ ns) (suc i) S h = spanned-at text ks ns i (S .3) (omega arith)
 
 -- Two ways of writing pairs that agree on the pairs of a rule write the same line.
-module _ (slots : List Slot) (P Q : Pairing) (same : (mark : List ℕ) (p : Pair) → Found slots p → P mark p ≡ Q mark p) where
-  literal-same : (l : Literal) → Found slots (l .pair) → literal-bytes P l ≡ literal-bytes Q l
+module _ (slots : List Slot) (P Q : Pairing) (same : (mark : List ℕ) (p : Pair) → Declared-pair slots p → P mark p ≡ Q mark p) where
+  literal-same : (l : Literal) → Declared-pair slots (l .pair) → literal-bytes P l ≡ literal-bytes Q l
   unfolding literal-bytes test-bytes
   literal-same l d = rw (same _ (l .pair) d)
 
-  condition-same : (ls : List Literal) → Each (λ (l : Literal). Found slots (l .pair)) ls → condition-bytes P ls ≡ condition-bytes Q ls
+  condition-same : (ls : List Literal) → Each (λ (l : Literal). Declared-pair slots (l .pair)) ls → condition-bytes P ls ≡ condition-bytes Q ls
   unfolding condition-bytes
   condition-same [] d = refl
-  condition-same (l ∷ ls) d = ap (separated _) (maps-alike (λ (m : Literal). Found slots (m .pair)) (literal-bytes P) (literal-bytes Q) (l ∷ ls) literal-same d)
+  condition-same (l ∷ ls) d = ap (separated _) (maps-alike (λ (m : Literal). Declared-pair slots (m .pair)) (literal-bytes P) (literal-bytes Q) (l ∷ ls) literal-same d)
 
-  assign-same : (ps : List Pair) → Each (Found slots) ps → assign-bytes P ps ≡ assign-bytes Q ps
+  assign-same : (ps : List Pair) → Each (Declared-pair slots) ps → assign-bytes P ps ≡ assign-bytes Q ps
   unfolding assign-bytes
   assign-same [] d = refl
   assign-same (p ∷ []) d = same _ p (d .0)
-  assign-same (p ∷ q ∷ qs) d = rw (maps-alike (Found slots) (P _) (Q _) (p ∷ q ∷ qs) (same _) d)
+  assign-same (p ∷ q ∷ qs) d = rw (maps-alike (Declared-pair slots) (P _) (Q _) (p ∷ q ∷ qs) (same _) d)
 
-  rule-same : (r : Rule) → Found-rule slots r → rule-bytes P r ≡ rule-bytes Q r
+  rule-same : (r : Rule) → Declared-rule slots r → rule-bytes P r ≡ rule-bytes Q r
   unfolding rule-bytes
-  rule-same r d = rw (same _ (r .trigger) (d .trigger-found), condition-same (r .literals) (d .literals-found), assign-same (r .assignments) (d .assignments-found))
+  rule-same r d = rw (same _ (r .trigger) (d .trigger-declared), condition-same (r .literals) (d .literals-declared), assign-same (r .assignments) (d .assignments-declared))
 
-  rules-same : (rs : List Rule) → Each (Found-rule slots) rs → map (rule-bytes P) rs ≡ map (rule-bytes Q) rs
-  rules-same rs d = maps-alike (Found-rule slots) (rule-bytes P) (rule-bytes Q) rs rule-same d
+  rules-same : (rs : List Rule) → Each (Declared-rule slots) rs → map (rule-bytes P) rs ≡ map (rule-bytes Q) rs
+  rules-same rs d = maps-alike (Declared-rule slots) (rule-bytes P) (rule-bytes Q) rs rule-same d
 
 module _ (text : List ℕ) (o : reading text .outcome ≡ Accepted) where
   -- The file, and its table.
@@ -90,7 +90,7 @@ module _ (text : List ℕ) (o : reading text .outcome ≡ Accepted) where
   pub is-file : Is-file text file
   is-file = accepts-iff text file .0 (accepted-table text o .1)
 
-  declared : Declared file
+  declared : Declared-file file
   declared = file-declared text file is-file
 
   pub tabled : Tabled text (file .slots) read-table
@@ -120,7 +120,7 @@ module _ (text : List ℕ) (o : reading text .outcome ≡ Accepted) where
       let r = getD (read-table .rules) j zero-values.no-rule in
       let m : read-table .count ≤ length (read-table .rules) = omega (arith, table-fits sh .rules-fit, sh .rule-places) in
       let k : j < length (file .rules) = omega (arith, h, rules-length read-table m, ap length (accepted-table text o .3)) in
-      let d = each-at (Found-rule (file .slots)) (file .rules) j (rule-of zero-values.no-rule) (declared .each-found) k .some in
+      let d = each-at (Declared-rule (file .slots)) (file .rules) j (rule-of zero-values.no-rule) (declared .each-rule) k .some in
       let e = ap (λ (x : Rule). length (x .assignments)) (sym (rule-is read-table j h) ∙ ap (λ (rs : List Rule). getD rs j (rule-of zero-values.no-rule)) (accepted-table text o .3)) in
       omega (arith, d, e, length-map (take (r .assigned) (r .assignments)) assignment-of, length-take (r .assigned) (r .assignments))
 
@@ -144,12 +144,12 @@ module _ (text : List ℕ) (o : reading text .outcome ≡ Accepted) where
         ap (spelled text) (sym (getD-take value-limit (drop (s * row + 1) vs) j 0 z ∙ getD-drop (s * row + 1) vs j 0))
         ∙ spanned-at text (row-of vs s) (values-of (file .slots) s) j (I .values s (omega (arith, tabled .few))) k
 
-    pair-spelled : (mark : List ℕ) (p : Pair) → Found (file .slots) p → spelled-pair text ss vs mark p ≡ pair-bytes (file .slots) mark p
+    pair-spelled : (mark : List ℕ) (p : Pair) → Declared-pair (file .slots) p → spelled-pair text ss vs mark p ≡ pair-bytes (file .slots) mark p
     unfolding spelled-pair pair-bytes
     pair-spelled mark p d =
-        let a = found-slot (file .slots) p d in
+        let a = slot-declared (file .slots) p d in
         let z : place-of p ≡ p .slot * row + 1 + (p .value - 1) = omega (arith, d .value-there) in
-        ap₂ (λ (x y : List ℕ). x ++ (mark ++ y)) (slot-spelled (p .slot) a) (ap (λ (k : ℕ). spelled text (getD vs k 0)) z ∙ value-spelled (p .slot) (p .value - 1) a (omega (arith, d .value-there, found-value (file .slots) p d)))
+        ap₂ (λ (x y : List ℕ). x ++ (mark ++ y)) (slot-spelled (p .slot) a) (ap (λ (k : ℕ). spelled text (getD vs k 0)) z ∙ value-spelled (p .slot) (p .value - 1) a (omega (arith, d .value-there, value-declared (file .slots) p d)))
 
     values-spelled : (s : ℕ) → s < length (file .slots) → spellings (values-of (file .slots) s) ≡ spelled-values text vs s (length (values-of (file .slots) s))
     unfolding spelled-values
@@ -173,7 +173,7 @@ module _ (text : List ℕ) (o : reading text .outcome ≡ Accepted) where
     print-spelled =
         ap₂ (λ (xs ys : List (List ℕ)). joined xs ++ joined ys) (sym lines-spelled)
         (ap (map (rule-bytes (spelled-pair text ss vs))) (accepted-table text o .3)
-        ∙ rules-same (file .slots) (spelled-pair text ss vs) (pair-bytes (file .slots)) pair-spelled (file .rules) (declared .each-found))
+        ∙ rules-same (file .slots) (spelled-pair text ss vs) (pair-bytes (file .slots)) pair-spelled (file .rules) (declared .each-rule))
         ∙ sym (print-written text file is-file)
 
     -- And are within the bound.

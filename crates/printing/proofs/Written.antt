@@ -14,7 +14,7 @@ use Rattle.grammar.specs.Files.{Slot, File, spellings, slot-named, value-named}
 use Rattle.grammar.specs.Grammar.{and-literal, one-literal, LiteralTree, not-literal, becomes-value, has-value, one-assignment, comma-assignment, one-value, comma-value, LineTree, spell-literal, spell-condition, spell-assignment, spell-assignments, spell-assign, spell-rule, spell-rules, spell-values, spell-lines, grown}
 use Rattle.grammar.specs.Meaning.{Is-file}
 use Rattle.grammar.proofs.Leftmost.{spell-more, spell-name, spells-grown}
-use Rattle.grammar.proofs.Declared.{Found-rule, file-declared}
+use Rattle.grammar.proofs.Declared.{Declared-rule, file-declared}
 use Rattle.style.specs.Layout.{token-bytes, tight, gap, layout}
 use Rattle.laws.specs.Listed.{Each}
 use Rattle.laws.proofs.Listed.{each-imply}
@@ -159,4 +159,4 @@ pub print-written : (text : List ℕ) (f : File) → Is-file text f → print f 
 unfolding print file-bytes
 print-written text f a =
     lines-laid (f .slots) (spell-rules (map (rule-tree (f .slots)) (f .rules)) [])
-    ∙ ap (λ (y : List ℕ). joined (map slot-bytes (f .slots)) ++ y) (rules-laid (f .slots) (f .rules) (each-imply (Found-rule (f .slots)) (λ (x : Rule). 0 < length (x .assignments)) (f .rules) (λ x d. d .some) (file-declared text f a .each-found)))
+    ∙ ap (λ (y : List ℕ). joined (map slot-bytes (f .slots)) ++ y) (rules-laid (f .slots) (f .rules) (each-imply (Declared-rule (f .slots)) (λ (x : Rule). 0 < length (x .assignments)) (f .rules) (λ x d. d .some) (file-declared text f a .each-rule)))

@@ -23,7 +23,7 @@ use Rattle.style.specs.Printed.{lettered, Agree}
 use Rattle.style.proofs.Prints.{agree-counts}
 use Rattle.rule_file.specs.Whole.{reading}
 use Rattle.rule_file.specs.Carries.{declared-slot, declared-value, Carries}
-use Rattle.grammar.proofs.Declared.{Declared, file-declared}
+use Rattle.grammar.proofs.Declared.{Declared-file, file-declared}
 use Rattle.promises.specs.HouseStyle.{Alike}
 use Rattle.promises.proofs.Bounds.{few-values}
 
@@ -105,14 +105,14 @@ module _ (text text′ : List ℕ) (c : Carries text (reading text .table)) (c�
           let k : i < length (f .rules) = omega (arith, h, as-many-strata text _ c) in
           strata-at text _ c i k ∙ ap (λ (rs : List Rule). strata-of strict rs (suc i)) (a .same-rules) ∙ sym (strata-at text′ _ c′ i (omega (arith, k, counted)))
 
-  declared : Declared f
+  declared : Declared-file f
   declared = file-declared text f (c .is-file)
 
-  declared′ : Declared g
+  declared′ : Declared-file g
   declared′ = file-declared text′ g (c′ .is-file)
 
   -- A slot of a file has no more values than the limit.
-  most : (h : File) → Declared h → (s : ℕ) → length (values-of (h .slots) s) ≤ value-limit
+  most : (h : File) → Declared-file h → (s : ℕ) → length (values-of (h .slots) s) ≤ value-limit
   most h d s = let z = List·getD-map (λ (x : Slot). length (x .values)) (h .slots) s no-slot in omega (arith, few-values h d s, z)
 
   -- Texts that are alike have files that agree.

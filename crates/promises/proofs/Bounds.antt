@@ -22,7 +22,7 @@ use Rattle.model.proofs.Results.{value-in-right, slip-e, slip-rising, new-card-
 use Rattle.table.specs.Limits.{row}
 use Rattle.grammar.specs.Files.{Slot, File, no-slot, slot-counts}
 use Rattle.grammar.specs.Limits.{max-slots, max-values}
-use Rattle.grammar.proofs.Declared.{Found, found-slot, found-value, Found-rule, Valued, Declared}
+use Rattle.grammar.proofs.Declared.{Declared-pair, slot-declared, value-declared, Declared-rule, Valued, Declared-file}
 use Rattle.laws.specs.Answers.{passed}
 use Rattle.cards.specs.Forms.{card-test, slip-test}
 use Rattle.cards.proofs.Tested.{same-count, no-pair}
@@ -35,7 +35,7 @@ unfolding among
 each-among P [] h p t = absurd t
 each-among P (q ∷ qs) h p t = ⊎-elim (λ s. rw (same-eq p q s) (h .0)) (each-among P qs (h .1) p) (or-e (same p q) (among p qs) t)
 
-module _ (f : File) (declared : Declared f) where
+module _ (f : File) (declared : Declared-file f) where
   -- No slot has more than 15 values.
   pub few-values : (s : ℕ) → getD (slot-counts (f .slots)) s 0 ≤ 15
   unfolding max-values
@@ -57,9 +57,9 @@ module _ (f : File) (declared : Declared f) where
   unfolding rule-at
   assigned-has zero p i t = absurd (omega (arith, i .first))
   assigned-has (suc k) p i t =
-      let r = each-at (Found-rule (f .slots)) (f .rules) k no-rule (declared .each-found) (omega (arith, i .last)) in
-      let n = each-among (Found (f .slots)) (getD (f .rules) k no-rule .assignments) (r .assignments-found) p t in
-      record { below = rw length-map (found-slot (f .slots) p n); first = n .value-there; last = rw (List·getD-map (λ (z : Slot). length (z .values)) (f .slots) (p .slot) no-slot) (found-value (f .slots) p n) }
+      let r = each-at (Declared-rule (f .slots)) (f .rules) k no-rule (declared .each-rule) (omega (arith, i .last)) in
+      let n = each-among (Declared-pair (f .slots)) (getD (f .rules) k no-rule .assignments) (r .assignments-declared) p t in
+      record { below = rw length-map (slot-declared (f .slots) p n); first = n .value-there; last = rw (List·getD-map (λ (z : Slot). length (z .values)) (f .slots) (p .slot) no-slot) (value-declared (f .slots) p n) }
 
   module _ (S : List ℕ) (I : List Pair) (slip : slip-test (slot-counts (f .slots)) I ≡ passed) (ns : List ℕ) (order : T (firing-order (f .rules) S I ns)) where
     -- So does C, at the end of a firing order from a slip that passes its tests.

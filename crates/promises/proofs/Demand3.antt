@@ -11,7 +11,7 @@ use Rattle.grammar.specs.Files.{File, slot-counts}
 use Rattle.grammar.specs.Meaning.{Is-file}
 use Rattle.reader.specs.declared.Outcome.the-variants.{Accepted}
 use Rattle.rule_file.specs.Whole.{reading}
-use Rattle.grammar.proofs.Declared.{Declared, file-declared}
+use Rattle.grammar.proofs.Declared.{Declared-file, file-declared}
 use Rattle.rule_file.proofs.Answers.{reading-accepted-iff}
 use Rattle.laws.specs.Answers.{taken, refused}
 use Rattle.cards.proofs.Having.{card-tested, slip-tested}
@@ -30,7 +30,7 @@ demand-3 text f h o = record {
   where-rearranged = unmoved text f h o;
 }
   where
-    declared : Declared f
+    declared : Declared-file f
     declared = file-declared text f h
 
     answered : (card slip : List ℕ) (a : Answer) → Ended f card slip (taken a) → Agreed f card slip (λ S I ns. Shows f S I a ns)

@@ -22,7 +22,7 @@ use Rattle.model.proofs.Demand3.{response-is-whole, demand-3}
 use Rattle.model.proofs.Results.{conflict-e, conflict-i, conflict-slot-right, conflict-slot-lowest, slip-length, no-conflict-e, slip-exact, new-card-length, new-card-at, new-value-kept, new-value-is}
 use Rattle.table.specs.Limits.{row}
 use Rattle.grammar.specs.Files.{File, slot-counts}
-use Rattle.grammar.proofs.Declared.{Declared}
+use Rattle.grammar.proofs.Declared.{Declared-file}
 use Rattle.laws.specs.Answers.{passed, taken}
 use Rattle.cards.specs.Forms.{card-test, slip-test, read-card, read-slip}
 use Rattle.cards.proofs.Passed.{card-pass}
@@ -34,7 +34,7 @@ use Rattle.promises.specs.Agreement.{InConflict, LowestConflict, Shows, 
 use Rattle.promises.proofs.FiredBits.{record-bit, record-ones}
 use Rattle.promises.proofs.Bounds.{file-slots, changes-has, changes-bounded, changes-pass, new-card-passes}
 
-module _ (f : File) (declared : Declared f) (no-circle : circle-of strict (f .rules) ≡ 0) (S : List ℕ) (I : List Pair)
+module _ (f : File) (declared : Declared-file f) (no-circle : circle-of strict (f .rules) ≡ 0) (S : List ℕ) (I : List Pair)
     (card : card-test (slot-counts (f .slots)) S ≡ passed) (slip : slip-test (slot-counts (f .slots)) I ≡ passed) where
   -- The rules that the response fires, in the order fired, and the C that they end with.
   abbrev ours : List ℕ

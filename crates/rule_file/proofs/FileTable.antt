@@ -28,7 +28,7 @@ use Rattle.table.proofs.Link.{count-is}
 use Rattle.grammar.specs.Files as files
 use Rattle.grammar.specs.Limits.{max-slots, max-values, max-rules, max-literals, max-assignments}
 use Rattle.grammar.specs.Files.{File, slot-counts}
-use Rattle.grammar.proofs.Declared.{Found, found-slot, found-value, Found-rule, Valued, Declared}
+use Rattle.grammar.proofs.Declared.{Declared-pair, slot-declared, value-declared, Declared-rule, Valued, Declared-file}
 use Rattle.soundness.specs.Sound.{has-pair, named, rule-right, well-formed}
 use Rattle.soundness.proofs.WellFormed.{well-formed-i}
 use Rattle.lines.specs.Index.{slot-for, name-for}
@@ -127,47 +127,47 @@ unused-shaped : RuleShaped unused-rule
 unfolding filled orders.no-rule
 unused-shaped = rule-for-shaped orders.no-rule (omega arith) (omega arith) (omega arith, omega arith) tt tt
 
-module _ (f : File) (D : Declared f) where
+module _ (f : File) (D : Declared-file f) where
   slot-some : (i : ℕ) → i < length (f .slots) → (1 ≤ length (getD (f .slots) i files.no-slot .values)) × (length (getD (f .slots) i files.no-slot .values) ≤ value-limit)
   unfolding max-values
   slot-some i h = each-at Valued (f .slots) i files.no-slot (D .slots-valued) h
 
-  -- What a pair that is found keeps to.
-  within : (p : model.Pair) → Found (f .slots) p → (p .slot < slot-limit) × (p .value ≤ value-limit)
+  -- A declared pair keeps to the limits.
+  within : (p : model.Pair) → Declared-pair (f .slots) p → (p .slot < slot-limit) × (p .value ≤ value-limit)
   unfolding max-slots
-  within p n = let k = found-slot (f .slots) p n in (omega (arith, k, D .few-slots), omega (arith, found-value (f .slots) p n, slot-some (p .slot) k .1))
+  within p n = let k = slot-declared (f .slots) p n in (omega (arith, k, D .few-slots), omega (arith, value-declared (f .slots) p n, slot-some (p .slot) k .1))
 
-  small : (p : model.Pair) → Found (f .slots) p → Small p
+  small : (p : model.Pair) → Declared-pair (f .slots) p → Small p
   small p n = (omega (arith, within p n .0), omega (arith, within p n .1))
 
   -- The table has it.
   abbrev own : model.Pair → Bool
   own p = has-pair (length (f .slots)) (slot-counts (f .slots)) p
 
-  found-own : (p : model.Pair) → Found (f .slots) p → T (own p)
+  declared-own : (p : model.Pair) → Declared-pair (f .slots) p → T (own p)
   unfolding has-pair has-slot has-value
-  found-own p n =
+  declared-own p n =
       and-i (ltb (p .slot) slot-limit ∧ᵇ ltb (p .slot) (length (f .slots))) _
-      (and-i (ltb (p .slot) slot-limit) _ (lt→ltb (p .slot) slot-limit (within p n .0)) (lt→ltb (p .slot) (length (f .slots)) (found-slot (f .slots) p n)))
+      (and-i (ltb (p .slot) slot-limit) _ (lt→ltb (p .slot) slot-limit (within p n .0)) (lt→ltb (p .slot) (length (f .slots)) (slot-declared (f .slots) p n)))
       (rw (List·getD-map (λ (z : files.Slot). length (z .values)) (f .slots) (p .slot) files.no-slot)
       (and-i (leb 1 (p .value) ∧ᵇ leb (p .value) value-limit) _
       (and-i (leb 1 (p .value)) _ (le→leb 1 (p .value) (n .value-there)) (le→leb (p .value) value-limit (within p n .1)))
-      (le→leb (p .value) _ (found-value (f .slots) p n))))
+      (le→leb (p .value) _ (value-declared (f .slots) p n))))
 
-  all-own : (ps : List model.Pair) → Each (Found (f .slots)) ps → T (all-of own ps)
-  all-own ps h = all-i own ps no-pair (λ i l. found-own (getD ps i no-pair) (each-at (Found (f .slots)) ps i no-pair h l))
+  all-own : (ps : List model.Pair) → Each (Declared-pair (f .slots)) ps → T (all-of own ps)
+  all-own ps h = all-i own ps no-pair (λ i l. declared-own (getD ps i no-pair) (each-at (Declared-pair (f .slots)) ps i no-pair h l))
 
-  rule-found : (i : ℕ) → i < length (f .rules) → Found-rule (f .slots) (getD (f .rules) i orders.no-rule)
-  rule-found i h = each-at (Found-rule (f .slots)) (f .rules) i orders.no-rule (D .each-found) h
+  rule-declared : (i : ℕ) → i < length (f .rules) → Declared-rule (f .slots) (getD (f .rules) i orders.no-rule)
+  rule-declared i h = each-at (Declared-rule (f .slots)) (f .rules) i orders.no-rule (D .each-rule) h
 
-  found-shaped : (i : ℕ) → i < length (map rule-for (f .rules)) → RuleShaped (getD (map rule-for (f .rules)) i no-rule)
+  declared-shaped : (i : ℕ) → i < length (map rule-for (f .rules)) → RuleShaped (getD (map rule-for (f .rules)) i no-rule)
   unfolding max-literals max-assignments
-  found-shaped i h =
+  declared-shaped i h =
       let r : model.Rule = getD (f .rules) i orders.no-rule in
-      let d = rule-found i (omega (arith, h, length-map (f .rules) rule-for)) in
+      let d = rule-declared i (omega (arith, h, length-map (f .rules) rule-for)) in
       rw (any-default (map rule-for (f .rules)) i no-rule (rule-for orders.no-rule) h, List·getD-map rule-for (f .rules) i orders.no-rule)
-      (rule-for-shaped r (d .few-literals) (d .few-assignments) (small (r .trigger) (d .trigger-found))
-      (each-imply (λ (l : model.Literal). Found (f .slots) (l .pair)) (λ (l : model.Literal). Small (l .pair)) (r .literals) (λ l. small (l .pair)) (d .literals-found)) (each-imply (Found (f .slots)) Small (r .assignments) small (d .assignments-found)))
+      (rule-for-shaped r (d .few-literals) (d .few-assignments) (small (r .trigger) (d .trigger-declared))
+      (each-imply (λ (l : model.Literal). Declared-pair (f .slots) (l .pair)) (λ (l : model.Literal). Small (l .pair)) (r .literals) (λ l. small (l .pair)) (d .literals-declared)) (each-imply (Declared-pair (f .slots)) Small (r .assignments) small (d .assignments-declared)))
 
   slot-shaped : (i : ℕ) → i < length (map slot-for (f .slots)) → SlotShaped (getD (map slot-for (f .slots)) i no-slot)
   slot-shaped i h =
@@ -185,7 +185,7 @@ module _ (f : File) (D : Declared f) where
         slot-places = filled-length slot-limit unused-slot (map slot-for (f .slots)) (omega (arith, s, D .few-slots));
         each-slot = filled-each SlotShaped slot-limit unused-slot (map slot-for (f .slots)) no-slot (omega (arith, s, D .few-slots)) (record { value-places = refl }) slot-shaped;
         rule-places = filled-length rule-limit unused-rule (map rule-for (f .rules)) (omega (arith, r, D .few-rules));
-        each-rule = filled-each RuleShaped rule-limit unused-rule (map rule-for (f .rules)) no-rule (omega (arith, r, D .few-rules)) unused-shaped found-shaped;
+        each-rule = filled-each RuleShaped rule-limit unused-rule (map rule-for (f .rules)) no-rule (omega (arith, r, D .few-rules)) unused-shaped declared-shaped;
       }
 
   -- The rule at a place used, and the number of values of a slot.
@@ -206,16 +206,16 @@ module _ (f : File) (D : Declared f) where
       sym (count-is (table-for f) i (omega (arith, h, same-width))) ∙ ap (λ (ns : List ℕ). getD ns i 0) (file-counts f)
       ∙ List·getD-map (λ (s : files.Slot). length (s .values)) (f .slots) i files.no-slot
 
-  -- A rule whose pairs are found is right in its places.
-  right-here : (r : model.Rule) → Found-rule (f .slots) r → T (rule-right (length (f .slots)) (slot-counts (f .slots)) (rule-for r))
+  -- A declared rule is right in its places.
+  right-here : (r : model.Rule) → Declared-rule (f .slots) r → T (rule-right (length (f .slots)) (slot-counts (f .slots)) (rule-for r))
   unfolding rule-right named all-of max-literals max-assignments
   right-here r d =
       and-i (leb (length (r .literals)) literal-limit ∧ᵇ leb (length (r .assignments)) assignment-limit ∧ᵇ all-of own (named (rule-for r))) _
       (and-i (leb (length (r .literals)) literal-limit ∧ᵇ leb (length (r .assignments)) assignment-limit) _
       (and-i (leb (length (r .literals)) literal-limit) _ (le→leb (length (r .literals)) literal-limit (d .few-literals)) (le→leb (length (r .assignments)) assignment-limit (d .few-assignments)))
-      (and-i (own (r .trigger)) _ (found-own (r .trigger) (d .trigger-found))
+      (and-i (own (r .trigger)) _ (declared-own (r .trigger) (d .trigger-declared))
       (rw (all-append own (map (λ (l : model.Literal). l .pair) (rule-of (rule-for r) .literals)) (rule-of (rule-for r) .assignments), literals-back r, assignments-back r)
-      (and-i _ _ (all-own (map (λ (l : model.Literal). l .pair) (r .literals)) (each-map (λ (l : model.Literal). Found (f .slots) (l .pair)) (Found (f .slots)) (λ (l : model.Literal). l .pair) (r .literals) (λ l n. n) (d .literals-found))) (all-own (r .assignments) (d .assignments-found))))))
+      (and-i _ _ (all-own (map (λ (l : model.Literal). l .pair) (r .literals)) (each-map (λ (l : model.Literal). Declared-pair (f .slots) (l .pair)) (Declared-pair (f .slots)) (λ (l : model.Literal). l .pair) (r .literals) (λ l n. n) (d .literals-declared))) (all-own (r .assignments) (d .assignments-declared))))))
       (rw (assignments-back r) (d .once))
 
   -- The table is well-formed.
@@ -226,5 +226,5 @@ module _ (f : File) (D : Declared f) where
     some-value = λ i h. let k : i < length (f .slots) = omega (arith, h, same-width) in rw (values-here i k) (slot-some i k .0);
     few-values = λ i h. let k : i < length (f .slots) = omega (arith, h, same-width) in rw (values-here i k) (slot-some i k .1);
     few-rules = omega (arith, D .few-rules, same-count);
-    each-right = λ i h. let k : i < length (f .rules) = omega (arith, h, same-count) in rw (file-counts f, same-width, rule-here i k) (right-here (getD (f .rules) i orders.no-rule) (rule-found i k));
+    each-right = λ i h. let k : i < length (f .rules) = omega (arith, h, same-count) in rw (file-counts f, same-width, rule-here i k) (right-here (getD (f .rules) i orders.no-rule) (rule-declared i k));
   })
