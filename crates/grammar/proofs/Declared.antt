@@ -87,17 +87,17 @@ once-more (q ∷ ps) p t e =
     let none = not-true (assigns ps (q .slot)) (and-l (notᵇ (assigns ps (q .slot))) _ t) in
     and-i (notᵇ (assigns (ps ++ p ∷ []) (q .slot))) _ (rw (assigns-more ps p (q .slot) none (turned-round (q .slot) (p .slot) (w .0))) tt) (once-more ps p (and-r (notᵇ (assigns ps (q .slot))) _ t) (w .1))
 
--- Where no slot is assigned twice, none is that one before it assigns.
+-- Where no slot is assigned twice, an assignment is to a slot that none before it assigns.
 pub once-before : (os ps : List Pair) (p : Pair) → T (each-once (os ++ p ∷ ps)) → assigns os (p .slot) ≡ false
 unfolding each-once assigns _∨ᵇ_
 once-before [] ps p t = refl
 once-before (q ∷ os) ps p t =
     let none = not-true (assigns (os ++ p ∷ ps) (q .slot)) (and-l (notᵇ (assigns (os ++ p ∷ ps) (q .slot))) _ t) in
-    rw (turned-round (p .slot) (q .slot) (among os none)) (once-before os ps p (and-r (notᵇ (assigns (os ++ p ∷ ps) (q .slot))) _ t))
+    rw (turned-round (p .slot) (q .slot) (apart os none)) (once-before os ps p (and-r (notᵇ (assigns (os ++ p ∷ ps) (q .slot))) _ t))
   where
-    among : (rs : List Pair) → assigns (rs ++ p ∷ ps) (q .slot) ≡ false → eqb (p .slot) (q .slot) ≡ false
-    among [] e = neither (eqb (p .slot) (q .slot)) _ e .0
-    among (r ∷ rs) e = among rs (neither (eqb (r .slot) (q .slot)) _ e .1)
+    apart : (rs : List Pair) → assigns (rs ++ p ∷ ps) (q .slot) ≡ false → eqb (p .slot) (q .slot) ≡ false
+    apart [] e = neither (eqb (p .slot) (q .slot)) _ e .0
+    apart (r ∷ rs) e = apart rs (neither (eqb (r .slot) (q .slot)) _ e .1)
 
 -- A rule keeps to the limits, its pairs are declared, and it assigns some slots, none twice.
 pub record Declared-rule (slots : List Slot) (r : Rule) : Type 0 where
