@@ -1,12 +1,15 @@
 // The lowest rule on a circle of dependence, by reachability over pairs.
 ghost use mathlib.Core.Path.{_≡_};
 ghost use Prim.Native.Nat.{_<_};
-ghost use Rattle.model.specs.Strata.{strict, tested};
+ghost use lib.ListN.{getD};
+ghost use mathlib.Core.Bool.{false};
+ghost use Rattle.laws.specs.Truth.{_∧ᵇ_};
+ghost use Rattle.model.specs.Strata.{weak, tested, barred};
 ghost use Rattle.model.specs.Circles.{circle-of};
 ghost use Rattle.table.specs.Limits.{pair-places};
 ghost use Rattle.table.specs.Link.{rule-of, rules-of, assignments-of};
 ghost use Rattle.table.specs.Fits.{RuleFits, TableFits};
-ghost use Rattle.circles.specs.Links.{row-words, linked, add-link, add-links, link-all, join-words, close-through, leads-to, circled-by};
+ghost use Rattle.circles.specs.Links.{row-words, linked, add-link, add-links, link-all, join-words, close-through, leads-to, flag-leading, connected, with-flagged, spread, circled-by};
 use table::PAIRS;
 use table::Rule;
 use table::Table;
@@ -86,7 +89,7 @@ fn link_tested(r: Rule, p: usize, links: &mut [u64; LINKS])
     'literals: while j < m {
         let l = r.literals[j];
         j += 1;
-        if !table::binds(l) {
+        if !table::is_becomes(l) {
             continue 'literals;
         }
         let s = l.slot;
@@ -136,15 +139,96 @@ fn leads_to(r: Rule, p: usize, links: &[u64; LINKS]) -> bool
     false
 }
 
-// Whether a rule is on a circle: a pair that it tests leads to one that it assigns.
-fn is_circled(r: Rule, links: &[u64; LINKS]) -> bool
+// Flags the pairs that a rule tests under NOT and that lead to one that it assigns.
+fn flag_barred(r: Rule, links: &[u64; LINKS], flags: &mut [bool; PAIRS])
     requires { ⌜ RuleFits r ⌝ }
-    ensures { λ b. ⌜ b ≡ circled-by (now (links .entry)) (rule-of r) ⌝ }
+    ensures { λ _. ⌜ now (flags .exit) ≡ flag-leading (now (links .entry)) (barred (rule-of r)) (assignments-of r) (now (flags .entry)) ⌝ }
+{
+    let m = r.tested;
+    let mut j: usize = 0;
+    'literals: while j < m {
+        let l = r.literals[j];
+        j += 1;
+        if !table::is_under_not(l) {
+            continue 'literals;
+        }
+        let s = l.slot;
+        let v = l.value;
+        let p = table::place(s, v);
+        if !leads_to(r, p, links) {
+            continue 'literals;
+        }
+        flags[p] = true;
+    }
+}
+
+// Whether the pairs at p and k are one, or links lead from each to the other.
+fn connected(links: &[u64; LINKS], p: usize, k: usize) -> bool
+    requires { ⌜ (p < pair-places) × (k < pair-places) ⌝ }
+    ensures { λ b. ⌜ b ≡ connected (now (links .entry)) p k ⌝ }
+{
+    if p == k {
+        return true;
+    }
+    if !linked(links, p, k) {
+        return false;
+    }
+    linked(links, k, p)
+}
+
+// Whether the pair at p is connected with a flagged one.
+fn with_flagged(links: &[u64; LINKS], flags: &[bool; PAIRS], p: usize) -> bool
+    requires { ⌜ p < pair-places ⌝ }
+    ensures { λ b. ⌜ b ≡ with-flagged (now (links .entry)) (now (flags .entry)) p pair-places ⌝ }
+{
+    let mut k: usize = 0;
+    'pairs: while k < PAIRS {
+        let q = k;
+        k += 1;
+        if !flags[q] {
+            continue 'pairs;
+        }
+        if connected(links, p, q) {
+            return true;
+        }
+    }
+    false
+}
+
+// The flags carried to all pairs that are connected with a flagged one.
+fn spread(links: &[u64; LINKS], flags: &[bool; PAIRS]) -> [bool; PAIRS]
+    ensures { λ r. ⌜ r ≡ spread (now (links .entry)) (now (flags .entry)) ⌝ }
+{
+    let mut all: [bool; PAIRS] = [false; PAIRS];
+    let mut p: usize = 0;
+    while p < PAIRS {
+        let b = with_flagged(links, flags, p);
+        all[p] = b;
+        p += 1;
+    }
+    all
+}
+
+// Whether a flagged pair at p leads to one that a rule assigns.
+fn leads_back(r: Rule, p: usize, links: &[u64; LINKS], flags: &[bool; PAIRS]) -> bool
+    requires { ⌜ RuleFits r × (p < pair-places) ⌝ }
+    ensures { λ b. ⌜ b ≡ (getD (now (flags .entry)) p false ∧ᵇ leads-to (now (links .entry)) p (assignments-of r)) ⌝ }
+{
+    if !flags[p] {
+        return false;
+    }
+    leads_to(r, p, links)
+}
+
+// Whether a rule is on a circle through a NOT: a flagged pair that it tests leads to one that it assigns.
+fn is_circled(r: Rule, links: &[u64; LINKS], flags: &[bool; PAIRS]) -> bool
+    requires { ⌜ RuleFits r ⌝ }
+    ensures { λ b. ⌜ b ≡ circled-by (now (links .entry)) (now (flags .entry)) (rule-of r) ⌝ }
 {
     let slot = r.slot;
     let value = r.value;
     let at = table::place(slot, value);
-    if leads_to(r, at, links) {
+    if leads_back(r, at, links, flags) {
         return true;
     }
     let m = r.tested;
@@ -152,23 +236,23 @@ fn is_circled(r: Rule, links: &[u64; LINKS]) -> bool
     'literals: while j < m {
         let l = r.literals[j];
         j += 1;
-        if !table::binds(l) {
+        if !table::is_becomes(l) {
             continue 'literals;
         }
         let s = l.slot;
         let v = l.value;
         let p = table::place(s, v);
-        if leads_to(r, p, links) {
+        if leads_back(r, p, links, flags) {
             return true;
         }
     }
     false
 }
 
-// The lowest rule on a circle, from 1; 0 where there is none.
+// The lowest rule on a circle through a NOT, from 1; 0 where there is none.
 pub fn lowest(t: Table) -> usize
     requires { ⌜ TableFits t ⌝ }
-    ensures { λ k. ⌜ k ≡ circle-of strict (rules-of t) ⌝ }
+    ensures { λ k. ⌜ k ≡ circle-of weak (rules-of t) ⌝ }
 {
     let n = t.count;
     let mut links: [u64; LINKS] = [0; LINKS];
@@ -179,12 +263,20 @@ pub fn lowest(t: Table) -> usize
         i += 1;
     }
     close(&mut links);
+    let mut flags: [bool; PAIRS] = [false; PAIRS];
+    let mut j: usize = 0;
+    'flags: while j < n {
+        let r = t.rules[j];
+        flag_barred(r, &links, &mut flags);
+        j += 1;
+    }
+    let all = spread(&links, &flags);
     let mut low: usize = 0;
     let mut k: usize = 0;
     'search: while k < n {
         let r = t.rules[k];
         k += 1;
-        if !is_circled(r, &links) {
+        if !is_circled(r, &links, &all) {
             continue 'search;
         }
         if low == 0 {

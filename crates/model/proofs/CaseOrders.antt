@@ -7,7 +7,7 @@ use mathlib.Core.List.{List, [], _∷_, map}
 use lib.ListN.{getD}
 use Rattle.model.specs.Rules.{Pair, Rule}
 use Rattle.model.specs.Orders.{changes, firing-order, complete, consistent, whole-order}
-use Rattle.model.specs.Strata.{strict}
+use Rattle.model.specs.Strata.{weak}
 use Rattle.model.specs.Response.{next-of, response}
 use Rattle.model.specs.Result.{pair}
 use Rattle.model.proofs.CaseRules.{computes, x, y, z, v0, v1, rule, rule-a, rule-b, rule-d, rule-e, all-0}
@@ -54,7 +54,7 @@ unfolding computes
 changes-C = refl
 
 -- A rule fires though its assignments are in C already.
-pub repeats : response strict (rule (pair x v1) [] (pair y v1 ∷ []) ∷ rule (pair x v1) [] (pair y v1 ∷ []) ∷ []) all-0 (pair x v1 ∷ []) ≡ 1 ∷ 2 ∷ []
+pub repeats : response weak (rule (pair x v1) [] (pair y v1 ∷ []) ∷ rule (pair x v1) [] (pair y v1 ∷ []) ∷ []) all-0 (pair x v1 ∷ []) ≡ 1 ∷ 2 ∷ []
 unfolding computes
 repeats = refl
 

@@ -5,13 +5,13 @@ use mathlib.Core.Bool.{true, false}
 use mathlib.Core.List.{List, [], _∷_, map}
 use Rattle.model.specs.Rules.{Pair, Rule, among, became}
 use Rattle.model.specs.Orders.{changes, firing-order, complete, consistent, whole-order}
-use Rattle.model.specs.Strata.{strict, weak}
+use Rattle.model.specs.Strata.{weak}
 use Rattle.model.specs.Response.{response}
 use Rattle.model.specs.Result.{pair, conflict-slot}
 use Rattle.model.proofs.CaseRules.{computes, x, y, z, v0, v1, rule, rule-a, rule-b, rule-c, rule-d, rule-e, all-0, no-values}
 
 -- 1. Loading no value as the first value: in case F the card without values fires nothing, the card of first values fires both rules.
-pub first-value : map (λ S. response strict (rule-a ∷ rule-b ∷ []) S (pair x v1 ∷ [])) (no-values ∷ all-0 ∷ []) ≡ [] ∷ (1 ∷ 2 ∷ []) ∷ []
+pub first-value : map (λ S. response weak (rule-a ∷ rule-b ∷ []) S (pair x v1 ∷ [])) (no-values ∷ all-0 ∷ []) ≡ [] ∷ (1 ∷ 2 ∷ []) ∷ []
 unfolding computes
 first-value = refl
 
@@ -21,7 +21,7 @@ unfolding computes
 card-had-it = refl
 
 -- The rule that waits for it is idle.
-pub card-had-it-idle : response strict (rule (pair x v0) [] (pair y v1 ∷ []) ∷ []) all-0 (pair x v0 ∷ []) ≡ []
+pub card-had-it-idle : response weak (rule (pair x v0) [] (pair y v1 ∷ []) ∷ []) all-0 (pair x v0 ∷ []) ≡ []
 unfolding computes
 card-had-it-idle = refl
 
@@ -32,7 +32,7 @@ unfolding computes
 d-before-e = refl
 
 -- The response fires e alone.
-pub e-alone : response strict (rule-d ∷ rule-e ∷ []) all-0 (pair y v1 ∷ []) ≡ 2 ∷ []
+pub e-alone : response weak (rule-d ∷ rule-e ∷ []) all-0 (pair y v1 ∷ []) ≡ 2 ∷ []
 unfolding computes
 e-alone = refl
 
@@ -66,7 +66,7 @@ pub own-tests : map (λ f. f own-cause all-0 (pair y v1 ∷ []) (1 ∷ [])) (com
 unfolding computes own-cause
 own-tests = refl
 
--- The response, with weak strata, fires nothing.
+-- The response fires nothing.
 pub own-response : response weak own-cause all-0 (pair y v1 ∷ []) ≡ []
 unfolding computes own-cause
 own-response = refl
@@ -75,8 +75,3 @@ own-response = refl
 pub each-other : map (λ f. f (rule-a ∷ rule-c ∷ []) all-0 (pair y v1 ∷ []) (1 ∷ 2 ∷ [])) (complete ∷ consistent ∷ firing-order ∷ []) ≡ true ∷ true ∷ false ∷ []
 unfolding computes
 each-other = refl
-
--- The response, with weak strata, fires neither.
-pub each-other-response : response weak (rule-a ∷ rule-c ∷ []) all-0 (pair y v1 ∷ []) ≡ []
-unfolding computes
-each-other-response = refl

@@ -18,15 +18,10 @@ first = record { first = omega arith; last = omega arith }
 second : Numbered 2 2
 second = record { first = omega arith; last = omega arith }
 
--- Under NOT strata fall: where rule 1 bars what rule 2 assigns, level numbers are no strict strata.
-pub strict-falls : ¬ Strata strict (rule-d ∷ rule-e ∷ []) (λ n. 1)
+-- Under NOT strata fall: where rule 1 bars what rule 2 assigns, level numbers are no strata.
+pub falls-under-not : ¬ Strata weak (rule-d ∷ rule-e ∷ []) (λ n. 1)
 unfolding computes
-strict-falls s = omega (arith, s .smaller 1 2 first second tt)
-
--- The same for weak strata.
-pub weak-falls : ¬ Strata weak (rule-d ∷ rule-e ∷ []) (λ n. 1)
-unfolding computes
-weak-falls s = omega (arith, s .smaller 1 2 first second tt)
+falls-under-not s = omega (arith, s .smaller 1 2 first second tt)
 
 -- A rule that assigns x := 1, then one for each way to test x: `*=` in the trigger, plainly, under NOT, `|=`, `NOT |=`, and `*=` of another value.
 unfoldable pub ways : List Rule
@@ -54,12 +49,12 @@ pub ways-under-not : map (λ n. depends-under-not ways n 1) (2 ∷ 3 ∷ 4 ∷ 5
 unfolding computes ways
 ways-under-not = refl
 
--- The least strict strata.
+-- The least strata of section 7, which fall along every `*=`.
 pub ways-strict : strata-list strict ways ≡ 1 ∷ 2 ∷ 2 ∷ 2 ∷ 1 ∷ 1 ∷ 1 ∷ []
 unfolding computes strata-list ways
 ways-strict = refl
 
--- The least weak strata.
+-- The least strata that the table carries.
 pub ways-weak : strata-list weak ways ≡ 1 ∷ 1 ∷ 1 ∷ 2 ∷ 1 ∷ 1 ∷ 1 ∷ []
 unfolding computes strata-list ways
 ways-weak = refl
@@ -72,24 +67,27 @@ own-plain = rule (pair x v1) [] (pair x v1 ∷ []) ∷ []
 unfoldable pub own-under-not : List Rule
 own-under-not = rule (pair x v1) (not-turns y v1 ∷ []) (pair y v1 ∷ []) ∷ []
 
--- With strict strata both are refused, with weak strata the second alone.
-pub own-circles : circle-of strict own-plain ∷ circle-of weak own-plain ∷ circle-of strict own-under-not ∷ circle-of weak own-under-not ∷ []
-    ≡ 1 ∷ 0 ∷ 1 ∷ 1 ∷ []
+-- The second alone is on a circle through a NOT; with section 7's strata both are on a circle.
+pub own-circles : map (λ G. circle-of G own-plain ∷ circle-of G own-under-not ∷ []) (weak ∷ strict ∷ []) ≡ (0 ∷ 1 ∷ []) ∷ (1 ∷ 1 ∷ []) ∷ []
 unfolding computes own-plain own-under-not
 own-circles = refl
 
--- Rules 2 and 3 are a circle; rule 1 only depends on it, and it only depends on rule 4.
+-- Rules 2 and 3 are a circle through a NOT: 2 bars what 3 assigns, 3 needs what 2 assigns. Rule 1 only depends on it, and it only depends on rule 4.
 unfoldable pub beside-circle : List Rule
 beside-circle =
-    rule (pair y v1) [] [] ∷ rule (pair x v1) [] (pair y v1 ∷ []) ∷ rule (pair y v1) [] (pair x v1 ∷ []) ∷ rule (pair z v1) [] (pair x v1 ∷ []) ∷ []
+    rule (pair y v1) [] []
+    ∷ rule (pair z v0) (not-turns x v1 ∷ []) (pair y v1 ∷ [])
+    ∷ rule (pair y v1) [] (pair x v1 ∷ [])
+    ∷ rule (pair z v1) [] (pair x v1 ∷ [])
+    ∷ []
 
 -- Neither rule 1 nor rule 4 is on a circle.
-pub beside-on : map (on-circle strict beside-circle) (1 ∷ 2 ∷ 3 ∷ 4 ∷ []) ≡ false ∷ true ∷ true ∷ false ∷ []
+pub beside-on : map (on-circle weak beside-circle) (1 ∷ 2 ∷ 3 ∷ 4 ∷ []) ≡ false ∷ true ∷ true ∷ false ∷ []
 unfolding computes beside-circle
 beside-on = refl
 
 -- The lowest rule on the circle is 2.
-pub beside-lowest : circle-of strict beside-circle ≡ 2
+pub beside-lowest : circle-of weak beside-circle ≡ 2
 unfolding computes beside-circle
 beside-lowest = refl
 
@@ -103,7 +101,7 @@ pub twice-lowest : circle-of weak twice ≡ 1
 unfolding computes twice
 twice-lowest = refl
 
--- With weak strata the equation of least strata holds for other numbers too: in case D for 2, 2 as for 1, 1.
+-- The equation of least strata holds for other numbers too: in case D for 2, 2 as for 1, 1.
 pub weak-equation : least-above weak (rule-a ∷ rule-c ∷ []) (λ n. 2) 1 2 ∷ least-above weak (rule-a ∷ rule-c ∷ []) (λ n. 2) 2 2 ∷ [] ≡ 2 ∷ 2 ∷ []
 unfolding computes
 weak-equation = refl

@@ -1,95 +1,86 @@
--- The lettered cases A to H of document 01, computed from the definitions, and what document 02, section 2, says of cases C and D.
+-- The lettered cases A to H of document 01, computed from the definitions; of cases C and D what document 02, section 2, says.
 -- Assumes nothing.
 use mathlib.Core.Path.{_≡_, refl}
 use mathlib.Core.List.{[], _∷_}
-use Rattle.model.specs.Strata.{strict, weak}
+use Rattle.model.specs.Strata.{weak}
 use Rattle.model.specs.Circles.{circle-of}
 use Rattle.model.specs.Response.{response}
 use Rattle.model.specs.Result.{pair}
 use Rattle.model.proofs.CaseRules.{computes, x, y, z, v0, v1, rule-a, rule-b, rule-c, rule-d, rule-e, rule-h, all-0, no-values, strata-list, answer-of, answer}
 
 -- A: changes x, z.
-pub case-A : answer strict (rule-a ∷ []) all-0 (pair x v1 ∷ [])
+pub case-A : answer weak (rule-a ∷ []) all-0 (pair x v1 ∷ [])
     ≡ record { fired = 1 ∷ []; changed = pair x v1 ∷ pair z v1 ∷ []; card = v1 ∷ v0 ∷ v1 ∷ []; conflict = 3 }
 unfolding computes answer answer-of
 case-A = refl
 
 -- B: change x only.
-pub case-B : answer strict (rule-b ∷ []) all-0 (pair x v1 ∷ [])
+pub case-B : answer weak (rule-b ∷ []) all-0 (pair x v1 ∷ [])
     ≡ record { fired = []; changed = pair x v1 ∷ []; card = v1 ∷ v0 ∷ v0 ∷ []; conflict = 3 }
 unfolding computes answer answer-of
 case-B = refl
 
--- C: rule 1 in stratum 1, rule 2 in stratum 2, both fired; changes x, y, z.
-pub case-C : answer strict (rule-a ∷ rule-b ∷ []) all-0 (pair x v1 ∷ [])
+-- C: both rules fired; changes x, y, z.
+pub case-C : answer weak (rule-a ∷ rule-b ∷ []) all-0 (pair x v1 ∷ [])
     ≡ record { fired = 1 ∷ 2 ∷ []; changed = pair x v1 ∷ pair y v1 ∷ pair z v1 ∷ []; card = v1 ∷ v1 ∷ v1 ∷ []; conflict = 3 }
 unfolding computes answer answer-of
 case-C = refl
 
--- The strata of case C.
-pub strata-C : strata-list strict (rule-a ∷ rule-b ∷ []) ≡ 1 ∷ 2 ∷ []
+-- Both are in stratum 1.
+pub strata-C : strata-list weak (rule-a ∷ rule-b ∷ []) ≡ 1 ∷ 1 ∷ []
 unfolding computes strata-list
 strata-C = refl
 
--- D: 18, rule 1.
-pub case-D : circle-of strict (rule-a ∷ rule-c ∷ []) ≡ 1
+-- D: accepted.
+pub case-D : circle-of weak (rule-a ∷ rule-c ∷ []) ≡ 0
 unfolding computes
 case-D = refl
 
+-- Both rules are in stratum 1.
+pub strata-D : strata-list weak (rule-a ∷ rule-c ∷ []) ≡ 1 ∷ 1 ∷ []
+unfolding computes strata-list
+strata-D = refl
+
+-- y to 1 fires neither.
+pub idle-D : response weak (rule-a ∷ rule-c ∷ []) all-0 (pair y v1 ∷ []) ≡ []
+unfolding computes
+idle-D = refl
+
+-- x to 1 fires the first, which wakes the second.
+pub woken-D : answer weak (rule-a ∷ rule-c ∷ []) all-0 (pair x v1 ∷ [])
+    ≡ record { fired = 1 ∷ 2 ∷ []; changed = pair x v1 ∷ pair z v1 ∷ []; card = v1 ∷ v0 ∷ v1 ∷ []; conflict = 3 }
+unfolding computes answer answer-of
+woken-D = refl
+
 -- E: strata 2, 1; changes x, y; only rule 2 fired.
-pub case-E : answer strict (rule-d ∷ rule-e ∷ []) all-0 (pair y v1 ∷ [])
+pub case-E : answer weak (rule-d ∷ rule-e ∷ []) all-0 (pair y v1 ∷ [])
     ≡ record { fired = 2 ∷ []; changed = pair x v1 ∷ pair y v1 ∷ []; card = v1 ∷ v1 ∷ v0 ∷ []; conflict = 3 }
 unfolding computes answer answer-of
 case-E = refl
 
 -- The strata of case E.
-pub strata-E : strata-list strict (rule-d ∷ rule-e ∷ []) ≡ 2 ∷ 1 ∷ []
+pub strata-E : strata-list weak (rule-d ∷ rule-e ∷ []) ≡ 2 ∷ 1 ∷ []
 unfolding computes strata-list
 strata-E = refl
 
 -- F: on a card without values only x changes.
-pub case-F : answer strict (rule-a ∷ rule-b ∷ []) no-values (pair x v1 ∷ [])
+pub case-F : answer weak (rule-a ∷ rule-b ∷ []) no-values (pair x v1 ∷ [])
     ≡ record { fired = []; changed = pair x v1 ∷ []; card = v1 ∷ 0 ∷ 0 ∷ []; conflict = 3 }
 unfolding computes answer answer-of
 case-F = refl
 
 -- G: a slip that repeats the card's value fires no rule.
-pub case-G : answer strict (rule-a ∷ []) all-0 (pair x v0 ∷ [])
+pub case-G : answer weak (rule-a ∷ []) all-0 (pair x v0 ∷ [])
     ≡ record { fired = []; changed = pair x v0 ∷ []; card = all-0; conflict = 3 }
 unfolding computes answer answer-of
 case-G = refl
 
 -- H: 40, slot 0.
-pub case-H : (answer strict (rule-h ∷ []) all-0 (pair x v1 ∷ [])) .conflict ≡ 0
+pub case-H : (answer weak (rule-h ∷ []) all-0 (pair x v1 ∷ [])) .conflict ≡ 0
 unfolding computes answer answer-of
 case-H = refl
 
 -- Case H has no circle: the pair tested is not the pair assigned.
-pub no-circle-H : circle-of strict (rule-h ∷ []) ≡ 0
+pub no-circle-H : circle-of weak (rule-h ∷ []) ≡ 0
 unfolding computes
 no-circle-H = refl
-
--- With weak strata case D is accepted.
-pub weak-D : circle-of weak (rule-a ∷ rule-c ∷ []) ≡ 0
-unfolding computes
-weak-D = refl
-
--- Both rules are in stratum 1.
-pub weak-strata-D : strata-list weak (rule-a ∷ rule-c ∷ []) ≡ 1 ∷ 1 ∷ []
-unfolding computes strata-list
-weak-strata-D = refl
-
--- y to 1 fires neither.
-pub weak-response-D : response weak (rule-a ∷ rule-c ∷ []) all-0 (pair y v1 ∷ []) ≡ []
-unfolding computes
-weak-response-D = refl
-
--- In case C rule 2 moves to stratum 1.
-pub weak-strata-C : strata-list weak (rule-a ∷ rule-b ∷ []) ≡ 1 ∷ 1 ∷ []
-unfolding computes strata-list
-weak-strata-C = refl
-
--- Case C still fires both.
-pub weak-response-C : response weak (rule-a ∷ rule-b ∷ []) all-0 (pair x v1 ∷ []) ≡ 1 ∷ 2 ∷ []
-unfolding computes
-weak-response-C = refl

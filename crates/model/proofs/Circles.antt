@@ -2,19 +2,16 @@
 -- Assumes nothing.
 use Prim.Native.Nat.{ℕ, _≤_, _<_}
 use mathlib.Core.Path.{_≡_}
-use mathlib.Core.Bool.{Bool}
 use mathlib.Core.List.{List}
-use mathlib.Core.Logic.{⊎-elim}
-use lib.Dec.{T, eqb, eqb→eq, eqb-refl}
+use lib.Dec.{T}
 use lib.ListN.{length}
-use Rattle.laws.specs.Truth.{_∨ᵇ_}
 use Rattle.laws.specs.Numbers.{Numbered, some-of, first-of}
-use Rattle.laws.proofs.Truth.{and-l, and-r, and-i, or-l, or-r, or-e, stable}
+use Rattle.laws.proofs.Truth.{and-l, and-r, and-i, or-r, stable}
 use Rattle.laws.proofs.Numbers.{some-i, some-e, first-some, first-none, first-zero}
 use Rattle.model.specs.Rules.{Rule}
-use Rattle.model.specs.Strata.{Grading, strict, may-stay-level, must-fall}
+use Rattle.model.specs.Strata.{Grading, must-fall}
 use Rattle.model.specs.Circles.{reach, Walk, step, behind, on-circle, circle-of}
-use Rattle.model.proofs.Reach.{reach-refl, reach-step, reach-trans, reach-walk, walk-reach, walk-closed}
+use Rattle.model.proofs.Reach.{reach-refl, reach-step, reach-trans, walk-reach}
 
 module _ (G : Grading) (rs : List Rule) where
   -- q lies behind n: by steps from n to x, from x to y where strata must fall, by steps from y to q.
@@ -60,18 +57,6 @@ module _ (G : Grading) (rs : List Rule) where
         to-x = reach-trans (length rs) (step G rs) n m (b .x) j (b .x-rule) (reach-step (length rs) (step G rs) n n m i j (reach-refl (length rs) (step G rs) n) t) (b .to-x);
       })
 
-  -- X holds n and is closed under steps; Y holds what rules of X must stand above and is closed under steps. Then Y holds all that lies behind n.
-  pub all-behind : (n : ℕ) (X Y : ℕ → Bool) → T (X n)
-      → ((m q : ℕ) → Numbered (length rs) m → Numbered (length rs) q → T (X m) → T (step G rs m q) → T (X q))
-      → ((m q : ℕ) → Numbered (length rs) m → Numbered (length rs) q → T (X m) → T (must-fall G rs m q) → T (Y q))
-      → ((m q : ℕ) → Numbered (length rs) m → Numbered (length rs) q → T (Y m) → T (step G rs m q) → T (Y q))
-      → (q : ℕ) → Numbered (length rs) q → T (behind G rs n q) → T (Y q)
-  all-behind n X Y at-n closed-X enter closed-Y q i h =
-      let b = behind-e n q h in
-      walk-closed (length rs) (step G rs) Y closed-Y (reach-walk (length rs) (step G rs) (b .y) q i (b .from-y))
-      (enter (b .x) (b .y) (b .x-rule) (b .y-rule)
-      (walk-closed (length rs) (step G rs) X closed-X (reach-walk (length rs) (step G rs) n (b .x) (b .x-rule) (b .to-x)) at-n) (b .falls))
-
   -- No rule is on a circle.
   unfoldable pub NoCircle : Type 0
   NoCircle = (n : ℕ) → Numbered (length rs) n → ¬ T (on-circle G rs n)
@@ -96,33 +81,9 @@ module _ (G : Grading) (rs : List Rule) where
       some-circle h =
           stable (some-of (on-circle G rs) (length rs)) (λ u. h (first-zero (on-circle G rs) (length rs) (λ n i t. u (some-i (on-circle G rs) (length rs) n i t))))
 
-  -- A circle as a walk: by steps from n to x, from x to y where strata must fall, by steps from y back to n.
-  pub circle-walk : (n : ℕ) → Numbered (length rs) n → T (on-circle G rs n)
-      → (x : ℕ) × (y : ℕ) × Walk (length rs) (step G rs) n x × T (must-fall G rs x y) × Walk (length rs) (step G rs) y n
-  unfolding on-circle
-  circle-walk n i t =
-      let b = behind-e n n t in
-      (b .x, b .y, reach-walk (length rs) (step G rs) n (b .x) (b .x-rule) (b .to-x), b .falls, reach-walk (length rs) (step G rs) (b .y) n i (b .from-y))
-
-  -- And such a walk puts n on a circle.
+  -- A rule is on a circle where a walk leads from it, past a step where strata must fall, back to it.
   pub walk-circle : (n a b : ℕ) → Numbered (length rs) a → Numbered (length rs) b → Walk (length rs) (step G rs) n a → T (must-fall G rs a b) → Walk (length rs) (step G rs) b n
       → T (on-circle G rs n)
   unfolding on-circle
   walk-circle n a b i j v t w =
       behind-i n n (record { x = a; y = b; x-rule = i; y-rule = j; to-x = walk-reach (length rs) (step G rs) v; falls = t; from-y = walk-reach (length rs) (step G rs) w })
-
--- With strict strata each step must fall.
-pub strict-step : (rs : List Rule) (n m : ℕ) → T (step strict rs n m) → T (must-fall strict rs n m)
-unfolding step may-stay-level _∨ᵇ_
-strict-step rs n m t = t
-
--- With strict strata: a set that holds what n must stand above and is closed under steps holds all that lies behind n.
-pub all-behind-strict : (rs : List Rule) (n : ℕ) (X : ℕ → Bool) → ((q : ℕ) → Numbered (length rs) q → T (must-fall strict rs n q) → T (X q))
-    → ((m q : ℕ) → Numbered (length rs) m → Numbered (length rs) q → T (X m) → T (must-fall strict rs m q) → T (X q))
-    → (q : ℕ) → Numbered (length rs) q → T (behind strict rs n q) → T (X q)
-all-behind-strict rs n X enter closed =
-    all-behind strict rs n (λ m. eqb n m ∨ᵇ X m) X (or-l _ _ (eqb-refl n))
-    (λ m q i j h t. or-r _ _ (from m q i j h (strict-step rs m q t))) from (λ m q i j h t. closed m q i j h (strict-step rs m q t))
-  where
-    from : (m q : ℕ) → Numbered (length rs) m → Numbered (length rs) q → T (eqb n m ∨ᵇ X m) → T (must-fall strict rs m q) → T (X q)
-    from m q i j h t = ⊎-elim (λ s. enter q j (rw (← (eqb→eq n m s)) at t)) (λ s. closed m q i j s t) (or-e _ _ h)

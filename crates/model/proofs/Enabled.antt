@@ -1,14 +1,15 @@
--- A rule that is enabled at two sets of changes is enabled at a third that has what it needs and lacks what it bars.
+-- A rule that is enabled at two sets of changes is enabled at a third that has what it needs and lacks what it bars; and what an enabled rule needs is among the changes.
 -- Assumes nothing.
 use Prim.Native.Nat.{ℕ}
 use mathlib.Core.Bool.{Bool, true, false, cond}
 use mathlib.Core.List.{List, [], _∷_}
 use lib.Dec.{T}
+use mathlib.Core.Logic.{⊎-elim}
 use Rattle.laws.specs.Truth.{_∧ᵇ_, notᵇ}
-use Rattle.laws.proofs.Truth.{and-l, and-r, and-i, or-l, or-r, not-e, not-i}
+use Rattle.laws.proofs.Truth.{and-l, and-r, and-i, or-l, or-r, or-e, not-e, not-i}
 use Rattle.model.specs.Rules.{Pair, Pairs, Literal, Rule, among, was, became, test, holds, all-hold, enabled}
 use Rattle.model.specs.Strata.{pairs-where, is-plain, is-under-not, needed, barred}
-use Rattle.model.proofs.Pairs.{same-refl, where-here, where-later}
+use Rattle.model.proofs.Pairs.{same-refl, same-eq, where-here, where-later, where-e}
 
 -- `s *= v` holds at a set that has the pair where the other has it.
 pub became-up : (S : List ℕ) (C D : Pairs) (p : Pair) → (T (C p) → T (D p)) → T (became S C p) → T (became S D p)
@@ -46,3 +47,24 @@ enabled-up S C E D r f g h k =
     and-i _ _
     (became-up S C D (r .trigger) (f (r .trigger) (or-l _ _ (same-refl (r .trigger)))) (and-l _ _ h))
     (literals-up S C E D (r .literals) (λ p t. f p (or-r _ _ t)) g (and-r _ _ h) (and-r _ _ k))
+
+plain-in : (S : List ℕ) (C : Pairs) (l : Literal) → T (is-plain l) → T (holds S C l) → T (C (l .pair))
+unfolding holds test is-plain became _∧ᵇ_ notᵇ
+plain-in S C l = go (l .becomes) (l .negated) (l .pair)
+  where
+    go : (b n : Bool) (p : Pair) → T (b ∧ᵇ notᵇ n) → T (cond n (notᵇ (cond b (became S C p) (was S p))) (cond b (became S C p) (was S p))) → T (C p)
+    go true true p t h = absurd t
+    go true false p t h = and-r (notᵇ (was S p)) _ h
+    go false n p t h = absurd t
+
+literals-in : (S : List ℕ) (C : Pairs) (ls : List Literal) (p : Pair) → T (all-hold S C ls) → T (among p (pairs-where is-plain ls)) → T (C p)
+unfolding all-hold pairs-where among
+literals-in S C [] p h t = absurd t
+literals-in S C (l ∷ ls) p h t =
+    ⊎-elim (λ w. rw (w .1) (plain-in S C l (w .0) (and-l _ _ h))) (λ s. literals-in S C ls p (and-r _ _ h) s) (where-e is-plain l ls p t)
+
+-- What an enabled rule needs is among the changes.
+pub needed-in : (S : List ℕ) (C : Pairs) (r : Rule) (p : Pair) → T (enabled S C r) → T (among p (needed r)) → T (C p)
+unfolding enabled became needed among
+needed-in S C r p h t =
+    ⊎-elim (λ s. rw (same-eq p (r .trigger) s) (and-r _ _ (and-l _ _ h))) (λ s. literals-in S C (r .literals) p (and-r _ _ h) s) (or-e _ _ t)

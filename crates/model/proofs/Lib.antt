@@ -9,6 +9,7 @@ pub mod Pairs
 pub mod Changes
 pub mod Enabled
 pub mod Orders
+pub mod Causes
 pub mod Lengths
 pub mod Gradings
 pub mod Unique
@@ -17,7 +18,9 @@ pub mod Exists
 pub mod Alike
 pub mod Reach
 pub mod Circles
+pub mod Steps
 pub mod Strata
+pub mod Justified
 pub mod Demand3
 pub mod Renaming
 pub mod Rearranged

@@ -9,7 +9,7 @@ use mathlib.Core.Logic.{_⊎_, inl, inr, ⊎-elim}
 use lib.Dec.{T, eqb, eqb→eq, eqb-refl}
 use lib.ListN.{length, getD}
 use borrow.Author.Tests.{eq-eqb, ne-eqb}
-use Rattle.laws.specs.Truth.{_∨ᵇ_}
+use Rattle.laws.specs.Truth.{_∧ᵇ_, _∨ᵇ_, notᵇ}
 use Rattle.laws.proofs.Truth.{and-l, and-r, and-i, or-l, or-r, or-e}
 use Rattle.model.specs.Rules.{Pair, Literal, Rule, same, among, assigns}
 use Rattle.model.specs.Strata.{pairs-where, is-becomes, is-plain, is-under-not, tested, needed, barred, meet}
@@ -70,7 +70,8 @@ where-later f l ls p t = go (f l)
     go true = or-r _ _ t
     go false = t
 
-where-e : (f : Literal → Bool) (l : Literal) (ls : List Literal) (p : Pair) → T (among p (pairs-where f (l ∷ ls)))
+-- A pair of the literals that pass is that of the first, which passes, or one of the others'.
+pub where-e : (f : Literal → Bool) (l : Literal) (ls : List Literal) (p : Pair) → T (among p (pairs-where f (l ∷ ls)))
     → (T (f l) × (p ≡ l .pair)) ⊎ T (among p (pairs-where f ls))
 unfolding pairs-where among
 where-e f l ls p t = go (f l) (λ x. x) t
@@ -80,7 +81,7 @@ where-e f l ls p t = go (f l) (λ x. x) t
     go false x t = inr t
 
 -- Where each literal that passes f passes g or h, a pair of the first is one of the second or of the third.
-where-cases : (f g h : Literal → Bool) → ((l : Literal) → T (f l) → T (g l) ⊎ T (h l)) → (p : Pair) (ls : List Literal) → T (among p (pairs-where f ls))
+pub where-cases : (f g h : Literal → Bool) → ((l : Literal) → T (f l) → T (g l) ⊎ T (h l)) → (p : Pair) (ls : List Literal) → T (among p (pairs-where f ls))
     → T (among p (pairs-where g ls)) ⊎ T (among p (pairs-where h ls))
 unfolding pairs-where among
 where-cases f g h c p [] t = absurd t
@@ -89,6 +90,28 @@ where-cases f g h c p (l ∷ ls) t =
     (λ w. ⊎-elim (λ a. inl (rw (w .1) (where-here g l ls a))) (λ a. inr (rw (w .1) (where-here h l ls a))) (c l (w .0)))
     (λ s. ⊎-elim (λ a. inl (where-later g l ls p a)) (λ a. inr (where-later h l ls p a)) (where-cases f g h c p ls s))
     (where-e f l ls p t)
+
+-- A `*=` is plain or under NOT by its sign, and a `|=` is neither.
+pub when-plain : (l : Literal) → is-becomes l ≡ true → l .negated ≡ false → (is-plain l ≡ true) × (is-under-not l ≡ false)
+unfolding is-becomes is-plain is-under-not _∧ᵇ_ notᵇ
+when-plain l = go (l .becomes) (l .negated)
+  where
+    go : (b n : Bool) → b ≡ true → n ≡ false → ((b ∧ᵇ notᵇ n) ≡ true) × ((b ∧ᵇ n) ≡ false)
+    go b n d e = rw (d, e) (refl, refl)
+
+pub when-under-not : (l : Literal) → is-becomes l ≡ true → l .negated ≡ true → (is-plain l ≡ false) × (is-under-not l ≡ true)
+unfolding is-becomes is-plain is-under-not _∧ᵇ_ notᵇ
+when-under-not l = go (l .becomes) (l .negated)
+  where
+    go : (b n : Bool) → b ≡ true → n ≡ true → ((b ∧ᵇ notᵇ n) ≡ false) × ((b ∧ᵇ n) ≡ true)
+    go b n d e = rw (d, e) (refl, refl)
+
+pub when-neither : (l : Literal) → is-becomes l ≡ false → (is-plain l ≡ false) × (is-under-not l ≡ false)
+unfolding is-becomes is-plain is-under-not _∧ᵇ_
+when-neither l = go (l .becomes) (l .negated)
+  where
+    go : (b n : Bool) → b ≡ false → ((b ∧ᵇ notᵇ n) ≡ false) × ((b ∧ᵇ n) ≡ false)
+    go b n d = rw d (refl, refl)
 
 plain-becomes : (l : Literal) → T (is-plain l) → T (is-becomes l) ⊎ T (is-becomes l)
 unfolding is-becomes is-plain

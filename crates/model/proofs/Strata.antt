@@ -15,7 +15,7 @@ use Rattle.laws.proofs.Numbers.{how-many-top, how-many-le, how-many-lt, total-l
 use Rattle.model.specs.Rules.{Rule}
 use Rattle.model.specs.Strata.{Grading, may-stay-level, must-fall, Strata}
 use Rattle.model.specs.Circles.{Walk, here, on, step, behind, on-circle, circle-of}
-use Rattle.model.specs.Least.{least-above, round, strata-of}
+use Rattle.model.specs.Least.{LeastStrata, least-above, round, strata-of}
 use Rattle.model.proofs.Reach.{reach-walk}
 use Rattle.model.proofs.Circles.{behind-e, behind-at, behind-before, NoCircle, no-circle-e, no-circle-i}
 
@@ -176,7 +176,19 @@ module _ (G : Grading) (rs : List Rule) where
   pub strata-exist : ((t : ℕ → ℕ) × Strata G rs t) ↔ (circle-of G rs ≡ 0)
   strata-exist = (λ s. no-circle (s .0) (s .1), λ e. (strata-of G rs, least-strata e))
 
-  -- Strata that are everywhere the least are `strata-of`.
-  pub least-unique : (t : ℕ → ℕ) → Strata G rs t → ((u : ℕ → ℕ) → Strata G rs u → (n : ℕ) → Numbered (length rs) n → t n ≤ u n)
-      → (n : ℕ) → Numbered (length rs) n → t n ≡ strata-of G rs n
-  least-unique t s least n i = omega (arith, least-least t s n i, least (strata-of G rs) (least-strata (no-circle t s)) n i)
+  -- Numbers that are those computed, where there is no circle, are the least strata.
+  pub least-i : (t : ℕ → ℕ) → circle-of G rs ≡ 0 → ((n : ℕ) → Numbered (length rs) n → t n ≡ strata-of G rs n) → LeastStrata G rs t
+  least-i t z e =
+      let L = least-strata z in
+      record {
+        strata = record {
+          from-one = λ n i. omega (arith, e n i, L .from-one n i);
+          no-higher = λ n m i j d. omega (arith, e n i, e m j, L .no-higher n m i j d);
+          smaller = λ n m i j d. omega (arith, e n i, e m j, L .smaller n m i j d);
+        };
+        least = λ u s n i. omega (arith, e n i, least-least u s n i);
+      }
+
+  -- And there are no other.
+  pub least-e : (t : ℕ → ℕ) → LeastStrata G rs t → (n : ℕ) → Numbered (length rs) n → t n ≡ strata-of G rs n
+  least-e t l n i = omega (arith, least-least t (l .strata) n i, l .least (strata-of G rs) (least-strata (no-circle t (l .strata))) n i)

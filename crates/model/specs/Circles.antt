@@ -1,5 +1,5 @@
 -- Circles of dependence: document 01, refusal 18; document 02, section 2, for circles that pass through a NOT.
-use Prim.Native.Nat.{ℕ, zero, suc}
+use Prim.Native.Nat.{ℕ, zero, suc, _<_}
 use mathlib.Core.Bool.{Bool}
 use mathlib.Core.List.{List}
 use lib.Dec.{T, eqb}
@@ -7,7 +7,7 @@ use lib.ListN.{length}
 use Rattle.laws.specs.Truth.{_∧ᵇ_, _∨ᵇ_}
 use Rattle.laws.specs.Numbers.{Numbered, some-of, first-of}
 use Rattle.model.specs.Rules.{Rule}
-use Rattle.model.specs.Strata.{Grading, may-stay-level, must-fall}
+use Rattle.model.specs.Strata.{depends, depends-under-not, Grading, may-stay-level, must-fall}
 
 -- A graph on the numbers 1 to N, in which e x y says that a step leads from x to y.
 module _ (N : ℕ) (e : ℕ → ℕ → Bool) where
@@ -25,6 +25,23 @@ module _ (N : ℕ) (e : ℕ → ℕ → Bool) where
     here : {n : ℕ} → Walk n n
     on : {n x m : ℕ} → Walk n x → Numbered N x → Numbered N m → T (e x m) → Walk n m
 
+-- Rule n is on a circle that passes through a NOT: dependences lead from n to a rule x, which depends under NOT on a rule y, and dependences lead from y back to n.
+pub record CircleThroughNot (rs : List Rule) (n : ℕ) : Type 0 where
+  pub x : ℕ
+  pub y : ℕ
+  pub x-rule : Numbered (length rs) x
+  pub y-rule : Numbered (length rs) y
+  pub to-x : Walk (length rs) (depends rs) n x
+  pub under-not : T (depends-under-not rs x y)
+  pub back : Walk (length rs) (depends rs) y n
+
+-- It is the lowest such rule.
+pub record LowestThroughNot (rs : List Rule) (n : ℕ) : Type 0 where
+  pub rule : Numbered (length rs) n
+  pub circle : CircleThroughNot rs n
+  pub lowest : (m : ℕ) → Numbered (length rs) m → m < n → ¬ CircleThroughNot rs m
+
+-- The same as a test, for either grading.
 module _ (G : Grading) (rs : List Rule) where
   -- A step leads from rule n to a rule m that it depends on.
   unfoldable pub step : ℕ → ℕ → Bool

@@ -1,11 +1,18 @@
 -- The least strata: document 01, 'The table carries the least such numbers'.
-use Prim.Native.Nat.{ℕ, zero, suc, _*_, max}
+use Prim.Native.Nat.{ℕ, zero, suc, _*_, _≤_, max}
 use mathlib.Core.Bool.{cond}
 use mathlib.Core.List.{List}
 use lib.ListN.{length}
+use Rattle.laws.specs.Numbers.{Numbered}
 use Rattle.model.specs.Rules.{Rule}
-use Rattle.model.specs.Strata.{Grading, may-stay-level, must-fall}
+use Rattle.model.specs.Strata.{Grading, may-stay-level, must-fall, Strata}
 
+-- Numbers t are the least strata of the rules: they are strata, and no strata have a lower number for a rule.
+pub record LeastStrata (G : Grading) (rs : List Rule) (t : ℕ → ℕ) : Type 0 where
+  pub strata : Strata G rs t
+  pub least : (u : ℕ → ℕ) → Strata G rs u → (n : ℕ) → Numbered (length rs) n → t n ≤ u n
+
+-- Their computation.
 module _ (G : Grading) (rs : List Rule) where
   -- The least number that rule n can have where the rules 1 to k have the numbers t.
   unfoldable pub least-above : (ℕ → ℕ) → ℕ → ℕ → ℕ

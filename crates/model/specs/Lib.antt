@@ -1,8 +1,10 @@
 pub mod Rules
 pub mod Orders
 pub mod Strata
+pub mod Causes
 pub mod Circles
 pub mod Least
+pub mod Justified
 pub mod Response
 pub mod Result
 pub mod Paper

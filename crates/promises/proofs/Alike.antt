@@ -11,7 +11,7 @@ use borrow.Author.Tests.{lt-ltb, le-leb}
 use Rattle.laws.specs.Truth.{_∧ᵇ_}
 use Rattle.text.specs.Tokens.{Name}
 use Rattle.model.specs.Rules.{Rule}
-use Rattle.model.specs.Strata.{strict}
+use Rattle.model.specs.Strata.{weak}
 use Rattle.model.specs.Least.{strata-of}
 use Rattle.table.specs.declared.Table.{Table}
 use Rattle.table.specs.Limits.{slot-limit, value-limit}
@@ -69,7 +69,7 @@ value-told ss s i few h most l =
     rw (lt-ltb s slot-limit (omega arith), lt-ltb s (length ss) h, le-leb 1 (suc i) (omega arith), le-leb (suc i) value-limit (omega arith), le-leb (suc i) (length (values-of ss s)) (omega arith), z)
 
 -- The strata that a table carries are the least, rule by rule.
-strata-at : (text : List ℕ) (t : Table) (c : Carries text t) (i : ℕ) → i < length (c .file .rules) → getD (carried-strata t) i 0 ≡ strata-of strict (c .file .rules) (suc i)
+strata-at : (text : List ℕ) (t : Table) (c : Carries text t) (i : ℕ) → i < length (c .file .rules) → getD (carried-strata t) i 0 ≡ strata-of weak (c .file .rules) (suc i)
 unfolding stratum-at
 strata-at text t c i h = c .strata-are (suc i) (record { first = omega arith; last = omega arith })
 
@@ -103,7 +103,7 @@ module _ (text text′ : List ℕ) (c : Carries text (reading text .table)) (c�
       each : (i : ℕ) → i < length (carried-strata (reading text .table)) → getD (carried-strata (reading text .table)) i 0 ≡ getD (carried-strata (reading text′ .table)) i 0
       each i h =
           let k : i < length (f .rules) = omega (arith, h, as-many-strata text _ c) in
-          strata-at text _ c i k ∙ ap (λ (rs : List Rule). strata-of strict rs (suc i)) (a .same-rules) ∙ sym (strata-at text′ _ c′ i (omega (arith, k, counted)))
+          strata-at text _ c i k ∙ ap (λ (rs : List Rule). strata-of weak rs (suc i)) (a .same-rules) ∙ sym (strata-at text′ _ c′ i (omega (arith, k, counted)))
 
   declared : Declared-file f
   declared = file-declared text f (c .is-file)

@@ -119,10 +119,10 @@ abbrev pub lettered : List Case
 lettered =
     case (after-slots rule-a) all-0 x-to-1 (answered (fired 1 ∷ []) (change "x" "1" ∷ change "z" "1" ∷ []) (0x0C ∷ 0x84 ∷ 0x80 ∷ []))
     ∷ case (after-slots rule-b) all-0 x-to-1 (answered (idle 1 ∷ []) (change "x" "1" ∷ []) (0x0C ∷ 0x84 ∷ 0x40 ∷ []))
-    ∷ case text-C all-0 x-to-1 (answered (fired 1 ∷ fired 2 ∷ []) (change "x" "1" ∷ change "y" "1" ∷ change "z" "1" ∷ []) (0x0C ∷ 0x88 ∷ 0x80 ∷ []))
-    ∷ case (after-slots rule-a ++ bytes rule-c) all-0 x-to-1 (refusal 18 1)
+    ∷ case text-C all-0 x-to-1 (answered (fired 1 ∷ fired 1 ∷ []) (change "x" "1" ∷ change "y" "1" ∷ change "z" "1" ∷ []) (0x0C ∷ 0x88 ∷ 0x80 ∷ []))
+    ∷ case (after-slots rule-a ++ bytes rule-c) all-0 y-to-1 (answered (idle 1 ∷ idle 1 ∷ []) (change "y" "1" ∷ []) (0x0C ∷ 0x48 ∷ 0x40 ∷ []))
     ∷ case (after-slots rule-d ++ bytes rule-e) all-0 y-to-1 (answered (idle 2 ∷ fired 1 ∷ []) (change "x" "1" ∷ change "y" "1" ∷ []) (0x0C ∷ 0x88 ∷ 0x40 ∷ []))
-    ∷ case text-C no-values x-to-1 (answered (idle 1 ∷ idle 2 ∷ []) (change "x" "1" ∷ []) (0x0C ∷ 0x80 ∷ 0x00 ∷ []))
+    ∷ case text-C no-values x-to-1 (answered (idle 1 ∷ idle 1 ∷ []) (change "x" "1" ∷ []) (0x0C ∷ 0x80 ∷ 0x00 ∷ []))
     ∷ case (after-slots rule-a) all-0 x-to-0 (answered (idle 1 ∷ []) (change "x" "0" ∷ []) all-0)
     ∷ case (after-slots "WHEN x *= 1 IF TRUE THEN x := 0;") all-0 x-to-1 (refusal 40 0)
     ∷ case (after-slots "WHEN x *= 1 IF TRUE AND y |= 0 THEN z := 1;") all-0 x-to-1 (answered (fired 1 ∷ []) (change "x" "1" ∷ change "z" "1" ∷ []) (0x0C ∷ 0x84 ∷ 0x80 ∷ []))

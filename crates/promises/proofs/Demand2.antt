@@ -8,7 +8,7 @@ use mathlib.Core.Logic.{⊎-elim}
 use Rattle.laws.proofs.Truth.{le-or-lt}
 use Rattle.model.specs.Rules.{Pair}
 use Rattle.model.specs.Orders.{changes}
-use Rattle.model.specs.Strata.{strict}
+use Rattle.model.specs.Strata.{weak}
 use Rattle.model.specs.Response.{response}
 use Rattle.model.specs.Paper.{SlotConsistent, firing-of}
 use Rattle.model.proofs.Paper.{response-declarative, response-rule-consistent, response-correct}
@@ -28,14 +28,14 @@ module _ (text : List ℕ) (f : File) (h : Is-file text f) (o : reading text .ou
   module _ {Shown : List ℕ → List Pair → List ℕ → Type 0} (A : Agreed f card slip Shown) where
     -- The rules that the response fires, in the order fired.
     abbrev ours : List ℕ
-    ours = response strict (f .rules) (A .S) (A .I)
+    ours = response weak (f .rules) (A .S) (A .I)
 
     -- They are a declarative response.
     declared : Declarative f card slip (A .S) (A .I) ours
     declared =
         let z = file-no-circle text f h o in
-        let d = response-declarative strict (f .rules) (A .S) (A .I) z in
-        record { card-is = A .card-is; slip-is = A .slip-is; declarative = d .0; ended = d .1; stays-enabled = response-rule-consistent strict (f .rules) (A .S) (A .I) z }
+        let d = response-declarative weak (f .rules) (A .S) (A .I) z in
+        record { card-is = A .card-is; slip-is = A .slip-is; declarative = d .0; ended = d .1; stays-enabled = response-rule-consistent weak (f .rules) (A .S) (A .I) z }
 
     -- It has one value for each slot where none is in conflict.
     one-value : ((s : ℕ) → ¬ InConflict (changes (f .rules) (A .I) ours) s) → SlotConsistent (firing-of (f .rules) (A .I) ours)
@@ -52,7 +52,7 @@ module _ (text : List ℕ) (f : File) (h : Is-file text f) (o : reading text .ou
         fired = ours A;
         response = declared A;
         shows = shown;
-        correct = response-correct strict (f .rules) (A .S) (A .I) (file-no-circle text f h o) (one-value A (shown .no-conflict));
+        correct = response-correct weak (f .rules) (A .S) (A .I) (file-no-circle text f h o) (one-value A (shown .no-conflict));
       }
 
   conflict : (s : ℕ) → Agreed f card slip (λ S I ns. LowestConflict (changes (f .rules) I ns) s) → PaperConflict f card slip s

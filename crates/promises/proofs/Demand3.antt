@@ -5,7 +5,7 @@ use mathlib.Core.Path.{_≡_, refl, subst}
 use mathlib.Core.List.{List}
 use lib.ListN.{length}
 use Rattle.model.specs.Orders.{changes}
-use Rattle.model.specs.Strata.{strict}
+use Rattle.model.specs.Strata.{weak}
 use Rattle.model.specs.Response.{response}
 use Rattle.grammar.specs.Files.{File, slot-counts}
 use Rattle.grammar.specs.Meaning.{Is-file}
@@ -38,7 +38,7 @@ demand-3 text f h o = record {
         let c = card-tested (slot-counts (f .slots)) card (e .S) (e .card-is) in
         let i = slip-tested (slot-counts (f .slots)) slip (e .I) (e .slip-is) in
         let z = file-no-circle text f h o in
-        let ns = response strict (f .rules) (e .S) (e .I) in
+        let ns = response weak (f .rules) (e .S) (e .I) in
         let w = unless-conflict-taken (length (slot-counts (f .slots))) (length (f .rules)) (e .S) (changes (f .rules) (e .I) ns) ns a (e .ends) in
         agreed f declared z (e .S) (e .I) c i card slip (e .card-is) (e .slip-is) (λ S I ns. Shows f S I a ns)
         (λ ns A. subst (λ (x : Answer). Shows f (e .S) (e .I) x ns) (w .1) (shows-order f declared z (e .S) (e .I) c i (w .0) ns A))
@@ -48,7 +48,7 @@ demand-3 text f h o = record {
         let c = card-tested (slot-counts (f .slots)) card (e .S) (e .card-is) in
         let i = slip-tested (slot-counts (f .slots)) slip (e .I) (e .slip-is) in
         let z = file-no-circle text f h o in
-        let ns = response strict (f .rules) (e .S) (e .I) in
+        let ns = response weak (f .rules) (e .S) (e .I) in
         let w = unless-conflict-40 (length (slot-counts (f .slots))) (length (f .rules)) (e .S) (changes (f .rules) (e .I) ns) ns s (e .ends) in
         agreed f declared z (e .S) (e .I) c i card slip (e .card-is) (e .slip-is) (λ S I ns. LowestConflict (changes (f .rules) I ns) s)
         (λ ns A. subst (λ (r : ℕ). LowestConflict (changes (f .rules) (e .I) ns) r) (w .1) (lowest-conflict f declared z (e .S) (e .I) c i (w .0) ns A))

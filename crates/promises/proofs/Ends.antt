@@ -12,7 +12,7 @@ use borrow.Author.Tests.{ltb-true, ltb-false}
 use Rattle.laws.specs.Packed.{byte-count}
 use Rattle.laws.proofs.Equations.{is-true}
 use Rattle.model.specs.Rules.{Pair, Pairs}
-use Rattle.model.specs.Strata.{strict}
+use Rattle.model.specs.Strata.{weak}
 use Rattle.model.specs.Circles.{circle-of}
 use Rattle.model.specs.Result.{conflict-slot}
 use Rattle.model.proofs.Results.{conflict-slot-top}
@@ -48,10 +48,10 @@ file-response text f h o y card slip rooms =
     rw (is-true (sound (reading text .table)) (reading-passes text), rs, ns)
 
 -- Its rules have strata.
-pub file-no-circle : (text : List ℕ) (f : File) → Is-file text f → reading text .outcome ≡ Accepted → circle-of strict (f .rules) ≡ 0
+pub file-no-circle : (text : List ℕ) (f : File) → Is-file text f → reading text .outcome ≡ Accepted → circle-of weak (f .rules) ≡ 0
 file-no-circle text f h o =
     let c = reading-carries text o in
-    sym (ap (λ (g : File). circle-of strict (g .rules)) (one-meaning text (c .file) f (c .is-file) h)) ∙ c .no-circle
+    sym (ap (λ (g : File). circle-of weak (g .rules)) (one-meaning text (c .file) f (c .is-file) h)) ∙ c .no-circle
 
 -- An answer or 40.
 abbrev pub Final : OrRefused Answer → Type 0

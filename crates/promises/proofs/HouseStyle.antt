@@ -9,7 +9,7 @@ use Rattle.laws.specs.Answers.{taken}
 use Rattle.laws.proofs.Equations.{is-true}
 use Rattle.text.specs.Tokens.{tokens}
 use Rattle.model.specs.Rules.{Rule}
-use Rattle.model.specs.Strata.{strict}
+use Rattle.model.specs.Strata.{weak}
 use Rattle.model.specs.Circles.{circle-of}
 use Rattle.model.specs.Least.{strata-of}
 use Rattle.model.proofs.Strata.{least-strata}
@@ -100,11 +100,11 @@ reads-back text o l = subst (λ (b : List ℕ). (reading b .outcome ≡ Accepted
     h : Is-file (print f) g
     h = accepts-iff (print f) g .0 (r .1)
 
-    z : circle-of strict (g .rules) ≡ 0
-    z = sym (ap (λ (rs : List Rule). circle-of strict rs) (r .2 .same-rules)) ∙ c .no-circle
+    z : circle-of weak (g .rules) ≡ 0
+    z = sym (ap (λ (rs : List Rule). circle-of weak rs) (r .2 .same-rules)) ∙ c .no-circle
 
     o′ : reading (print f) .outcome ≡ Accepted
-    o′ = reading-accepted-iff (print f) .0 (g, h, (strata-of strict (g .rules), least-strata strict (g .rules) z))
+    o′ = reading-accepted-iff (print f) .0 (g, h, (strata-of weak (g .rules), least-strata weak (g .rules) z))
 
     c′ : Carries (print f) (reading (print f) .table)
     c′ = reading-carries (print f) o′

@@ -13,6 +13,7 @@ pub mod Demand3
 pub mod Demand1
 pub mod Called
 pub mod Demand2
+pub mod WeakStrata
 pub mod Alike
 pub mod HouseStyle
 pub mod CalledPrint

@@ -12,7 +12,7 @@ use Rattle.laws.specs.Numbers.{how-many}
 use Rattle.laws.proofs.Truth.{le-or-lt}
 use Rattle.model.specs.Rules.{Pair, Pairs}
 use Rattle.model.specs.Orders.{names, changes, whole-order, firing-order}
-use Rattle.model.specs.Strata.{strict}
+use Rattle.model.specs.Strata.{weak}
 use Rattle.model.specs.Circles.{circle-of}
 use Rattle.model.specs.Response.{response}
 use Rattle.model.specs.Result.{pair, conflict-slot, new-card, changes-slip, Bounded}
@@ -34,11 +34,11 @@ use Rattle.promises.specs.Agreement.{InConflict, LowestConflict, Shows, 
 use Rattle.promises.proofs.FiredBits.{record-bit, record-ones}
 use Rattle.promises.proofs.Bounds.{file-slots, changes-has, changes-bounded, changes-pass, new-card-passes}
 
-module _ (f : File) (declared : Declared-file f) (no-circle : circle-of strict (f .rules) ≡ 0) (S : List ℕ) (I : List Pair)
+module _ (f : File) (declared : Declared-file f) (no-circle : circle-of weak (f .rules) ≡ 0) (S : List ℕ) (I : List Pair)
     (card : card-test (slot-counts (f .slots)) S ≡ passed) (slip : slip-test (slot-counts (f .slots)) I ≡ passed) where
   -- The rules that the response fires, in the order fired, and the C that they end with.
   abbrev ours : List ℕ
-  ours = response strict (f .rules) S I
+  ours = response weak (f .rules) S I
 
   abbrev C : Pairs
   C = changes (f .rules) I ours
@@ -47,7 +47,7 @@ module _ (f : File) (declared : Declared-file f) (no-circle : circle-of strict (
   width = length (slot-counts (f .slots))
 
   order : T (firing-order (f .rules) S I ours)
-  order = whole-e (f .rules) S I ours (response-is-whole strict (f .rules) S I no-circle) .order
+  order = whole-e (f .rules) S I ours (response-is-whole weak (f .rules) S I no-circle) .order
 
   has : (p : Pair) → T (C p) → Has (slot-counts (f .slots)) p
   has = changes-has f declared S I slip ours order
@@ -56,10 +56,10 @@ module _ (f : File) (declared : Declared-file f) (no-circle : circle-of strict (
   bounded = changes-bounded f declared S I slip ours order
 
   same-C : (ns : List ℕ) → T (whole-order (f .rules) S I ns) → changes (f .rules) I ns ≡ C
-  same-C ns A = demand-3 strict (f .rules) S I no-circle .1 ns A .1
+  same-C ns A = demand-3 weak (f .rules) S I no-circle .1 ns A .1
 
   same-names : (ns : List ℕ) → T (whole-order (f .rules) S I ns) → names ns ≡ names ours
-  same-names ns A = demand-3 strict (f .rules) S I no-circle .1 ns A .0
+  same-names ns A = demand-3 weak (f .rules) S I no-circle .1 ns A .0
 
   -- All complete and consistent firing orders agree; where each is as `Shown` says, this is agreed of the card and the slip.
   pub agreed : (card-bytes slip-bytes : List ℕ) → read-card (slot-counts (f .slots)) card-bytes ≡ taken S → read-slip (slot-counts (f .slots)) slip-bytes ≡ taken I
@@ -69,9 +69,9 @@ module _ (f : File) (declared : Declared-file f) (no-circle : circle-of strict (
     I = I;
     card-is = c;
     slip-is = i;
-    some-order = (ours, response-is-whole strict (f .rules) S I no-circle);
+    some-order = (ours, response-is-whole weak (f .rules) S I no-circle);
     all-agree = λ a b A B. (same-C a A ∙ sym (same-C b B), same-names a A ∙ sym (same-names b B));
-    ours = response-is-whole strict (f .rules) S I no-circle;
+    ours = response-is-whole weak (f .rules) S I no-circle;
     each-order = each;
   }
 
@@ -109,7 +109,7 @@ module _ (f : File) (declared : Declared-file f) (no-circle : circle-of strict (
           pairs = changes-slip width row C;
           changes-are = slip-unpacks;
           same-changes = λ p. ap (λ (D : Pairs). D p) (e ∙ sym (slip-exact row C width bounded none));
-          same-fired = λ m. ap (λ (h : ℕ → Bool). h m) g ∙ record-bit (length (f .rules)) ours (rules-of (f .rules) S I ours (whole-e (f .rules) S I ours (response-is-whole strict (f .rules) S I no-circle))) m;
+          same-fired = λ m. ap (λ (h : ℕ → Bool). h m) g ∙ record-bit (length (f .rules)) ours (rules-of (f .rules) S I ours (whole-e (f .rules) S I ours (response-is-whole weak (f .rules) S I no-circle))) m;
           how-many-fired = (n, n ∙ order-length (f .rules) S I ns (whole-e (f .rules) S I ns A .order));
           no-conflict = λ s w. omega (arith, w .2, no-conflict-e row C width bounded none s (w .0) (w .1) (subst (λ (D : Pairs). T (D (pair s (w .0)))) e (w .3)) (subst (λ (D : Pairs). T (D (pair s (w .1)))) e (w .4)));
           values = new-card width row C S;

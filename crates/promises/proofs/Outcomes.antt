@@ -12,7 +12,7 @@ use lib.ListN.{length}
 use Rattle.laws.specs.Answers.{OrRefused, taken, refused}
 use Rattle.laws.proofs.Truth.{le-or-lt}
 use Rattle.text.specs.Tokens.{Token}
-use Rattle.model.specs.Strata.{strict}
+use Rattle.model.specs.Strata.{weak}
 use Rattle.model.specs.Circles.{circle-of}
 use Rattle.table.specs.Empty.{empty-table}
 use Rattle.grammar.specs.Limits.{max-text}
@@ -49,11 +49,11 @@ Reads r = (r .outcome ≡ Accepted) ⊎ ((k : ℕ) × (n : ℕ) × OneOf of-file
 
 file-comes : (f : File) → Reads (layered f)
 unfolding layered
-file-comes f = go (eqb (circle-of strict (f .rules)) 0)
+file-comes f = go (eqb (circle-of weak (f .rules)) 0)
   where
-    go : (b : Bool) → Reads (cond b (record { outcome = Accepted; table = with-strata (table-for f) }) (record { outcome = Refused 18 (circle-of strict (f .rules)); table = empty-table }))
+    go : (b : Bool) → Reads (cond b (record { outcome = Accepted; table = with-strata (table-for f) }) (record { outcome = Refused 18 (circle-of weak (f .rules)); table = empty-table }))
     go true = inl refl
-    go false = inr (18, circle-of strict (f .rules), one-of of-file 18 tt, refl)
+    go false = inr (18, circle-of weak (f .rules), one-of of-file 18 tt, refl)
 
 pub text-comes : (text : List ℕ) → Reads (reading text)
 unfolding reading answered-whole

@@ -12,7 +12,7 @@ use Rattle.laws.specs.Rearranged.{Perm, under, goes}
 use Rattle.laws.proofs.Rearranged.{p-length}
 use Rattle.model.specs.Rules.{Pair, Pairs, Rule}
 use Rattle.model.specs.Orders.{rule-at, changes}
-use Rattle.model.specs.Strata.{strict}
+use Rattle.model.specs.Strata.{weak}
 use Rattle.model.specs.Circles.{circle-of}
 use Rattle.model.specs.Least.{strata-of}
 use Rattle.model.specs.Response.{response}
@@ -68,36 +68,36 @@ module _ (place : ℕ → ℕ) where
   same-outcome y u v same-refusal = (refl, refl)
   same-outcome y u v (same-answer c k n b) = (ap₂ (λ (x z : ℕ). Answered x z) (ap length c) n, refl)
 
-module _ (rs rs′ : List Rule) (q : Perm rs rs′) (z : circle-of strict rs ≡ 0) (S : List ℕ) (I : List Pair) where
-  z′ : circle-of strict rs′ ≡ 0
-  z′ = accepted-too strict rs rs′ q z
+module _ (rs rs′ : List Rule) (q : Perm rs rs′) (z : circle-of weak rs ≡ 0) (S : List ℕ) (I : List Pair) where
+  z′ : circle-of weak rs′ ≡ 0
+  z′ = accepted-too weak rs rs′ q z
 
   abbrev ours : List ℕ
-  ours = response strict rs S I
+  ours = response weak rs S I
 
   abbrev theirs : List ℕ
-  theirs = response strict rs′ S I
+  theirs = response weak rs′ S I
 
   moved-bit : (n : ℕ) → bit-of (fired-record (length rs) ours) n ≡ bit-of (fired-record (length rs′) theirs) (under (goes q) n)
   moved-bit n =
-      sym (record-bit (length rs) ours (rules-of rs S I ours (whole-e rs S I ours (response-is-whole strict rs S I z))) n)
-      ∙ rearranged-response strict rs rs′ q z S I .0 n
-      ∙ record-bit (length rs′) theirs (rules-of rs′ S I theirs (whole-e rs′ S I theirs (response-is-whole strict rs′ S I z′))) (under (goes q) n)
+      sym (record-bit (length rs) ours (rules-of rs S I ours (whole-e rs S I ours (response-is-whole weak rs S I z))) n)
+      ∙ rearranged-response weak rs rs′ q z S I .0 n
+      ∙ record-bit (length rs′) theirs (rules-of rs′ S I theirs (whole-e rs′ S I theirs (response-is-whole weak rs′ S I z′))) (under (goes q) n)
 
   -- As many rules fire.
   as-many : ones-in (fired-record (length rs) ours) ≡ ones-in (fired-record (length rs′) theirs)
   as-many =
-      let A = response-is-whole strict rs S I z in
+      let A = response-is-whole weak rs S I z in
       let B = whole-too rs rs′ q S I ours A in
       record-ones (length rs) ours ∙ order-length rs S I ours (whole-e rs S I ours A .order) ∙ sym (length-map ours (under (goes q)))
       ∙ sym (order-length rs′ S I (map (under (goes q)) ours) (whole-e rs′ S I (map (under (goes q)) ours) B .order))
-      ∙ ap (λ (h : ℕ → Bool). how-many h (length rs′)) (demand-3 strict rs′ S I z′ .1 (map (under (goes q)) ours) B .0) ∙ sym (record-ones (length rs′) theirs)
+      ∙ ap (λ (h : ℕ → Bool). how-many h (length rs′)) (demand-3 weak rs′ S I z′ .1 (map (under (goes q)) ours) B .0) ∙ sym (record-ones (length rs′) theirs)
 
   -- The ending of both.
   same-by-firing : (place : ℕ → ℕ) → ((n : ℕ) → under (goes q) n ≡ place n) → (width : ℕ) → SameResponse place (answer-by-firing rs width S I) (answer-by-firing rs′ width S I)
   unfolding answer-by-firing unless-conflict answer-of
   same-by-firing place e width =
-      subst (λ (D : Pairs). SameResponse place (unless-conflict width (length rs) S (changes rs I ours) ours) (unless-conflict width (length rs′) S D theirs)) (rearranged-response strict rs rs′ q z S I .1)
+      subst (λ (D : Pairs). SameResponse place (unless-conflict width (length rs) S (changes rs I ours) ours) (unless-conflict width (length rs′) S D theirs)) (rearranged-response weak rs rs′ q z S I .1)
       (go (ltb (conflict-slot width row (changes rs I ours)) width))
     where
       go : (b : Bool) → SameResponse place
@@ -107,7 +107,7 @@ module _ (rs rs′ : List Rule) (q : Perm rs rs′) (z : circle-of strict rs ≡
       go false = same-answer refl refl as-many (λ n. moved-bit n ∙ ap (bit-of (fired-record (length rs′) theirs)) (e n))
 
 -- The response of both, over the same slots.
-same-by-rules : (place : ℕ → ℕ) (counts : List ℕ) (rs rs′ : List Rule) (q : Perm rs rs′) → ((n : ℕ) → under (goes q) n ≡ place n) → circle-of strict rs ≡ 0
+same-by-rules : (place : ℕ → ℕ) (counts : List ℕ) (rs rs′ : List Rule) (q : Perm rs rs′) → ((n : ℕ) → under (goes q) n ≡ place n) → circle-of weak rs ≡ 0
     → (card slip : List ℕ) (rooms : Rooms) → SameResponse place (answer-by-rules counts rs card slip rooms) (answer-by-rules counts rs′ card slip rooms)
 unfolding answer-by-rules
 same-by-rules place counts rs rs′ q e z card slip rooms =
@@ -136,7 +136,7 @@ unmoved text f h o text′ R = record {
     moved : (rules′ : List Rule) × (read text′ ≡ accepted (record { slots = f .slots; rules = rules′ })) × (q : Perm (f .rules) rules′) × ((i : ℕ) → goes q i ≡ goes (R .rules) i)
     moved = rearranged-text text text′ f (accepts-iff text f .1 h) R
 
-    z : circle-of strict (f .rules) ≡ 0
+    z : circle-of weak (f .rules) ≡ 0
     z = file-no-circle text f h o
 
     f′ : File
@@ -146,7 +146,7 @@ unmoved text f h o text′ R = record {
     h′ = accepts-iff text′ f′ .0 (moved .1)
 
     o′ : reading text′ .outcome ≡ Accepted
-    o′ = reading-accepted-iff text′ .0 (f′, h′, (strata-of strict (moved .0), least-strata strict (moved .0) (accepted-too strict (f .rules) (moved .0) (moved .2) z)))
+    o′ = reading-accepted-iff text′ .0 (f′, h′, (strata-of weak (moved .0), least-strata weak (moved .0) (accepted-too weak (f .rules) (moved .0) (moved .2) z)))
 
     same : (y : Tally) (card slip : List ℕ) (rooms : Rooms) → SameResponse place (responds text y card slip rooms) (responds text′ y card slip rooms)
     same y card slip rooms =

@@ -12,7 +12,7 @@ use Rattle.laws.specs.Packed.{byte-bits}
 use Rattle.model.specs.Rules.{Pair, Pairs, among}
 use Rattle.model.specs.Orders.{rule-at, names, changes, whole-order}
 use Rattle.model.specs.Result.{pair}
-use Rattle.model.specs.Strata.{strict}
+use Rattle.model.specs.Strata.{weak}
 use Rattle.model.specs.Response.{response}
 use Rattle.grammar.specs.Files.{File, slot-counts}
 use Rattle.grammar.specs.Meaning.{Is-file}
@@ -66,7 +66,7 @@ pub record Agreed (f : File) (card slip : List ℕ) (Shown : List ℕ → List P
   pub slip-is : read-slip (slot-counts (f .slots)) slip ≡ taken I
   pub some-order : (ns : List ℕ) × T (whole-order (f .rules) S I ns)
   pub all-agree : (a b : List ℕ) → T (whole-order (f .rules) S I a) → T (whole-order (f .rules) S I b) → (changes (f .rules) I a ≡ changes (f .rules) I b) × (names a ≡ names b)
-  pub ours : T (whole-order (f .rules) S I (response strict (f .rules) S I))
+  pub ours : T (whole-order (f .rules) S I (response weak (f .rules) S I))
   pub each-order : (ns : List ℕ) → T (whole-order (f .rules) S I ns) → Shown S I ns
 
 -- The same refusal with both its numbers, or the same changes and new card, as many rules fired, and a rule's bit is one in its new place exactly when it is in its old one.

@@ -2,6 +2,7 @@ pub mod Agreement
 pub mod Refusals
 pub mod Paper
 pub mod Day
+pub mod WeakStrata
 pub mod Listing
 pub mod Called
 pub mod HouseStyle

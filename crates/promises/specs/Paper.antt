@@ -8,8 +8,8 @@ use lib.ListN.{length}
 use Rattle.laws.specs.Packed.{Bytes}
 use Rattle.model.specs.Rules.{Pair}
 use Rattle.model.specs.Orders.{changes}
-use Rattle.model.specs.Strata.{strict, Strata}
-use Rattle.model.specs.Circles.{circle-of}
+use Rattle.model.specs.Strata.{weak, Strata}
+use Rattle.model.specs.Circles.{LowestThroughNot}
 use Rattle.model.specs.Paper.{NoneFireable, RuleConsistent, DeclarativeResponse, Correct, firing-of, firings}
 use Rattle.grammar.specs.Files.{File, slot-counts}
 use Rattle.grammar.specs.Meaning.{Is-file}
@@ -52,9 +52,9 @@ pub record PaperConflict (f : File) (card slip : List ℕ) (s : ℕ) : Type 0 wh
 
 pub record Demand2 : Type 0 where
   -- Accepted: exactly the texts of files whose rules have strata.
-  pub accepted : (text : List ℕ) → ((f : File) × Is-file text f × ((u : ℕ → ℕ) × Strata strict (f .rules) u)) ↔ (reading text .outcome ≡ Accepted)
-  -- 18: exactly the texts of files whose rules have none, with the lowest rule on a circle.
-  pub no-strata : (text : List ℕ) (k : ℕ) → (reading text .outcome ≡ Refused 18 k) ↔ ((f : File) × Is-file text f × ((u : ℕ → ℕ) → ¬ Strata strict (f .rules) u) × (k ≡ circle-of strict (f .rules)))
+  pub accepted : (text : List ℕ) → ((f : File) × Is-file text f × ((u : ℕ → ℕ) × Strata weak (f .rules) u)) ↔ (reading text .outcome ≡ Accepted)
+  -- 18: exactly the texts of files whose rules have none, with the lowest rule on a circle through a NOT.
+  pub no-strata : (text : List ℕ) (k : ℕ) → (reading text .outcome ≡ Refused 18 k) ↔ ((f : File) × Is-file text f × ((u : ℕ → ℕ) → ¬ Strata weak (f .rules) u) × LowestThroughNot (f .rules) k)
   -- Each answer, and each conflict, by an accepted file.
   pub answered : (text : List ℕ) (f : File) → Is-file text f → reading text .outcome ≡ Accepted → (y : Tally) (card slip : List ℕ) (rooms : Rooms) (a : Answer)
       → responds text y card slip rooms ≡ taken a → PaperAnswer f card slip a

@@ -22,7 +22,7 @@ use Rattle.laws.proofs.Fronts.{filled-at}
 use Rattle.laws.proofs.Packed.{pack-length}
 use Rattle.model.specs.Rules.{Pair, Pairs, Rule, same, among}
 use Rattle.model.specs.Orders.{names, changes}
-use Rattle.model.specs.Strata.{strict}
+use Rattle.model.specs.Strata.{weak}
 use Rattle.model.specs.Response.{response}
 use Rattle.model.specs.Result.{pair, value-in, is-changed, new-value, conflict-slot, new-card, changes-slip}
 use Rattle.model.proofs.Alike.{SameCard}
@@ -74,7 +74,7 @@ slip-placed s F p t =
 
 module _ (rs : List Rule) (width : ℕ) (S : List ℕ) (I : List Pair) where
   abbrev ours : List ℕ
-  ours = response strict rs S I
+  ours = response weak rs S I
 
   abbrev C : Pairs
   C = changes rs I ours
@@ -188,7 +188,7 @@ front-is ys out n e = rw e refl
 module _ (t : Table) (card : Card) (slip : Slip) (O : InOrder t card slip) (sh : Shaped t) (g : Firing)
     (fires : g ≡ firing-of t (card .values) (add-pairs (changes-of slip) (replicate pair-places false))) where
   abbrev fired-in-order : List ℕ
-  fired-in-order = response strict (rules-of t) (values-of card) (changes-of slip)
+  fired-in-order = response weak (rules-of t) (values-of card) (changes-of slip)
 
   abbrev ends-with : Pairs
   ends-with = changes (rules-of t) (changes-of slip) fired-in-order

@@ -8,7 +8,7 @@ use Rattle.laws.specs.Tabulated.{tabulate}
 use Rattle.laws.specs.Packed.{pack}
 use Rattle.model.specs.Rules.{Pair, Pairs, Rule}
 use Rattle.model.specs.Orders.{names, changes}
-use Rattle.model.specs.Strata.{strict}
+use Rattle.model.specs.Strata.{weak}
 use Rattle.model.specs.Response.{response}
 use Rattle.model.specs.Result.{conflict-slot, new-card, changes-slip}
 use Rattle.table.specs.Limits.{row}
@@ -36,4 +36,4 @@ unless-conflict width count S C ns =
 
 -- All firing ends before conflicts are looked for.
 unfoldable pub answer-by-firing : List Rule → ℕ → List ℕ → List Pair → OrRefused Answer
-answer-by-firing rs width S I = unless-conflict width (length rs) S (changes rs I (response strict rs S I)) (response strict rs S I)
+answer-by-firing rs width S I = unless-conflict width (length rs) S (changes rs I (response weak rs S I)) (response weak rs S I)

@@ -9,10 +9,11 @@ use native.Mathlib.Omega.{arith}
 use lib.Dec.{T, eqb}
 use borrow.Author.Tests.{eqb-true, eqb-false, eq-eqb, ne-eqb}
 use Rattle.model.specs.Rules as model
-use Rattle.model.specs.Strata.{strict, Strata}
-use Rattle.model.specs.Circles.{circle-of}
+use Rattle.model.specs.Strata.{weak, Strata}
+use Rattle.model.specs.Circles.{LowestThroughNot, circle-of}
 use Rattle.model.specs.Least.{strata-of}
 use Rattle.model.proofs.Strata.{no-circle, no-strata, least-strata}
+use Rattle.model.proofs.Steps.{lowest-through-not, one-lowest}
 use Rattle.table.specs.declared.Table.{Table}
 use Rattle.table.specs.Empty.{empty-table}
 use Rattle.table.specs.Fits.{TableFits}
@@ -55,11 +56,11 @@ answer-for l = record { outcome = outcome-for (l .outcome); table = l .table }
 -- A file's answer is that of its table's strata.
 layered-table : (f : File) → answer-for (layering (table-for f)) ≡ layered f
 unfolding layering layered
-layered-table f = rw (file-rules f) (go (eqb (circle-of strict (f .rules)) 0))
+layered-table f = rw (file-rules f) (go (eqb (circle-of weak (f .rules)) 0))
   where
     go : (b : Bool)
-        → answer-for (cond b (record { outcome = Layered; table = with-strata (table-for f) }) (record { outcome = Circle (circle-of strict (f .rules)); table = empty-table }))
-        ≡ cond b (record { outcome = Accepted; table = with-strata (table-for f) }) (record { outcome = Refused 18 (circle-of strict (f .rules)); table = empty-table })
+        → answer-for (cond b (record { outcome = Layered; table = with-strata (table-for f) }) (record { outcome = Circle (circle-of weak (f .rules)); table = empty-table }))
+        ≡ cond b (record { outcome = Accepted; table = with-strata (table-for f) }) (record { outcome = Refused 18 (circle-of weak (f .rules)); table = empty-table })
     go true = refl
     go false = refl
 
@@ -109,13 +110,13 @@ whole-refused text q k n e o = go (read text) refl e
         ap (λ (x : Outcome). record { outcome = x; table = q .table }) (sym o) ∙ s ∙ sym (reading-refused text j m r)
 
 -- The two answers of a file as read.
-layered-zero : (f : File) → circle-of strict (f .rules) ≡ 0 → layered f ≡ record { outcome = Accepted; table = with-strata (table-for f) }
+layered-zero : (f : File) → circle-of weak (f .rules) ≡ 0 → layered f ≡ record { outcome = Accepted; table = with-strata (table-for f) }
 unfolding layered
-layered-zero f z = rw (eq-eqb (circle-of strict (f .rules)) 0 z) refl
+layered-zero f z = rw (eq-eqb (circle-of weak (f .rules)) 0 z) refl
 
-layered-circle : (f : File) → (circle-of strict (f .rules) ≡ 0 → ⊥) → layered f ≡ record { outcome = Refused 18 (circle-of strict (f .rules)); table = empty-table }
+layered-circle : (f : File) → (circle-of weak (f .rules) ≡ 0 → ⊥) → layered f ≡ record { outcome = Refused 18 (circle-of weak (f .rules)); table = empty-table }
 unfolding layered
-layered-circle f n = rw (ne-eqb (circle-of strict (f .rules)) 0 n) refl
+layered-circle f n = rw (ne-eqb (circle-of weak (f .rules)) 0 n) refl
 
 -- The grammar's reading gives 10 to 17.
 fault-range : (k : ℕ) (before after : List Token) → Fault k before after → (10 ≤ k) × (k ≤ 17)
@@ -132,20 +133,20 @@ outcomes-differ : (k n : ℕ) → Accepted ≡ Refused k n → ⊥
 outcomes-differ k n c = let z : _≡_ {A = ℕ} 0 1 = cc in omega arith
 
 -- A text is accepted exactly where it is a file whose rules have strata.
-pub reading-accepted-iff : (text : List ℕ) → ((f : File) × Is-file text f × ((u : ℕ → ℕ) × Strata strict (f .rules) u)) ↔ (reading text .outcome ≡ Accepted)
+pub reading-accepted-iff : (text : List ℕ) → ((f : File) × Is-file text f × ((u : ℕ → ℕ) × Strata weak (f .rules) u)) ↔ (reading text .outcome ≡ Accepted)
 reading-accepted-iff text = (there, λ o. back o (read text) refl)
   where
-    there : (f : File) × Is-file text f × ((u : ℕ → ℕ) × Strata strict (f .rules) u) → reading text .outcome ≡ Accepted
+    there : (f : File) × Is-file text f × ((u : ℕ → ℕ) × Strata weak (f .rules) u) → reading text .outcome ≡ Accepted
     there w =
-        let z = no-circle strict (w .0 .rules) (w .2 .0) (w .2 .1) in
+        let z = no-circle weak (w .0 .rules) (w .2 .0) (w .2 .1) in
         ap (λ (a : FileRead). a .outcome) (reading-file text (w .0) (accepts-iff text (w .0) .1 (w .1)) ∙ layered-zero (w .0) z)
 
-    back : reading text .outcome ≡ Accepted → (a : Answer) → read text ≡ a → (f : File) × Is-file text f × ((u : ℕ → ℕ) × Strata strict (f .rules) u)
-    back o (accepted f) e = by-circle (eqb (circle-of strict (f .rules)) 0) refl
+    back : reading text .outcome ≡ Accepted → (a : Answer) → read text ≡ a → (f : File) × Is-file text f × ((u : ℕ → ℕ) × Strata weak (f .rules) u)
+    back o (accepted f) e = by-circle (eqb (circle-of weak (f .rules)) 0) refl
       where
-        by-circle : (b : Bool) → eqb (circle-of strict (f .rules)) 0 ≡ b → (f : File) × Is-file text f × ((u : ℕ → ℕ) × Strata strict (f .rules) u)
-        by-circle true q = (f, accepts-iff text f .0 e, (strata-of strict (f .rules), least-strata strict (f .rules) (eqb-true (circle-of strict (f .rules)) 0 q)))
-        by-circle false q = absurd (outcomes-differ _ _ (sym o ∙ ap (λ (a : FileRead). a .outcome) (reading-file text f e ∙ layered-circle f (eqb-false (circle-of strict (f .rules)) 0 q))))
+        by-circle : (b : Bool) → eqb (circle-of weak (f .rules)) 0 ≡ b → (f : File) × Is-file text f × ((u : ℕ → ℕ) × Strata weak (f .rules) u)
+        by-circle true q = (f, accepts-iff text f .0 e, (strata-of weak (f .rules), least-strata weak (f .rules) (eqb-true (circle-of weak (f .rules)) 0 q)))
+        by-circle false q = absurd (outcomes-differ _ _ (sym o ∙ ap (λ (a : FileRead). a .outcome) (reading-file text f e ∙ layered-circle f (eqb-false (circle-of weak (f .rules)) 0 q))))
     back o (refused k n) e = absurd (outcomes-differ k n (sym o ∙ ap (λ (a : FileRead). a .outcome) (reading-refused text k n e)))
 
 -- Strata change no name that is shown.
@@ -161,7 +162,7 @@ accepted-table text o =
     let e = accepts-iff text f .1 (w .1) in
     let D = file-declared text f (w .1) in
     let sh = file-shaped f D in
-    let t = ap (λ (a : FileRead). a .table) (reading-file text f e ∙ layered-zero f (no-circle strict (f .rules) (w .2 .0) (w .2 .1))) in
+    let t = ap (λ (a : FileRead). a .table) (reading-file text f e ∙ layered-zero f (no-circle weak (f .rules) (w .2 .0) (w .2 .1))) in
     (f, e, t, ap rules-of t ∙ same-rules (table-for f) (well-formed-fits (table-for f) sh (file-well-formed f D)) sh ∙ file-rules f)
 
 -- An accepted text's table carries its file.
@@ -170,7 +171,7 @@ reading-carries text o =
     let w = reading-accepted-iff text .1 o in
     let f = w .0 in
     let e = accepts-iff text f .1 (w .1) in
-    let z = no-circle strict (f .rules) (w .2 .0) (w .2 .1) in
+    let z = no-circle weak (f .rules) (w .2 .0) (w .2 .1) in
     let D = file-declared text f (w .1) in
     let sh = file-shaped f D in
     let fits = well-formed-fits (table-for f) sh (file-well-formed f D) in
@@ -181,13 +182,13 @@ reading-carries text o =
       counts-are = same-counts (table-for f) fits sh ∙ file-counts f;
       slots-shown = λ s. with-strata-shown text (table-for f) .0 s ∙ slots-show text f (file-stands text f e) s;
       values-shown = λ s v. with-strata-shown text (table-for f) .1 s v ∙ values-show text f (file-stands text f e) s v;
-      strata-are = λ n i. stratum-now (table-for f) fits sh n (rw (file-rules f) i) ∙ ap (λ (rs : List model.Rule). strata-of strict rs n) (file-rules f);
+      strata-are = λ n i. stratum-now (table-for f) fits sh n (rw (file-rules f) i) ∙ ap (λ (rs : List model.Rule). strata-of weak rs n) (file-rules f);
       no-circle = z;
     })
 
--- A text is refused with 18 exactly where it is a file whose rules have no strata; the second number is the lowest rule on a circle.
+-- A text is refused with 18 exactly where it is a file whose rules have no strata; the second number is the lowest rule on a circle through a NOT.
 pub reading-18-iff : (text : List ℕ) (k : ℕ)
-    → (reading text .outcome ≡ Refused 18 k) ↔ ((f : File) × Is-file text f × ((u : ℕ → ℕ) → ¬ Strata strict (f .rules) u) × (k ≡ circle-of strict (f .rules)))
+    → (reading text .outcome ≡ Refused 18 k) ↔ ((f : File) × Is-file text f × ((u : ℕ → ℕ) → ¬ Strata weak (f .rules) u) × LowestThroughNot (f .rules) k)
 reading-18-iff text k = (λ o. there o (read text) refl, back)
   where
     seconds : (a b : ℕ) → Refused 18 a ≡ Refused 18 b → a ≡ b
@@ -196,23 +197,27 @@ reading-18-iff text k = (λ o. there o (read text) refl, back)
     numbers : (a b m : ℕ) → Refused 18 a ≡ Refused b m → b ≡ 18
     numbers a b m c = let z : b ≡ 18 = cc in z
 
-    there : reading text .outcome ≡ Refused 18 k → (a : Answer) → read text ≡ a → (f : File) × Is-file text f × ((u : ℕ → ℕ) → ¬ Strata strict (f .rules) u) × (k ≡ circle-of strict (f .rules))
-    there o (accepted f) e = by-circle (eqb (circle-of strict (f .rules)) 0) refl
+    there : reading text .outcome ≡ Refused 18 k → (a : Answer) → read text ≡ a → (f : File) × Is-file text f × ((u : ℕ → ℕ) → ¬ Strata weak (f .rules) u) × LowestThroughNot (f .rules) k
+    there o (accepted f) e = by-circle (eqb (circle-of weak (f .rules)) 0) refl
       where
-        by-circle : (b : Bool) → eqb (circle-of strict (f .rules)) 0 ≡ b → (f : File) × Is-file text f × ((u : ℕ → ℕ) → ¬ Strata strict (f .rules) u) × (k ≡ circle-of strict (f .rules))
-        by-circle true q = absurd (outcomes-differ 18 k (sym (ap (λ (a : FileRead). a .outcome) (reading-file text f e ∙ layered-zero f (eqb-true (circle-of strict (f .rules)) 0 q))) ∙ o))
+        by-circle : (b : Bool) → eqb (circle-of weak (f .rules)) 0 ≡ b → (f : File) × Is-file text f × ((u : ℕ → ℕ) → ¬ Strata weak (f .rules) u) × LowestThroughNot (f .rules) k
+        by-circle true q = absurd (outcomes-differ 18 k (sym (ap (λ (a : FileRead). a .outcome) (reading-file text f e ∙ layered-zero f (eqb-true (circle-of weak (f .rules)) 0 q))) ∙ o))
         by-circle false q =
-            let n = eqb-false (circle-of strict (f .rules)) 0 q in
-            (f, accepts-iff text f .0 e, no-strata strict (f .rules) n, seconds k _ (sym o ∙ ap (λ (a : FileRead). a .outcome) (reading-file text f e ∙ layered-circle f n)))
+            let n = eqb-false (circle-of weak (f .rules)) 0 q in (
+              f,
+              accepts-iff text f .0 e,
+              no-strata weak (f .rules) n,
+              rw (seconds k _ (sym o ∙ ap (λ (a : FileRead). a .outcome) (reading-file text f e ∙ layered-circle f n))) (lowest-through-not (f .rules) n),
+            )
     there o (refused j m) e =
         let z = numbers k j m (sym o ∙ ap (λ (a : FileRead). a .outcome) (reading-refused text j m e)) in
         absurd (omega (arith, z, refused-range text j m e .1))
 
-    back : (f : File) × Is-file text f × ((u : ℕ → ℕ) → ¬ Strata strict (f .rules) u) × (k ≡ circle-of strict (f .rules)) → reading text .outcome ≡ Refused 18 k
+    back : (f : File) × Is-file text f × ((u : ℕ → ℕ) → ¬ Strata weak (f .rules) u) × LowestThroughNot (f .rules) k → reading text .outcome ≡ Refused 18 k
     back w =
         let f = w .0 in
-        ap (λ (a : FileRead). a .outcome) (reading-file text f (accepts-iff text f .1 (w .1)) ∙ layered-circle f (λ z. w .2 (strata-of strict (f .rules)) (least-strata strict (f .rules) z)))
-        ∙ ap (λ (n : ℕ). Refused 18 n) (sym (w .3))
+        ap (λ (a : FileRead). a .outcome) (reading-file text f (accepts-iff text f .1 (w .1)) ∙ layered-circle f (λ z. w .2 (strata-of weak (f .rules)) (least-strata weak (f .rules) z)))
+        ∙ ap (λ (n : ℕ). Refused 18 n) (sym (one-lowest (f .rules) k (w .3)))
 
 -- Every table that the reading hands out passes 31.
 pub reading-passes : (text : List ℕ) → T (sound (reading text .table))
@@ -229,12 +234,12 @@ pub reading-no-refusal : (text : List ℕ) → refusal-number (reading text .out
 reading-no-refusal text e = go (read text) refl
   where
     go : (a : Answer) → read text ≡ a → reading text .outcome ≡ Accepted
-    go (accepted f) r = by-circle (eqb (circle-of strict (f .rules)) 0) refl
+    go (accepted f) r = by-circle (eqb (circle-of weak (f .rules)) 0) refl
       where
-        by-circle : (b : Bool) → eqb (circle-of strict (f .rules)) 0 ≡ b → reading text .outcome ≡ Accepted
-        by-circle true q = ap (λ (a : FileRead). a .outcome) (reading-file text f r ∙ layered-zero f (eqb-true (circle-of strict (f .rules)) 0 q))
+        by-circle : (b : Bool) → eqb (circle-of weak (f .rules)) 0 ≡ b → reading text .outcome ≡ Accepted
+        by-circle true q = ap (λ (a : FileRead). a .outcome) (reading-file text f r ∙ layered-zero f (eqb-true (circle-of weak (f .rules)) 0 q))
         by-circle false q =
-            let z = ap (λ (a : FileRead). refusal-number (a .outcome)) (reading-file text f r ∙ layered-circle f (eqb-false (circle-of strict (f .rules)) 0 q)) in
+            let z = ap (λ (a : FileRead). refusal-number (a .outcome)) (reading-file text f r ∙ layered-circle f (eqb-false (circle-of weak (f .rules)) 0 q)) in
             absurd (omega (arith, z, e))
     go (refused k n) r =
         let z = ap (λ (a : FileRead). refusal-number (a .outcome)) (reading-refused text k n r) in

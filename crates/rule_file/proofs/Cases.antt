@@ -22,9 +22,13 @@ runs = tt
 abbrev text-D : List ℕ
 text-D = after-slots "WHEN x *= 1 IF y |= 0 THEN z := 1; WHEN z *= 1 IF y |= 0 THEN x := 1;"
 
-pub case-D : reading text-D ≡ record { outcome = Refused 18 1; table = empty-table }
+pub case-D : reading text-D .outcome ≡ Accepted
 unfolding runs
 case-D = refl
+
+pub case-D-strata : carried-strata (reading text-D .table) ≡ 1 ∷ 1 ∷ []
+unfolding runs
+case-D-strata = refl
 
 -- Case E: the rules d and e.
 abbrev text-E : List ℕ

@@ -5,7 +5,7 @@ use mathlib.Core.Bool.{cond}
 use Prim.Native.Nat.{ℕ, _-_}
 use lib.ListN.{length, getD}
 use Rattle.laws.specs.Numbers.{Numbered}
-use Rattle.model.specs.Strata.{strict}
+use Rattle.model.specs.Strata.{weak}
 use Rattle.model.specs.Circles.{circle-of}
 use Rattle.model.specs.Least.{strata-of}
 use Rattle.table.specs.declared.Table.{Table}
@@ -33,5 +33,5 @@ pub record Carries (text : List ℕ) (t : Table) : Type 0 where
   pub counts-are : value-counts t ≡ slot-counts (file .slots)
   pub slots-shown : (s : ℕ) → show-slot text t s ≡ declared-slot (file .slots) s
   pub values-shown : (s v : ℕ) → show-value text t s v ≡ declared-value (file .slots) s v
-  pub strata-are : (n : ℕ) → Numbered (length (file .rules)) n → stratum-at t n ≡ strata-of strict (file .rules) n
-  pub no-circle : circle-of strict (file .rules) ≡ 0
+  pub strata-are : (n : ℕ) → Numbered (length (file .rules)) n → stratum-at t n ≡ strata-of weak (file .rules) n
+  pub no-circle : circle-of weak (file .rules) ≡ 0

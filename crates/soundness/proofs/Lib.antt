@@ -4,3 +4,6 @@ pub mod Equation
 pub mod Passes
 pub mod Sound
 pub mod Cases
+pub mod Chains
+pub mod Flagging
+pub mod Closing

@@ -2,12 +2,14 @@
 -- Assumes nothing.
 use mathlib.Core.Path.{_≡_}
 use mathlib.Core.Bool.{true}
+use mathlib.Core.Logic.{_↔_}
 use Prim.Native.Nat.{ℕ, _≤_, _<_}
-use lib.Dec.{leb, leb→le}
+use lib.Dec.{T, leb, leb→le}
 use lib.ListN.{getD}
-use Rattle.laws.proofs.Truth.{and-l}
+use Rattle.laws.proofs.Truth.{and-l, and-r, and-i}
 use Rattle.laws.proofs.Equations.{from-true}
-use Rattle.model.specs.Strata.{strict, Strata}
+use Rattle.model.specs.Strata.{weak, Strata}
+use Rattle.model.specs.Least.{LeastStrata}
 use Rattle.table.specs.declared.Table.{Table}
 use Rattle.table.specs.Limits.{slot-limit, value-limit}
 use Rattle.table.specs.Shape.{no-slot, Shaped}
@@ -15,7 +17,7 @@ use Rattle.table.specs.Link.{rules-of, stratum-at}
 use Rattle.table.specs.Fits.{TableFits}
 use Rattle.soundness.specs.Sound.{within-limits, well-formed, sound}
 use Rattle.soundness.proofs.WellFormed.{well-formed-e, well-formed-fits, sound-parts}
-use Rattle.soundness.proofs.Equation.{carries-strata}
+use Rattle.soundness.proofs.Equation.{carries-iff}
 
 -- It has at most 32 slots.
 pub sound-width : (t : Table) → sound t ≡ true → t .width ≤ slot-limit
@@ -34,5 +36,10 @@ pub sound-fits : (t : Table) → Shaped t → sound t ≡ true → TableFits t
 sound-fits t sh e = well-formed-fits t sh (sound-parts t (from-true (sound t) e) .0)
 
 -- Its rules have strata, and it carries them.
-pub sound-strata : (t : Table) → sound t ≡ true → Strata strict (rules-of t) (stratum-at t)
-sound-strata t e = carries-strata t (sound-parts t (from-true (sound t) e) .1)
+pub sound-strata : (t : Table) → sound t ≡ true → Strata weak (rules-of t) (stratum-at t)
+sound-strata t e = carries-iff t .0 (sound-parts t (from-true (sound t) e) .1) .strata
+
+-- A table that is otherwise in order passes exactly where it carries the least strata.
+pub sound-iff-least : (t : Table) → T (well-formed t) → T (sound t) ↔ LeastStrata weak (rules-of t) (stratum-at t)
+unfolding sound
+sound-iff-least t w = (λ u. carries-iff t .0 (and-r _ _ u), λ l. and-i _ _ w (carries-iff t .1 l))

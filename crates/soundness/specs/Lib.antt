@@ -1,1 +1,3 @@
 pub mod Sound
+pub mod Chains
+pub mod Flagging

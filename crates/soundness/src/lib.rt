@@ -1,9 +1,9 @@
 // The test of a table (31).
+mod least;
 mod right;
 
 ghost use mathlib.Core.Path.{_≡_};
 ghost use Rattle.soundness.specs.Sound.{well-formed, sound};
-use table::PAIRS;
 use table::RULES;
 use table::SLOTS;
 use table::Table;
@@ -46,37 +46,12 @@ pub fn is_well_formed(t: Table) -> bool
     true
 }
 
-// The test of a table: well-formed, and each stratum one more than the highest of those that assign a pair the rule tests.
-// For strict strata that is enough to be the least; weak strata can fulfil the like with higher numbers and are to be computed and compared.
+// The test of a table: well-formed, and it carries the least strata.
 pub fn is_sound(t: Table) -> bool
     ensures { λ b. ⌜ b ≡ sound t ⌝ }
 {
     if !is_well_formed(t) {
         return false;
     }
-    let n = t.count;
-    let mut high: [usize; PAIRS] = [0; PAIRS];
-    let mut i: usize = 0;
-    'gather: while i < n {
-        let r = t.rules[i];
-        let x = r.stratum;
-        let s = table::wide(x);
-        strata::least::raise(r, s, &mut high);
-        i += 1;
-    }
-    let mut k: usize = 0;
-    'compare: while k < n {
-        let r = t.rules[k];
-        let x = r.stratum;
-        let s = table::wide(x);
-        if s == 0 {
-            return false;
-        }
-        let h = strata::least::tested_high(r, &high);
-        if s - 1 != h {
-            return false;
-        }
-        k += 1;
-    }
-    true
+    least::is_least(t)
 }

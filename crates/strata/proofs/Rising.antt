@@ -17,11 +17,12 @@ use Rattle.laws.proofs.Equations.{either}
 use Rattle.laws.proofs.Tabulated.{is-tabulate}
 use Rattle.model.specs.Rules.{Pair, among}
 use Rattle.model.specs.Orders.{rule-at}
-use Rattle.model.specs.Strata.{strict, tested, may-stay-level, must-fall, Strata}
+use Rattle.model.specs.Strata.{weak, tested, needed, barred, depends-plainly, depends-under-not, may-stay-level, must-fall, Strata}
 use Rattle.model.specs.Circles.{circle-of}
 use Rattle.model.specs.Least.{strata-of}
-use Rattle.model.proofs.Gradings.{depends-i, depends-e}
-use Rattle.model.proofs.Strata.{no-circle, least-strata, least-top, least-unique}
+use Rattle.model.proofs.Pairs.{needed-tested, barred-tested, meet-e}
+use Rattle.model.proofs.Gradings.{plain-no-higher, under-not-smaller}
+use Rattle.model.proofs.Strata.{no-circle, least-strata, least-top, least-e}
 use Rattle.table.specs.declared.Rule.{Rule}
 use Rattle.table.specs.declared.Table.{Table}
 use Rattle.table.specs.Limits.{rule-limit, pair-places}
@@ -33,7 +34,7 @@ use Rattle.table.proofs.Link.{rule-at-is}
 use Rattle.table.proofs.Flat.{same-place, placed-inside}
 use Rattle.table.proofs.Fits.{assigned-placed, tested-placed, count-of, number, fits-at}
 use Rattle.strata.specs.declared.least.Found.{Found}
-use Rattle.strata.specs.Heights.{highest-at, raise-all, least-numbers, found}
+use Rattle.strata.specs.Heights.{asked-at, Small, raise-all, least-numbers, found}
 use Rattle.strata.proofs.Heights.{highest-ge, highest-lt, raise-ge, raise-hit, raise-below, raise-length}
 
 -- The sum of a list.
@@ -77,16 +78,18 @@ module _ (t : Table) where
   -- Between two steps of a pass: ns are the numbers of the rules, hs those at the pairs.
   pub record Rising (ns hs : List ℕ) : Type 0 where
     pub covers : (m : ℕ) (p : Pair) → Numbered (length (rules-of t)) m → T (among p (rule-at (rules-of t) m .assignments)) → number-of ns m ≤ getD hs (place-of p) 0
-    pub below : (u : ℕ → ℕ) → Strata strict (rules-of t) u → (m : ℕ) → Numbered (length (rules-of t)) m → number-of ns m ≤ u m
-    pub under : (u : ℕ → ℕ) → Strata strict (rules-of t) u → (n : ℕ) (p : Pair) → Numbered (length (rules-of t)) n → T (among p (tested (rule-at (rules-of t) n))) → getD hs (place-of p) 0 < u n
+    pub below : (u : ℕ → ℕ) → Strata weak (rules-of t) u → (m : ℕ) → Numbered (length (rules-of t)) m → number-of ns m ≤ u m
+    pub at-needed : (u : ℕ → ℕ) → Strata weak (rules-of t) u → (n : ℕ) (p : Pair) → Numbered (length (rules-of t)) n → T (among p (needed (rule-at (rules-of t) n))) → getD hs (place-of p) 0 ≤ u n
+    pub at-barred : (u : ℕ → ℕ) → Strata weak (rules-of t) u → (n : ℕ) (p : Pair) → Numbered (length (rules-of t)) n → T (among p (barred (rule-at (rules-of t) n))) → getD hs (place-of p) 0 < u n
+    pub low : (k : ℕ) → getD hs k 0 ≤ t .count
     pub small : (i : ℕ) → getD ns i 0 ≤ rule-limit
     pub beyond : (i : ℕ) → t .count ≤ i → getD ns i 0 ≡ 0
     pub numbers-length : length ns ≡ rule-limit
     pub high-length : length hs ≡ pair-places
 
-  -- Each of the rules 1 to k stands above all that it tests.
+  -- Each of the rules 1 to k stands as high as it is asked.
   pub Quiet : ℕ → List ℕ → List ℕ → Type 0
-  Quiet k ns hs = (m : ℕ) → m ≤ k → Numbered (length (rules-of t)) m → highest-at hs (tested (rule-at (rules-of t) m)) < number-of ns m
+  Quiet k ns hs = (m : ℕ) → m ≤ k → Numbered (length (rules-of t)) m → asked-at hs (rule-at (rules-of t) m) ≤ number-of ns m
 
   -- What one pass keeps, from the numbers that it started at.
   pub record Kept (ns₀ : List ℕ) (i : ℕ) (ns hs : List ℕ) (moved : Bool) : Type 0 where
@@ -100,22 +103,37 @@ module _ (t : Table) (fits : TableFits t) (sh : Shaped t) where
   rising-start = record {
     covers = λ m p i a. rw number-zeros (omega arith);
     below = λ u L m i. rw number-zeros (omega arith);
-    under = λ u L n p i a. rw zeros (omega (arith, L .from-one n i));
+    at-needed = λ u L n p i a. rw zeros (omega arith);
+    at-barred = λ u L n p i a. rw zeros (omega (arith, L .from-one n i));
+    low = λ k. rw zeros (omega arith);
     small = λ i. rw zeros (omega arith);
     beyond = λ i h. zeros rule-limit i;
     numbers-length = length-replicate {A = ℕ} rule-limit 0;
     high-length = length-replicate {A = ℕ} pair-places 0;
   }
 
-  -- Rule m assigns a pair that rule n tests, so it must stand below.
-  below-it : (u : ℕ → ℕ) → Strata strict (rules-of t) u → (n m : ℕ) (p : Pair) → Numbered (length (rules-of t)) n → Numbered (length (rules-of t)) m
-      → T (among p (tested (rule-at (rules-of t) n))) → T (among p (rule-at (rules-of t) m .assignments)) → u m < u n
-  unfolding must-fall
-  below-it u L n m p i j a b = L .smaller n m i j (depends-i (rules-of t) n m p a b)
+  -- Rule m assigns a pair that rule n needs, so it stands no higher.
+  not-above : (u : ℕ → ℕ) → Strata weak (rules-of t) u → (n m : ℕ) (p : Pair) → Numbered (length (rules-of t)) n → Numbered (length (rules-of t)) m
+      → T (among p (needed (rule-at (rules-of t) n))) → T (among p (rule-at (rules-of t) m .assignments)) → u m ≤ u n
+  not-above u L n m p i j a b = plain-no-higher weak (rules-of t) u L n m p i j a b
 
-  -- One rule raised to what it asks.
+  -- Rule m assigns a pair that rule n bars, so it must stand below.
+  below-it : (u : ℕ → ℕ) → Strata weak (rules-of t) u → (n m : ℕ) (p : Pair) → Numbered (length (rules-of t)) n → Numbered (length (rules-of t)) m
+      → T (among p (barred (rule-at (rules-of t) n))) → T (among p (rule-at (rules-of t) m .assignments)) → u m < u n
+  below-it u L n m p i j a b = under-not-smaller weak (rules-of t) u L n m p i j a b
+
+  -- What is asked of a rule is asked by any strata.
+  asked-top : (ns hs : List ℕ) → Rising t ns hs → (u : ℕ → ℕ) → Strata weak (rules-of t) u → (n : ℕ) → Numbered (length (rules-of t)) n → asked-at hs (rule-at (rules-of t) n) ≤ u n
+  unfolding asked-at
+  asked-top ns hs g u L n i = omega (
+    arith,
+    highest-lt hs (needed (rule-at (rules-of t) n)) (suc (u n)) (omega arith) (λ p a. omega (arith, g .at-needed u L n p i a)),
+    highest-lt hs (barred (rule-at (rules-of t) n)) (u n) (L .from-one n i) (λ p a. g .at-barred u L n p i a),
+  )
+
+  -- One rule raised to what it is asked.
   raised : (i : ℕ) (ns hs : List ℕ) (r : Rule) (s : ℕ) → i < t .count → rule-at (rules-of t) (suc i) ≡ rule-of r → RuleFits r
-      → s ≡ highest-at hs (tested (rule-of r)) + 1 → s ≤ t .count → Rising t ns hs → Rising t (set ns i s) (raise-all (assignments-of r) s hs)
+      → s ≡ asked-at hs (rule-of r) → s ≤ t .count → Rising t ns hs → Rising t (set ns i s) (raise-all (assignments-of r) s hs)
   raised i ns hs r s h is f e top g = record {
     covers = λ m p im a. ⊎-elim
         (λ (q : m ≡ suc i). rw (q, number-same ns i s l) (hit p (rw (q, is) at a)))
@@ -125,8 +143,11 @@ module _ (t : Table) (fits : TableFits t) (sh : Shaped t) where
         (λ (q : m ≡ suc i). rw (q, number-same ns i s l) (top-of u L))
         (λ q. rw (number-other ns i s m q) (g .below u L m im))
         (either m (suc i));
-    under = λ u L n p jn a. raise-below (assignments-of r) s hs (place-of p) (u n) (g .under u L n p jn a)
-        (λ q b w. omega (arith, top-of u L, below-it u L n (suc i) p jn (number t fits sh i h) a (rw is (rw (one-pair n p q jn a b w) at b))));
+    at-needed = λ u L n p jn a. let z = raise-below (assignments-of r) s hs (place-of p) (suc (u n)) (omega (arith, g .at-needed u L n p jn a))
+        (λ q b w. omega (arith, top-of u L, not-above u L n (suc i) p jn (number t fits sh i h) a (rw is (rw (one-pair n p q jn (needed-tested (rule-at (rules-of t) n) p a) b w) at b)))) in omega (arith, z);
+    at-barred = λ u L n p jn a. raise-below (assignments-of r) s hs (place-of p) (u n) (g .at-barred u L n p jn a)
+        (λ q b w. omega (arith, top-of u L, below-it u L n (suc i) p jn (number t fits sh i h) a (rw is (rw (one-pair n p q jn (barred-tested (rule-at (rules-of t) n) p a) b w) at b))));
+    low = λ k. let z = raise-below (assignments-of r) s hs k (suc (t .count)) (omega (arith, g .low k)) (λ q b w. omega (arith, top)) in omega (arith, z);
     small = λ k. ⊎-elim
         (λ (q : k ≡ i). rw (q, getD-set-same ns i s 0 l) (omega (arith, fits .rules-fit)))
         (λ q. rw (getD-set-other ns i k s 0 q) (g .small k))
@@ -142,59 +163,65 @@ module _ (t : Table) (fits : TableFits t) (sh : Shaped t) where
       hit : (p : Pair) → T (among p (assignments-of r)) → s ≤ getD (raise-all (assignments-of r) s hs) (place-of p) 0
       hit p a = raise-hit (assignments-of r) s hs p (omega (arith, placed-inside p (assigned-placed r p f a), g .high-length)) a
 
-      top-of : (u : ℕ → ℕ) → Strata strict (rules-of t) u → s ≤ u (suc i)
-      top-of u L = omega (arith, e, highest-lt hs (tested (rule-of r)) (u (suc i)) (L .from-one (suc i) (number t fits sh i h)) (λ p a. g .under u L (suc i) p (number t fits sh i h) (rw is a)))
+      top-of : (u : ℕ → ℕ) → Strata weak (rules-of t) u → s ≤ u (suc i)
+      top-of u L = omega (arith, e, rw is at (asked-top ns hs g u L (suc i) (number t fits sh i h)))
 
       one-pair : (n : ℕ) (p q : Pair) → Numbered (length (rules-of t)) n → T (among p (tested (rule-at (rules-of t) n))) → T (among q (assignments-of r)) → place-of q ≡ place-of p → q ≡ p
       one-pair n p q jn a b w =
           let x = fits-at t fits sh n jn in
           same-place q p (assigned-placed r q f b .in-row) (tested-placed (x .0) p (x .1) (rw (x .2) at a) .in-row) w
 
-  rising-step : (i : ℕ) (ns hs : List ℕ) (h : ℕ) → i < t .count → h ≡ highest-at hs (tested (rule-of (getD (t .rules) i no-rule))) → h < t .count
-      → Rising t ns hs → Rising t (set ns i (h + 1)) (raise-all (assignments-of (getD (t .rules) i no-rule)) (h + 1) hs)
-  rising-step i ns hs h l e top g = raised i ns hs (getD (t .rules) i no-rule) (h + 1) l (rule-at-is t i l) (fits .each-fits i l) (omega (arith, e)) (omega arith) g
+  rising-step : (i : ℕ) (ns hs : List ℕ) (s : ℕ) → i < t .count → s ≡ asked-at hs (rule-of (getD (t .rules) i no-rule)) → s ≤ t .count
+      → Rising t ns hs → Rising t (set ns i s) (raise-all (assignments-of (getD (t .rules) i no-rule)) s hs)
+  rising-step i ns hs s l e top g = raised i ns hs (getD (t .rules) i no-rule) s l (rule-at-is t i l) (fits .each-fits i l) e top g
 
   pub quiet-start : (ns hs : List ℕ) → Quiet t 0 ns hs
   unfolding Quiet
   quiet-start ns hs m le i = absurd (omega (arith, i .first))
 
-  quiet-more : (i : ℕ) (ns hs : List ℕ) (h : ℕ) → i < t .count → h ≡ highest-at hs (tested (rule-of (getD (t .rules) i no-rule))) → h < getD ns i 0
+  quiet-more : (i : ℕ) (ns hs : List ℕ) (s : ℕ) → i < t .count → s ≡ asked-at hs (rule-of (getD (t .rules) i no-rule)) → s ≤ getD ns i 0
       → Quiet t i ns hs → Quiet t (i + 1) ns hs
   unfolding Quiet number-of
-  quiet-more i ns hs h l e lt q = λ m le im. ⊎-elim
+  quiet-more i ns hs s l e lt q = λ m le im. ⊎-elim
       (λ (z : m ≡ suc i). rw (z, rule-at-is t i l) (omega (arith, e)))
       (λ (z : m < suc i). q m (omega arith) im)
       (eq-or-lt-of-le (let w : m ≤ suc i = omega arith in w))
 
-  pub kept-raise : (ns₀ : List ℕ) (i h : ℕ) (ns hs : List ℕ) (moved : Bool) → i < t .count → h ≡ highest-at hs (tested (rule-of (getD (t .rules) i no-rule))) → h < t .count → getD ns i 0 < h + 1
-      → Kept t ns₀ i ns hs moved → Kept t ns₀ (i + 1) (set ns i (h + 1)) (raise-all (assignments-of (getD (t .rules) i no-rule)) (h + 1) hs) true
-  kept-raise ns₀ i h ns hs moved l e top lt k =
-      let s = sum-set ns i (h + 1) (omega (arith, k .rising .numbers-length, fits .rules-fit)) in
+  pub kept-raise : (ns₀ : List ℕ) (i s : ℕ) (ns hs : List ℕ) (moved : Bool) → i < t .count → s ≡ asked-at hs (rule-of (getD (t .rules) i no-rule)) → s ≤ t .count → getD ns i 0 < s
+      → Kept t ns₀ i ns hs moved → Kept t ns₀ (i + 1) (set ns i s) (raise-all (assignments-of (getD (t .rules) i no-rule)) s hs) true
+  kept-raise ns₀ i s ns hs moved l e top lt k =
+      let z = sum-set ns i s (omega (arith, k .rising .numbers-length, fits .rules-fit)) in
       record {
-        rising = rising-step i ns hs h l e top (k .rising);
-        quiet = λ z. absurd (true≢false z);
-        not-less = omega (arith, s, k .not-less);
-        more = λ z. omega (arith, s, k .not-less);
+        rising = rising-step i ns hs s l e top (k .rising);
+        quiet = λ w. absurd (true≢false w);
+        not-less = omega (arith, z, k .not-less);
+        more = λ w. omega (arith, z, k .not-less);
       }
 
-  pub kept-over : (ns₀ : List ℕ) (i h : ℕ) (ns hs : List ℕ) (moved : Bool) → i < t .count → h ≡ highest-at hs (tested (rule-of (getD (t .rules) i no-rule))) → h + 1 ≤ getD ns i 0
+  pub kept-over : (ns₀ : List ℕ) (i s : ℕ) (ns hs : List ℕ) (moved : Bool) → i < t .count → s ≡ asked-at hs (rule-of (getD (t .rules) i no-rule)) → s ≤ getD ns i 0
       → Kept t ns₀ i ns hs moved → Kept t ns₀ (i + 1) ns hs moved
-  kept-over ns₀ i h ns hs moved l e le k = record {
+  kept-over ns₀ i s ns hs moved l e le k = record {
     rising = k .rising;
-    quiet = λ z. quiet-more i ns hs h l e (omega arith) (k .quiet z);
+    quiet = λ z. quiet-more i ns hs s l e le (k .quiet z);
     not-less = k .not-less;
     more = k .more;
   }
 
+  -- The numbers at the pairs can be raised by one.
+  pub rising-small : (ns hs : List ℕ) → Rising t ns hs → Small hs
+  rising-small ns hs g = record { below = λ k. omega (arith, g .low k, fits .rules-fit) }
+
   -- At rest the numbers are strata.
-  rest-strata : (ns hs : List ℕ) → Rising t ns hs → Quiet t (t .count) ns hs → Strata strict (rules-of t) (number-of ns)
-  unfolding Quiet may-stay-level must-fall
+  rest-strata : (ns hs : List ℕ) → Rising t ns hs → Quiet t (t .count) ns hs → Strata weak (rules-of t) (number-of ns)
+  unfolding Quiet may-stay-level must-fall depends-plainly depends-under-not asked-at
   rest-strata ns hs g q = record {
     from-one = λ n i. omega (arith, q n (last n i) i);
-    no-higher = λ n m i j w. absurd w;
+    no-higher = λ n m i j w.
+        let x = meet-e _ _ w in
+        omega (arith, g .covers m (x .0) j (x .2), highest-ge hs (needed (rule-at (rules-of t) n)) (x .0) (x .1), q n (last n i) i);
     smaller = λ n m i j w.
-        let x = depends-e (rules-of t) n m w in
-        omega (arith, g .covers m (x .0) j (x .2), highest-ge hs (tested (rule-at (rules-of t) n)) (x .0) (x .1), q n (last n i) i);
+        let x = meet-e _ _ w in
+        omega (arith, g .covers m (x .0) j (x .2), highest-ge hs (barred (rule-at (rules-of t) n)) (x .0) (x .1), q n (last n i) i);
   }
     where
       last : (n : ℕ) → Numbered (length (rules-of t)) n → n ≤ t .count
@@ -204,25 +231,25 @@ module _ (t : Table) (fits : TableFits t) (sh : Shaped t) where
   pub found-least : (ns hs : List ℕ) → Rising t ns hs → Quiet t (t .count) ns hs → _≡_ {A = Found} (record { circled = false; numbers = ns }) (found t)
   unfolding found least-numbers number-of
   found-least ns hs g q =
-      rw (eq-eqb (circle-of strict (rules-of t)) 0 (no-circle strict (rules-of t) (number-of ns) (rest-strata ns hs g q)))
-      (ap (λ (xs : List ℕ). record { circled = false; numbers = xs }) (is-tabulate (λ i. cond (ltb i (t .count)) (strata-of strict (rules-of t) (suc i)) 0) rule-limit 0 ns (g .numbers-length) (λ i h. by-count i (le-or-lt (t .count) i))))
+      rw (eq-eqb (circle-of weak (rules-of t)) 0 (no-circle weak (rules-of t) (number-of ns) (rest-strata ns hs g q)))
+      (ap (λ (xs : List ℕ). record { circled = false; numbers = xs }) (is-tabulate (λ i. cond (ltb i (t .count)) (strata-of weak (rules-of t) (suc i)) 0) rule-limit 0 ns (g .numbers-length) (λ i h. by-count i (le-or-lt (t .count) i))))
     where
-      by-count : (i : ℕ) → (t .count ≤ i) ⊎ (i < t .count) → getD ns i 0 ≡ cond (ltb i (t .count)) (strata-of strict (rules-of t) (suc i)) 0
+      by-count : (i : ℕ) → (t .count ≤ i) ⊎ (i < t .count) → getD ns i 0 ≡ cond (ltb i (t .count)) (strata-of weak (rules-of t) (suc i)) 0
       by-count i (inl le) = rw (le-ltb i (t .count) le) (g .beyond i le)
-      by-count i (inr lt) = rw (lt-ltb i (t .count) lt) (least-unique strict (rules-of t) (number-of ns) (rest-strata ns hs g q) (λ u s n j. g .below u s n j) (suc i) (number t fits sh i lt))
+      by-count i (inr lt) = rw (lt-ltb i (t .count) lt) (least-e weak (rules-of t) (number-of ns) (record { strata = rest-strata ns hs g q; least = λ u s n j. g .below u s n j }) (suc i) (number t fits sh i lt))
 
-  -- A number as high as the rules are many is no least stratum, so there is a circle.
-  pub found-circle : (i h : ℕ) (ns hs : List ℕ) → Rising t ns hs → i < t .count → h ≡ highest-at hs (tested (rule-of (getD (t .rules) i no-rule))) → t .count ≤ h
+  -- A number above the number of rules is no least stratum, so there is a circle.
+  pub found-circle : (i s : ℕ) (ns hs : List ℕ) → Rising t ns hs → i < t .count → s ≡ asked-at hs (rule-of (getD (t .rules) i no-rule)) → t .count < s
       → _≡_ {A = Found} (record { circled = true; numbers = replicate rule-limit 0 }) (found t)
   unfolding found
-  found-circle i h ns hs g l e top = rw (ne-eqb (circle-of strict (rules-of t)) 0 (λ z.
-      let L = least-strata strict (rules-of t) z in
+  found-circle i s ns hs g l e top = rw (ne-eqb (circle-of weak (rules-of t)) 0 (λ z.
+      let L = least-strata weak (rules-of t) z in
       omega (
         arith,
         e,
         count-of t fits sh,
-        least-top strict (rules-of t) z (suc i) (number t fits sh i l),
-        highest-lt hs (tested (rule-of (getD (t .rules) i no-rule))) _ (L .from-one (suc i) (number t fits sh i l)) (λ p a. g .under _ L (suc i) p (number t fits sh i l) (rw (rule-at-is t i l) a)),
+        least-top weak (rules-of t) z (suc i) (number t fits sh i l),
+        rw (rule-at-is t i l) at (asked-top ns hs g _ L (suc i) (number t fits sh i l)),
       )))
 
 -- The measure of the passes: 255 numbers of at most 255 can rise 65,025 times in all; a pass that moves something raises the sum, and one that moves nothing is the last.

@@ -1,12 +1,13 @@
 -- Numbers at pairs, in an array indexed by pair.
-use mathlib.Core.Bool.{true, false, cond}
+use mathlib.Core.Bool.{Bool, true, false, cond}
 use mathlib.Core.List.{List, [], _∷_}
-use Prim.Native.Nat.{ℕ, suc, max}
+use Prim.Native.Nat.{ℕ, suc, _+_, _<_, max}
 use lib.Dec.{eqb, ltb}
 use lib.ListN.{getD, set, replicate}
+use Rattle.laws.specs.Truth.{_∨ᵇ_}
 use Rattle.laws.specs.Tabulated.{tabulate}
-use Rattle.model.specs.Rules.{Pair}
-use Rattle.model.specs.Strata.{strict}
+use Rattle.model.specs.Rules.{Pair, Rule}
+use Rattle.model.specs.Strata.{weak, needed, barred}
 use Rattle.model.specs.Circles.{circle-of}
 use Rattle.model.specs.Least.{strata-of}
 use Rattle.table.specs.declared.Table.{Table}
@@ -20,6 +21,19 @@ unfoldable pub highest-at : List ℕ → List Pair → ℕ
 highest-at hs [] = 0
 highest-at hs (p ∷ ps) = max (getD hs (place-of p) 0) (highest-at hs ps)
 
+-- The least number that a rule can have where these numbers stand at the pairs: none below one that stands at a pair it needs, and above each at a pair it bars; from 1.
+unfoldable pub asked-at : List ℕ → Rule → ℕ
+asked-at hs r = max (highest-at hs (needed r)) (highest-at hs (barred r) + 1)
+
+-- One of some pairs has a number that is one below s.
+unfoldable pub one-below : List ℕ → ℕ → List Pair → Bool
+one-below hs s [] = false
+one-below hs s (p ∷ ps) = eqb (getD hs (place-of p) 0 + 1) s ∨ᵇ one-below hs s ps
+
+-- All numbers are small enough to be raised by one.
+pub record Small (hs : List ℕ) : Type 0 where
+  pub below : (k : ℕ) → getD hs k 0 < 65536
+
 -- The places of some pairs raised to s.
 unfoldable pub raise-all : List Pair → ℕ → List ℕ → List ℕ
 raise-all [] s hs = hs
@@ -27,11 +41,11 @@ raise-all (p ∷ ps) s hs = raise-all ps s (set hs (place-of p) (max (getD hs (p
 
 -- The least strata of a table's rules, with 0 beyond the rules used.
 unfoldable pub least-numbers : Table → List ℕ
-least-numbers t = tabulate (λ i. cond (ltb i (t .count)) (strata-of strict (rules-of t) (suc i)) 0) rule-limit
+least-numbers t = tabulate (λ i. cond (ltb i (t .count)) (strata-of weak (rules-of t) (suc i)) 0) rule-limit
 
 -- What the passes find: the least strata, or that there is a circle.
 unfoldable pub found : Table → Found
 found t =
-    cond (eqb (circle-of strict (rules-of t)) 0)
+    cond (eqb (circle-of weak (rules-of t)) 0)
     (record { circled = false; numbers = least-numbers t })
     (record { circled = true; numbers = replicate rule-limit 0 })

@@ -1,9 +1,9 @@
 // The least strata of a table's rules, by passes over an array indexed by pair.
 ghost use mathlib.Core.Path.{_≡_};
-ghost use Rattle.model.specs.Strata.{tested};
+ghost use Rattle.model.specs.Strata.{barred};
 ghost use Rattle.table.specs.Link.{rule-of, assignments-of};
 ghost use Rattle.table.specs.Fits.{RuleFits, TableFits};
-ghost use Rattle.strata.specs.Heights.{highest-at, raise-all, found};
+ghost use Rattle.strata.specs.Heights.{asked-at, one-below, Small, raise-all, found};
 use table::PAIRS;
 use table::RULES;
 use table::Rule;
@@ -15,32 +15,56 @@ pub struct Found {
     pub numbers: [usize; RULES],
 }
 
-// The highest number at the pairs that a rule tests by `*=`.
-pub fn tested_high(r: Rule, high: &[usize; PAIRS]) -> usize
-    requires { ⌜ RuleFits r ⌝ }
-    ensures { λ h. ⌜ h ≡ highest-at (now (high .entry)) (tested (rule-of r)) ⌝ }
+// The least number that a rule can have where these numbers stand at the pairs: it stays level with a pair that it needs, and stands above one that it bars.
+pub fn asked(r: Rule, high: &[usize; PAIRS]) -> usize
+    requires { ⌜ RuleFits r × Small (now high) ⌝ }
+    ensures { λ h. ⌜ h ≡ asked-at (now (high .entry)) (rule-of r) ⌝ }
 {
     let slot = r.slot;
     let value = r.value;
     let at = table::place(slot, value);
-    let mut h = high[at];
+    let w = high[at];
+    let mut h = if w < 1 { 1 } else { w };
     let m = r.tested;
     let mut j: usize = 0;
     'literals: while j < m {
         let l = r.literals[j];
         j += 1;
-        if !table::binds(l) {
+        if !table::is_becomes(l) {
             continue 'literals;
         }
         let s = l.slot;
         let v = l.value;
         let k = table::place(s, v);
         let x = high[k];
-        if h < x {
-            h = x;
-        }
+        let y = if l.negated { x + 1 } else { x };
+        h = if h < y { y } else { h };
     }
     h
+}
+
+// Whether a pair that a rule tests under NOT has a number one below s.
+pub fn one_below(r: Rule, s: usize, high: &[usize; PAIRS]) -> bool
+    requires { ⌜ RuleFits r × Small (now high) ⌝ }
+    ensures { λ b. ⌜ b ≡ one-below (now (high .entry)) s (barred (rule-of r)) ⌝ }
+{
+    let m = r.tested;
+    let mut j: usize = 0;
+    'literals: while j < m {
+        let l = r.literals[j];
+        j += 1;
+        if !table::is_under_not(l) {
+            continue 'literals;
+        }
+        let a = l.slot;
+        let v = l.value;
+        let k = table::place(a, v);
+        let h = high[k];
+        if h + 1 == s {
+            return true;
+        }
+    }
+    false
 }
 
 // The pairs that a rule assigns are raised to s.
@@ -62,7 +86,7 @@ pub fn raise(r: Rule, s: usize, high: &mut [usize; PAIRS])
     }
 }
 
-// Passes over the rules: each raises a rule to one more than the highest number of those that assign a pair it tests, until nothing moves.
+// Passes over the rules: each raises a rule to the number that those which assign the pairs it tests ask, until nothing moves.
 // The passes end: a pass that moves something raises the sum of the numbers, no number passes the number of rules (the least strata never do, so that
 // one that would says that there is a circle), and a pass that moves nothing is the last.
 pub fn find(t: Table) -> Found
@@ -78,15 +102,14 @@ pub fn find(t: Table) -> Found
         let mut i: usize = 0;
         'rules: while i < n {
             let r = t.rules[i];
-            let h = tested_high(r, &high);
-            if n <= h {
+            let s = asked(r, &high);
+            if n < s {
                 let none: [usize; RULES] = [0; RULES];
                 return Found {
                     circled: true,
                     numbers: none,
                 };
             }
-            let s = h + 1;
             if numbers[i] < s {
                 numbers[i] = s;
                 raise(r, s, &mut high);

@@ -1,7 +1,7 @@
 -- Going through the literals and the assignments that a rule uses, one after the other: what is left from a place on.
 -- Assumes nothing.
 use mathlib.Core.Path.{_≡_, refl}
-use mathlib.Core.Bool.{true, false}
+use mathlib.Core.Bool.{Bool, true, false}
 use mathlib.Core.List.{List, [], _∷_}
 use Prim.Native.Nat.{ℕ, _+_, _≤_, _<_}
 use native.Mathlib.Omega.{arith}
@@ -10,7 +10,7 @@ use Rattle.laws.proofs.Listed.{used-next, used-end}
 use Rattle.model.specs.Rules.{Pair}
 use Rattle.model.specs.Rules as model
 use Rattle.model.specs.Result.{pair}
-use Rattle.model.specs.Strata.{pairs-where, is-becomes, tested}
+use Rattle.model.specs.Strata.{pairs-where, is-becomes, is-plain, is-under-not, tested, needed, barred}
 use Rattle.table.specs.declared.Rule.{Rule}
 use Rattle.table.specs.Limits.{literal-limit, assignment-limit}
 use Rattle.table.specs.Shape.{no-literal, no-assignment, RuleShaped}
@@ -21,9 +21,9 @@ module _ (r : Rule) where
   unfoldable pub literals-from : ℕ → List model.Literal
   literals-from j = drop j (literals-of r)
 
-  -- The pairs that they test by `*=`.
-  unfoldable pub tested-from : ℕ → List Pair
-  tested-from j = pairs-where is-becomes (literals-from j)
+  -- The pairs of those that pass a test: that are a `*=`, a plain one or one under NOT.
+  unfoldable pub picked-from : (model.Literal → Bool) → ℕ → List Pair
+  picked-from f j = pairs-where f (literals-from j)
 
   -- The pairs assigned from place k on.
   unfoldable pub assigned-from : ℕ → List Pair
@@ -33,9 +33,17 @@ module _ (r : Rule) where
   unfolding literals-from
   literals-start = refl
 
-  pub tested-start : tested (rule-of r) ≡ pair (r .slot) (r .value) ∷ tested-from 0
-  unfolding tested tested-from literals-from
+  pub tested-start : tested (rule-of r) ≡ pair (r .slot) (r .value) ∷ picked-from is-becomes 0
+  unfolding tested picked-from literals-from
   tested-start = refl
+
+  pub needed-start : needed (rule-of r) ≡ pair (r .slot) (r .value) ∷ picked-from is-plain 0
+  unfolding needed picked-from literals-from
+  needed-start = refl
+
+  pub barred-start : barred (rule-of r) ≡ picked-from is-under-not 0
+  unfolding barred picked-from literals-from
+  barred-start = refl
 
   pub assigned-start : assigned-from 0 ≡ assignments-of r
   unfolding assigned-from
@@ -50,9 +58,9 @@ module _ (r : Rule) where
   unfolding literals-from
   literals-end j h = used-end literal-of (r .tested) (r .literals) j h
 
-  pub tested-end : (j : ℕ) → r .tested ≤ j → tested-from j ≡ []
-  unfolding tested-from pairs-where
-  tested-end j h = rw (literals-end j h)
+  pub picked-end : (f : model.Literal → Bool) (j : ℕ) → r .tested ≤ j → picked-from f j ≡ []
+  unfolding picked-from pairs-where
+  picked-end f j h = rw (literals-end j h)
 
   pub assigned-end : (k : ℕ) → r .assigned ≤ k → assigned-from k ≡ []
   unfolding assigned-from
@@ -63,15 +71,15 @@ module _ (r : Rule) where
     unfolding literals-from
     literals-next j h k = used-next literal-of (r .tested) (r .literals) j no-literal h (omega (arith, sh .literal-places))
 
-    -- A literal `*=` tests its pair, a literal `|=` none.
-    pub tested-next : (j : ℕ) → j < r .tested → r .tested ≤ literal-limit → getD (r .literals) j no-literal .becomes ≡ true
-        → tested-from j ≡ pair (getD (r .literals) j no-literal .slot) (getD (r .literals) j no-literal .value) ∷ tested-from (j + 1)
-    unfolding tested-from pairs-where is-becomes
-    tested-next j h k e = rw (literals-next j h k, e)
+    -- A literal that passes gives its pair, another none.
+    pub picked-next : (f : model.Literal → Bool) (j : ℕ) → j < r .tested → r .tested ≤ literal-limit → f (literal-of (getD (r .literals) j no-literal)) ≡ true
+        → picked-from f j ≡ pair (getD (r .literals) j no-literal .slot) (getD (r .literals) j no-literal .value) ∷ picked-from f (j + 1)
+    unfolding picked-from pairs-where
+    picked-next f j h k e = rw (literals-next j h k, e)
 
-    pub tested-over : (j : ℕ) → j < r .tested → r .tested ≤ literal-limit → getD (r .literals) j no-literal .becomes ≡ false → tested-from j ≡ tested-from (j + 1)
-    unfolding tested-from pairs-where is-becomes
-    tested-over j h k e = rw (literals-next j h k, e)
+    pub picked-over : (f : model.Literal → Bool) (j : ℕ) → j < r .tested → r .tested ≤ literal-limit → f (literal-of (getD (r .literals) j no-literal)) ≡ false → picked-from f j ≡ picked-from f (j + 1)
+    unfolding picked-from pairs-where
+    picked-over f j h k e = rw (literals-next j h k, e)
 
     pub assigned-next : (k : ℕ) → k < r .assigned → r .assigned ≤ assignment-limit
         → assigned-from k ≡ pair (getD (r .assignments) k no-assignment .slot) (getD (r .assignments) k no-assignment .value) ∷ assigned-from (k + 1)

@@ -2,6 +2,8 @@
 ghost use mathlib.Core.Path.{_≡_};
 ghost use Rattle.table.specs.Empty.{unused-rule, empty-table};
 ghost use Rattle.table.specs.Flat.{Placed, At};
+ghost use Rattle.table.specs.Link.{literal-of};
+ghost use Rattle.model.specs.Strata.{is-becomes, is-plain, is-under-not};
 
 // The limits of document 01; specs/Limits.antt has the same numbers.
 pub const SLOTS: usize = 32;
@@ -132,9 +134,23 @@ pub fn place(slot: u8, value: u8) -> usize
     s * ROW + v
 }
 
-// Whether a literal binds strata: `*=` does, plain or under NOT; `|=` does not.
-pub fn binds(l: Literal) -> bool
-    ensures { λ b. ⌜ b ≡ l .becomes ⌝ }
+// Whether a literal is a `*=`, plain or under NOT; `|=` binds nothing.
+pub fn is_becomes(l: Literal) -> bool
+    ensures { λ b. ⌜ b ≡ is-becomes (literal-of l) ⌝ }
 {
     l.becomes
+}
+
+// Whether a literal is a plain `*=`: along it strata may stay level.
+pub fn is_plain(l: Literal) -> bool
+    ensures { λ b. ⌜ b ≡ is-plain (literal-of l) ⌝ }
+{
+    l.becomes && !l.negated
+}
+
+// Whether a literal is a `*=` under NOT: along it strata must fall.
+pub fn is_under_not(l: Literal) -> bool
+    ensures { λ b. ⌜ b ≡ is-under-not (literal-of l) ⌝ }
+{
+    l.becomes && l.negated
 }

@@ -3,8 +3,9 @@
 use mathlib.Core.Path.{_≡_, refl, sym, _∙_, ap}
 use Prim.Native.Nat.{ℕ, _-_, _≤_}
 use Rattle.table.proofs.Shape.{rule-shaped}
+use Rattle.model.specs.Strata.{is-becomes}
 use Rattle.table.specs.Shape.{RuleShaped}
-use Rattle.table.proofs.Walks.{tested-from, tested-start, tested-end, tested-next, tested-over}
+use Rattle.table.proofs.Walks.{picked-from, tested-start, picked-end, picked-next, picked-over}
 use borrow.Author.Tests.{not-true, not-false}
 use mathlib.Core.List.{List}
 use Rattle.circles.specs.Links.{add-link, add-links}
@@ -13,7 +14,7 @@ use Rattle.circles.proofs.link_tested.Statement.{statement}
 use Rattle.circles.proofs.link_tested.Tie as tie
 
 abbrev Inv-literals : tie.InvT-literals
-Inv-literals p links₀ r slot value at m j₀ links j = (j ≤ m) × (add-links p (tested-from r j) links ≡ add-links p (tested-from r 0) links₀)
+Inv-literals p links₀ r slot value at m j₀ links j = (j ≤ m) × (add-links p (picked-from r is-becomes j) links ≡ add-links p (picked-from r is-becomes 0) links₀)
 
 abbrev μ-literals : tie.MeasureT-literals
 μ-literals p links₀ r slot value at m j₀ links j = m - j
@@ -39,8 +40,8 @@ element-copy-out-l c = search needs
 add-j : tie.Need-add-j Inv-literals μ-literals
 add-j c = search needs
 
-binds-requires : tie.Need-binds-requires Inv-literals μ-literals
-binds-requires c κs = search needs
+is-becomes-requires : tie.Need-is-becomes-requires Inv-literals μ-literals
+is-becomes-requires c κs = search needs
 
 literals-less : tie.Need-literals-less Inv-literals μ-literals
 literals-less c = search needs
@@ -50,7 +51,7 @@ literals-again c =
     let b = c .before in
     let a = b .before .before .before in
     let s = a .before .before .before .before in
-    let e = tested-over (s .args .t1) (shape s) (a .literals .j) (search needs) (s .pre .0 .literals-fit) (sym (b .binds .ensures) ∙ not-true (b .binds .result) (c .if1 .taken)) in
+    let e = picked-over (s .args .t1) (shape s) is-becomes (a .literals .j) (search needs) (s .pre .0 .literals-fit) (sym (b .is-becomes .ensures) ∙ not-true (b .is-becomes .result) (c .if1 .taken)) in
     (search needs, rw e at (a .literals .inv .1))
 
 place-requires-2 : tie.Need-place-requires-2 Inv-literals μ-literals
@@ -69,7 +70,7 @@ literals-again-2 c =
     let b = q .before .before in
     let a = b .before .before .before in
     let s = a .before .before .before .before in
-    let e = tested-next (s .args .t1) (shape s) (a .literals .j) (search needs) (s .pre .0 .literals-fit) (sym (b .binds .ensures) ∙ not-false (b .binds .result) (q .before .if1 .left)) in
+    let e = picked-next (s .args .t1) (shape s) is-becomes (a .literals .j) (search needs) (s .pre .0 .literals-fit) (sym (b .is-becomes .ensures) ∙ not-false (b .is-becomes .result) (q .before .if1 .left)) in
     (search needs, rw (c .link2 .ensures, q .place2 .ensures .is) (rw e at (a .literals .inv .1)))
 
 returns : tie.Need-returns Inv-literals μ-literals
@@ -78,9 +79,9 @@ returns c =
     let a = c .before in
     let s = a .before .before .before .before in
     rw (tested-start (s .args .t1))
-    ((rw (tested-end (s .args .t1) (a .literals .j) (search needs)) at (a .literals .inv .1))
-    ∙ ap (λ (ws : List ℕ). add-links (s .args .p) (tested-from (s .args .t1) 0) ws) (a .before .link .ensures)
-    ∙ ap (λ (k : ℕ). add-links (s .args .p) (tested-from (s .args .t1) 0) (add-link (s .args .links .now) (s .args .p) k)) (a .before .before .before .place .ensures .is))
+    ((rw (picked-end (s .args .t1) is-becomes (a .literals .j) (search needs)) at (a .literals .inv .1))
+    ∙ ap (λ (ws : List ℕ). add-links (s .args .p) (picked-from (s .args .t1) is-becomes 0) ws) (a .before .link .ensures)
+    ∙ ap (λ (k : ℕ). add-links (s .args .p) (picked-from (s .args .t1) is-becomes 0) (add-link (s .args .links .now) (s .args .p) k)) (a .before .before .before .place .ensures .is))
 
 pub link-tested-spec : {M : Type 1} → statement M
 link-tested-spec =
@@ -94,7 +95,7 @@ link-tested-spec =
     mul-l
     element-copy-out-l
     add-j
-    binds-requires
+    is-becomes-requires
     literals-less
     literals-again
     place-requires-2

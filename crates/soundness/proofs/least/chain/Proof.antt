@@ -1,0 +1,65 @@
+-- `soundness::least::chain` meets its contract.
+-- Assumes nothing.
+use mathlib.Core.Path.{_≡_, refl, sym, _∙_, ap}
+use mathlib.Core.Bool.{true, false}
+use mathlib.Core.List.{_∷_}
+use mathlib.Core.Logic.{⊎-elim}
+use Prim.Native.Nat.{_+_, _-_, _*_, _≤_}
+use lib.ListN.{getD}
+use borrow.Author.Tests.{not-true, not-false}
+use Rattle.model.specs.Result.{pair}
+use Rattle.table.specs.Link.{assignments-of, rule-of}
+use Rattle.soundness.proofs.Chains.{at-level, off-level}
+use native.Mathlib.Omega.{arith}
+use borrow.Author.Needs.{needs}
+use Rattle.soundness.proofs.least.chain.Statement.{statement}
+use Rattle.soundness.proofs.least.chain.Tie as tie
+
+mul-h : tie.Need-mul-h
+mul-h c = search needs
+
+element-copy-out-h : tie.Need-element-copy-out-h
+element-copy-out-h c = search needs
+
+mul-x : tie.Need-mul-x
+mul-x c = search needs
+
+element-copy-out-x : tie.Need-element-copy-out-x
+element-copy-out-x c = search needs
+
+mul-nexts : tie.Need-mul-nexts
+mul-nexts c = search needs
+
+element-write-nexts : tie.Need-element-write-nexts
+element-write-nexts c = search needs
+
+add-heads : tie.Need-add-heads
+add-heads c = search needs
+
+mul-heads : tie.Need-mul-heads
+mul-heads c = search needs
+
+element-write-heads : tie.Need-element-write-heads
+element-write-heads c = search needs
+
+returns : tie.Need-returns
+returns c = let s = c .before .before .before in at-level (s .args .high .now) (s .args .s) (s .args .k) (s .args .o) (s .args .heads .now) (s .args .nexts .now) (c .before .if1 .taken)
+
+returns-2 : tie.Need-returns-2
+returns-2 c = let s = c .before .before in off-level (s .args .high .now) (s .args .s) (s .args .k) (s .args .o) (s .args .heads .now) (s .args .nexts .now) (c .if1 .left)
+
+pub chain-spec : {M : Type 1} → statement M
+chain-spec =
+    tie.close
+    (tie.spec
+    mul-h
+    element-copy-out-h
+    mul-x
+    element-copy-out-x
+    mul-nexts
+    element-write-nexts
+    add-heads
+    mul-heads
+    element-write-heads
+    returns
+    returns-2)
