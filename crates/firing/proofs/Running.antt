@@ -16,7 +16,8 @@ use Rattle.laws.specs.Numbers.{Numbered}
 use Rattle.laws.specs.Tabulated.{tabulate}
 use Rattle.laws.proofs.Equations.{from-true, either}
 use Rattle.laws.proofs.Numbers.{is-false}
-use Rattle.laws.proofs.Flags.{flags-set, flags-more, flags-top}
+use Rattle.laws.specs.Flags.{flags-set}
+use Rattle.laws.proofs.Flags.{flags-more, flags-top}
 use Rattle.laws.proofs.Tabulated.{is-tabulate}
 use Rattle.model.specs.Rules.{enabled}
 use Rattle.model.specs.Orders.{names, changes}

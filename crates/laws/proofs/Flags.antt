@@ -10,6 +10,7 @@ use lib.Dec.{T, eqb}
 use lib.ListN.{length, getD, set, replicate, length-replicate, getD-replicate, List·getD-eq-default}
 use lib.Seq.{getD-set-same, getD-set-other}
 use borrow.Author.Tests.{eqb-true, eqb-false}
+use Rattle.laws.specs.Flags.{flags-set}
 use Rattle.laws.proofs.Truth.{le-or-lt}
 
 pub flag-here : (bs : List Bool) (i : ℕ) → i < length bs → T (getD (set bs i true) i false)
@@ -34,11 +35,6 @@ flag-from bs i j t = go (eqb j i) refl
 
 pub no-flag : (n i : ℕ) → getD (replicate n false) i false ≡ false
 no-flag n i = ⊎-elim (λ le. List·getD-eq-default (replicate n false) false {n = i} (rw length-replicate le)) (λ lt. getD-replicate n i false false lt) (le-or-lt n i)
-
--- How many flags are set.
-unfoldable pub flags-set : List Bool → ℕ
-flags-set [] = 0
-flags-set (b ∷ bs) = cond b 1 0 + flags-set bs
 
 pub flags-more : (bs : List Bool) (i : ℕ) → i < length bs → getD bs i false ≡ false → flags-set (set bs i true) ≡ flags-set bs + 1
 unfolding flags-set

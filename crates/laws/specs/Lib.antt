@@ -4,6 +4,7 @@ pub mod Below
 pub mod Tabulated
 pub mod Listed
 pub mod Words
+pub mod Flags
 pub mod Filled
 pub mod Rearranged
 pub mod Quoted

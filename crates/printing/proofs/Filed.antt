@@ -28,7 +28,8 @@ use Rattle.table.specs.Flat.{place-of}
 use Rattle.table.specs.Link.{assignment-of, rule-of}
 use Rattle.table.proofs.Link.{rules-length, rule-is}
 use Rattle.strata.specs.Layered.{with-strata}
-use Rattle.soundness.specs.Sound.{sound, well-formed, carries-least}
+use Rattle.soundness.specs.Sound.{sound, well-formed}
+use Rattle.leastness.specs.CarriesLeast.{carries-least}
 use Rattle.soundness.proofs.WellFormed.{well-formed-e, well-formed-fits}
 use Rattle.lines.specs.Index.{Spanned, row-of, Indexed}
 use Rattle.reader.specs.Tables.{table-for}

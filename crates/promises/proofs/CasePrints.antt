@@ -25,7 +25,7 @@ case-printed s = printed (after-slots s) max-text
 abbrev as-lines : List String → OrRefused (List ℕ)
 as-lines ss = taken (lines ("SLOT x { 0, 1 };" ∷ "SLOT y { 0, 1 };" ∷ "SLOT z { 0, 1 };" ∷ ss))
 
--- Cases A (G), B, C (F, K, L), D, which is refused with 18 and rule 1, E, H, I, which prints as A does, and J, which is refused with 12.
+-- Cases A (G), B, C (F, K, L), D, E, H, I, which prints as A does, and J, which is refused with 12.
 pub case-A : case-printed "WHEN x *= 1 IF y |= 0 THEN z := 1;" ≡ as-lines ("WHEN x *= 1 IF y |= 0 THEN z := 1;" ∷ [])
 unfolding runs-print
 case-A = refl
@@ -38,7 +38,7 @@ pub case-C : case-printed "WHEN x *= 1 IF y |= 0 THEN z := 1;WHEN z *= 1 IF y |=
 unfolding runs-print
 case-C = refl
 
-pub case-D : case-printed "WHEN x *= 1 IF y |= 0 THEN z := 1;WHEN z *= 1 IF y |= 0 THEN x := 1;" ≡ refused 18 1
+pub case-D : case-printed "WHEN x *= 1 IF y |= 0 THEN z := 1;WHEN z *= 1 IF y |= 0 THEN x := 1;" ≡ as-lines ("WHEN x *= 1 IF y |= 0 THEN z := 1;" ∷ "WHEN z *= 1 IF y |= 0 THEN x := 1;" ∷ [])
 unfolding runs-print
 case-D = refl
 
@@ -66,10 +66,10 @@ pub case-edge : (printed one-slot 16 ≡ refused 33 0) × (printed one-slot 17 �
 unfolding runs-print
 case-edge = (refl, refl, refl)
 
--- Case D, into no room: 18 with rule 1; and a text refused with 12.
-pub case-D-first : printed (after-slots "WHEN x *= 1 IF y |= 0 THEN z := 1; WHEN z *= 1 IF y |= 0 THEN x := 1;") 0 ≡ refused 18 1
+-- Into no room: a circle through a NOT is 18 with rule 1; and a text refused with 12.
+pub case-18-first : printed (after-slots "WHEN x *= 1 IF NOT z *= 1 THEN y := 1; WHEN y *= 1 IF TRUE THEN z := 1;") 0 ≡ refused 18 1
 unfolding runs-print
-case-D-first = refl
+case-18-first = refl
 
 pub case-12-first : printed (bytes "SLOT x {0,1}; SLOT") 0 ≡ refused 12 0
 unfolding runs-print

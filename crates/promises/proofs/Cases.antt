@@ -12,7 +12,8 @@ use Rattle.laws.specs.Words.{bit}
 use Rattle.laws.specs.Packed.{bits, number-of, field-bits, byte-bits, byte-at, pack, pack-fields, field-at}
 use Rattle.table.specs.Link.{stratum-at, value-counts}
 use Rattle.names.specs.Names.{show-name, has-slot, has-value, show-slot, show-value-of, show-value}
-use Rattle.soundness.specs.Sound.{within-limits, slots-have-values, has-pair, named, names-its-own, assigns-once, carries-least, well-formed, sound}
+use Rattle.soundness.specs.Sound.{within-limits, slots-have-values, has-pair, named, names-its-own, assigns-once, well-formed, sound}
+use Rattle.leastness.specs.CarriesLeast.{carries-least}
 use Rattle.model.specs.Rules.{assigns, each-once}
 use Rattle.rule_file.specs.Whole.{reading}
 use Rattle.grammar.proofs.Cases.{after-slots}

@@ -1,4 +1,4 @@
--- Cases D and E of document 01 from their texts, by evaluation: 18 with rule 1, and the strata 2 and 1.
+-- Cases D and E of document 01 from their texts, and circles of document 02, section 2, by evaluation.
 -- Assumes nothing.
 use Prim.Native.Nat.{ℕ}
 use mathlib.Core.Path.{_≡_, refl}
@@ -41,3 +41,31 @@ case-E = refl
 pub case-E-strata : carried-strata (reading text-E .table) ≡ 2 ∷ 1 ∷ []
 unfolding runs
 case-E-strata = refl
+
+-- A rule that tests plainly what it assigns itself is in stratum 1; so are two that test by two NOTs, which cancel, what the other assigns.
+abbrev text-plain : List ℕ
+text-plain = after-slots "WHEN x *= 1 IF TRUE THEN x := 1; WHEN x *= 0 IF NOT NOT y *= 1 THEN z := 1; WHEN x *= 0 IF NOT NOT z *= 1 THEN y := 1;"
+
+pub plain-circles : reading text-plain .outcome ≡ Accepted
+unfolding runs
+plain-circles = refl
+
+pub plain-strata : carried-strata (reading text-plain .table) ≡ 1 ∷ 1 ∷ 1 ∷ []
+unfolding runs
+plain-strata = refl
+
+-- 1 waits for 2, 2 for 1 and under NOT for 3, 3 for 2: 18 names rule 1, which no circle through the NOT meets without meeting rule 2 twice.
+pub circle-met-twice : reading (after-slots "WHEN y *= 1 IF TRUE THEN x := 1; WHEN x *= 1 IF NOT z *= 1 THEN y := 1; WHEN y *= 1 IF TRUE THEN z := 1;")
+    ≡ record { outcome = Refused 18 1; table = empty-table }
+unfolding runs
+circle-met-twice = refl
+
+-- A rule beside the circle is not named: rule 1 waits for it only.
+pub beside-circle : reading (after-slots "WHEN y *= 1 IF TRUE THEN z := 0; WHEN x *= 1 IF NOT y *= 1 THEN y := 1;") ≡ record { outcome = Refused 18 2; table = empty-table }
+unfolding runs
+beside-circle = refl
+
+-- The least strata of a plain circle that waits under NOT for another rule: 2, 2, 1.
+pub above-strata : carried-strata (reading (after-slots "WHEN x *= 1 IF NOT z *= 1 THEN y := 1; WHEN y *= 1 IF TRUE THEN x := 1; WHEN x *= 0 IF TRUE THEN z := 1;") .table) ≡ 2 ∷ 2 ∷ 1 ∷ []
+unfolding runs
+above-strata = refl

@@ -1,9 +1,5 @@
 pub mod RuleTests
 pub mod WellFormed
-pub mod Equation
 pub mod Passes
 pub mod Sound
 pub mod Cases
-pub mod Chains
-pub mod Flagging
-pub mod Closing

@@ -17,7 +17,7 @@ use Rattle.table.specs.Link.{rules-of, stratum-at}
 use Rattle.table.specs.Fits.{TableFits}
 use Rattle.soundness.specs.Sound.{within-limits, well-formed, sound}
 use Rattle.soundness.proofs.WellFormed.{well-formed-e, well-formed-fits, sound-parts}
-use Rattle.soundness.proofs.Equation.{carries-iff}
+use Rattle.leastness.proofs.Carried.{carries-iff}
 
 -- It has at most 32 slots.
 pub sound-width : (t : Table) → sound t ≡ true → t .width ≤ slot-limit

@@ -26,7 +26,8 @@ use Rattle.table.specs.Flat.{Placed}
 use Rattle.table.specs.Fits.{RuleFits, TableFits}
 use Rattle.table.proofs.Link.{count-is}
 use Rattle.names.proofs.Names.{slot-inside, value-inside}
-use Rattle.soundness.specs.Sound.{within-limits, slots-have-values, has-pair, named, names-its-own, assigns-once, well-formed, rule-right, carries-least, sound}
+use Rattle.soundness.specs.Sound.{within-limits, slots-have-values, has-pair, named, names-its-own, assigns-once, well-formed, rule-right, sound}
+use Rattle.leastness.specs.CarriesLeast.{carries-least}
 use Rattle.soundness.proofs.RuleTests.{pair-lacking, pair-there}
 
 -- The four parts of `rule-right`.

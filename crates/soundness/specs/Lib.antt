@@ -1,3 +1,1 @@
 pub mod Sound
-pub mod Chains
-pub mod Flagging

@@ -1,5 +1,4 @@
 // The test of a table (31).
-mod least;
 mod right;
 
 ghost use mathlib.Core.Path.{_≡_};
@@ -53,5 +52,5 @@ pub fn is_sound(t: Table) -> bool
     if !is_well_formed(t) {
         return false;
     }
-    least::is_least(t)
+    leastness::is_least(t)
 }

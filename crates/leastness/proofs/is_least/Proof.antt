@@ -1,7 +1,7 @@
--- `soundness::least::is_least` meets its contract.
+-- `leastness::is_least` meets its contract.
 -- Assumes nothing.
-use mathlib.Core.Path.{_≡_, refl, sym, _∙_}
-use mathlib.Core.Bool.{true, false}
+use mathlib.Core.Path.{_≡_, sym, _∙_}
+use mathlib.Core.Bool.{false}
 use mathlib.Core.Logic.{⊎-elim}
 use Prim.Native.Nat.{ℕ, _+_, _-_, _≤_, _<_}
 use native.Mathlib.Nat.{eq-or-lt-of-le}
@@ -12,14 +12,15 @@ use Rattle.laws.proofs.Equations.{from-true}
 use Rattle.table.specs.Limits.{pair-places}
 use Rattle.table.specs.Shape.{Shaped}
 use Rattle.table.proofs.Shape.{shaped}
-use Rattle.soundness.proofs.Flagging.{queue-few}
-use Rattle.soundness.proofs.Equation.{Carried, Valid, carried-start, carried-step, carried-small, valid-start, valid-more, not-valid, not-held, all-held}
-use Rattle.soundness.proofs.Closing.{Closing, Done, Chaining, closing-start, ask-first, ask-ground, ask-chain, done-start, chaining-start, chaining-over, chaining-rule, chaining-held, chaining-end, all-closed}
-use Rattle.soundness.proofs.Chains.{Falls}
+use Rattle.leastness.proofs.Flagging.{queue-few}
+use Rattle.leastness.proofs.Carried.{Carried, Valid, carried-start, carried-step, carried-small, valid-start, valid-more, not-valid, not-held, all-held}
+use Rattle.leastness.proofs.Closing.{Closing, closing-start, ask-first, ask-ground, ask-chain}
+use Rattle.leastness.proofs.Following.{Done, Chaining, done-start, chaining-start, chaining-over, chaining-rule, chaining-held, chaining-end, all-closed}
+use Rattle.leastness.proofs.Chains.{Falls}
 use native.Mathlib.Omega.{arith}
 use borrow.Author.Needs.{needs}
-use Rattle.soundness.proofs.least.is_least.Statement.{statement}
-use Rattle.soundness.proofs.least.is_least.Tie as tie
+use Rattle.leastness.proofs.is_least.Statement.{statement}
+use Rattle.leastness.proofs.is_least.Tie as tie
 
 abbrev Inv-gather : tie.InvT-gather
 Inv-gather t n high₀ i₀ high i = (i ≤ n) × Carried t i high

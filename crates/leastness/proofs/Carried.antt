@@ -24,7 +24,7 @@ use Rattle.model.specs.Least.{LeastStrata, strata-of}
 use Rattle.model.proofs.Pairs.{needed-tested, barred-tested, meet-e}
 use Rattle.model.proofs.Gradings.{plain-no-higher, under-not-smaller}
 use Rattle.model.proofs.Justified.{justified-least, least-justified}
-use Rattle.model.proofs.Strata.{no-circle, least-strata, least-least, least-i, least-e}
+use Rattle.model.proofs.Strata.{no-circle, least-i, least-e}
 use Rattle.table.specs.declared.Rule.{Rule}
 use Rattle.table.specs.declared.Table.{Table}
 use Rattle.table.specs.Limits.{row, pair-places}
@@ -36,7 +36,7 @@ use Rattle.table.proofs.Link.{rule-at-is, stratum-at-is}
 use Rattle.table.proofs.Flat.{same-place, placed-inside}
 use Rattle.table.proofs.Fits.{assigned-placed, tested-placed, count-of, number, fits-at}
 use Rattle.strata.specs.Heights.{asked-at, Small, raise-all}
-use Rattle.soundness.specs.Sound.{carries-least}
+use Rattle.leastness.specs.CarriesLeast.{carries-least}
 use Rattle.strata.proofs.Heights.{highest-ge, highest-lt, raise-ge, raise-hit, raise-from, raise-length}
 
 module _ (t : Table) where

@@ -1,19 +1,10 @@
--- `soundness::least::chain` meets its contract.
+-- `leastness::chain` meets its contract.
 -- Assumes nothing.
-use mathlib.Core.Path.{_≡_, refl, sym, _∙_, ap}
-use mathlib.Core.Bool.{true, false}
-use mathlib.Core.List.{_∷_}
-use mathlib.Core.Logic.{⊎-elim}
-use Prim.Native.Nat.{_+_, _-_, _*_, _≤_}
-use lib.ListN.{getD}
-use borrow.Author.Tests.{not-true, not-false}
-use Rattle.model.specs.Result.{pair}
-use Rattle.table.specs.Link.{assignments-of, rule-of}
-use Rattle.soundness.proofs.Chains.{at-level, off-level}
-use native.Mathlib.Omega.{arith}
+use Prim.Native.Nat.{_-_}
+use Rattle.leastness.proofs.Chains.{at-level, off-level}
 use borrow.Author.Needs.{needs}
-use Rattle.soundness.proofs.least.chain.Statement.{statement}
-use Rattle.soundness.proofs.least.chain.Tie as tie
+use Rattle.leastness.proofs.chain.Statement.{statement}
+use Rattle.leastness.proofs.chain.Tie as tie
 
 mul-h : tie.Need-mul-h
 mul-h c = search needs

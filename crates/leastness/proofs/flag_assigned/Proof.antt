@@ -1,29 +1,27 @@
--- `soundness::least::flag_assigned` meets its contract.
+-- `leastness::flag_assigned` meets its contract.
 -- Assumes nothing.
-use mathlib.Core.Path.{_≡_, refl, sym, _∙_, ap}
-use mathlib.Core.Bool.{true, false}
+use mathlib.Core.Path.{_≡_, sym, _∙_, ap}
+use mathlib.Core.Bool.{true}
 use mathlib.Core.List.{_∷_}
-use mathlib.Core.Logic.{⊎-elim}
-use Prim.Native.Nat.{_+_, _-_, _*_, _≤_}
+use Prim.Native.Nat.{_+_, _-_, _≤_}
 use lib.ListN.{getD}
-use borrow.Author.Tests.{not-true, not-false}
 use Rattle.model.specs.Result.{pair}
-use Rattle.table.specs.Link.{assignments-of, rule-of}
+use Rattle.table.specs.Link.{assignments-of}
 use mathlib.Core.List.{List}
 use Rattle.model.specs.Rules.{Pair}
 use Rattle.table.specs.Shape.{RuleShaped, no-assignment}
 use Rattle.table.proofs.Shape.{rule-shaped}
 use Rattle.table.proofs.Walks.{assigned-from, assigned-start, assigned-end, assigned-next}
-use Rattle.soundness.specs.Flagging.{flagging, Room, flag-all}
-use Rattle.soundness.proofs.Flagging.{flag-off, flag-old, flag-new, flag-none, room-more}
+use Rattle.leastness.specs.Flagging.{flagging, Room, flag-all}
+use Rattle.leastness.proofs.Flagging.{flag-off, flag-old, flag-new, flag-none, room-more}
 use Prim.Native.Nat.{_<_}
 use lib.ListN.{set}
 use Rattle.table.specs.Limits.{pair-places}
 use Rattle.table.specs.Flat.{place-of}
 use native.Mathlib.Omega.{arith}
 use borrow.Author.Needs.{needs}
-use Rattle.soundness.proofs.least.flag_assigned.Statement.{statement}
-use Rattle.soundness.proofs.least.flag_assigned.Tie as tie
+use Rattle.leastness.proofs.flag_assigned.Statement.{statement}
+use Rattle.leastness.proofs.flag_assigned.Tie as tie
 
 abbrev Inv-pairs : tie.InvT-pairs
 Inv-pairs s high flags₀ queue₀ top r m n₀ k₀ flags queue n k = (k ≤ m) × (Room flags n × (flag-all high s (assigned-from r k) (flagging flags queue n) ≡ flag-all high s (assignments-of r) (flagging flags₀ queue₀ top)))

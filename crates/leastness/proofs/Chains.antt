@@ -1,10 +1,10 @@
 -- Chains of places: what is on a chain, and what one more place changes.
 -- Assumes nothing.
-use mathlib.Core.Path.{_≡_, refl, sym, _∙_}
+use mathlib.Core.Path.{_≡_, refl, _∙_}
 use mathlib.Core.Bool.{Bool, true, false}
 use mathlib.Core.List.{List, [], _∷_}
 use mathlib.Core.Logic.{_⊎_, inl, inr, ⊎-elim}
-use Prim.Native.Nat.{ℕ, zero, suc, _+_, _*_, _-_, _/_, _≤_, _<_}
+use Prim.Native.Nat.{ℕ, _+_, _-_, _≤_, _<_}
 use native.Mathlib.Omega.{arith}
 use lib.Dec.{T, eqb}
 use lib.ListN.{length, getD, set, length-set}
@@ -17,7 +17,7 @@ use Rattle.model.proofs.Pairs.{same-refl, same-eq}
 use Rattle.table.specs.Limits.{pair-places}
 use Rattle.table.specs.Flat.{Placed, place-of}
 use Rattle.table.proofs.Flat.{placed-inside}
-use Rattle.soundness.specs.Chains.{needs-places, head-at, next-at, heads-with, nexts-with}
+use Rattle.leastness.specs.Chains.{needs-places, head-at, next-at, heads-with, nexts-with}
 
 -- One place chained, or not.
 pub at-level : (hs : List ℕ) (s k o : ℕ) (heads nexts : List ℕ) → getD hs k 0 ≡ s → (set heads k (o + 1) ≡ head-at hs s k o heads) × (set nexts o (getD heads k 0) ≡ next-at hs s k o heads nexts)

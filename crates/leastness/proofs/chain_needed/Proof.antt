@@ -1,25 +1,20 @@
--- `soundness::least::chain_needed` meets its contract.
+-- `leastness::chain_needed` meets its contract.
 -- Assumes nothing.
-use mathlib.Core.Path.{_≡_, refl, sym, _∙_, ap}
-use mathlib.Core.Bool.{true, false}
-use mathlib.Core.List.{_∷_}
-use mathlib.Core.Logic.{⊎-elim}
+use mathlib.Core.Path.{_≡_, refl, sym, _∙_}
 use Prim.Native.Nat.{_+_, _-_, _*_, _≤_}
-use lib.ListN.{getD}
 use borrow.Author.Tests.{not-true, not-false}
 use Rattle.model.specs.Result.{pair}
-use Rattle.table.specs.Link.{assignments-of, rule-of}
-use Rattle.model.specs.Strata.{is-plain, needed}
-use Rattle.table.specs.Shape.{RuleShaped, no-literal}
+use Rattle.model.specs.Strata.{is-plain}
+use Rattle.table.specs.Shape.{RuleShaped}
 use Rattle.table.proofs.Shape.{rule-shaped}
 use Rattle.table.proofs.Walks.{picked-from, needed-start, picked-end, picked-next, picked-over}
-use Rattle.soundness.specs.Chains.{heads-with, nexts-with}
-use Rattle.soundness.proofs.Chains.{heads-next, nexts-next, heads-none, nexts-none}
+use Rattle.leastness.specs.Chains.{heads-with, nexts-with}
+use Rattle.leastness.proofs.Chains.{heads-next, nexts-next, heads-none, nexts-none}
 use Prim.Native.Nat.{_<_}
 use native.Mathlib.Omega.{arith}
 use borrow.Author.Needs.{needs}
-use Rattle.soundness.proofs.least.chain_needed.Statement.{statement}
-use Rattle.soundness.proofs.least.chain_needed.Tie as tie
+use Rattle.leastness.proofs.chain_needed.Statement.{statement}
+use Rattle.leastness.proofs.chain_needed.Tie as tie
 
 abbrev Inv-literals : tie.InvT-literals
 Inv-literals i s high heads₀ nexts₀ r slot value at first o₀ m j₀ heads nexts o j = (j ≤ m) × ((o ≤ i * 9 + 1 + j) × ((heads-with high s (picked-from r is-plain j) o heads ≡ heads-with high s (picked-from r is-plain 0) (i * 9 + 1) heads₀) × (nexts-with high s (picked-from r is-plain j) o heads nexts ≡ nexts-with high s (picked-from r is-plain 0) (i * 9 + 1) heads₀ nexts₀)))

@@ -1,27 +1,27 @@
 -- Flags at pairs and the queue of the places flagged: the laws of flagging one pair after the other, and what flagging a list of pairs comes to.
 -- Assumes nothing.
-use mathlib.Core.Path.{_≡_, refl, sym, _∙_}
-use mathlib.Core.Bool.{Bool, true, false, cond}
+use mathlib.Core.Path.{_≡_, refl, _∙_}
+use mathlib.Core.Bool.{Bool, true, false}
 use mathlib.Core.List.{List, [], _∷_}
 use mathlib.Core.Logic.{_⊎_, inl, inr, ⊎-elim}
 use Prim.Native.Nat.{ℕ, _+_, _≤_, _<_}
 use native.Mathlib.Nat.{eq-or-lt-of-le}
 use native.Mathlib.Omega.{arith}
-use lib.Dec.{T, eqb, eqb→eq}
+use lib.Dec.{T, eqb}
 use lib.ListN.{length, getD, set, length-set}
 use lib.Seq.{getD-set-same, getD-set-other}
 use borrow.Author.Tests.{eq-eqb, ne-eqb}
-use Rattle.laws.specs.Truth.{_∧ᵇ_, _∨ᵇ_, notᵇ}
-use Rattle.laws.proofs.Truth.{and-l, and-r, and-i, or-l, or-r, or-e, not-i, not-e}
-use Rattle.laws.proofs.Equations.{from-true, is-true, either}
+use Rattle.laws.specs.Truth.{_∧ᵇ_, notᵇ}
+use Rattle.laws.proofs.Truth.{and-r, or-l, or-r, or-e, not-e}
+use Rattle.laws.proofs.Equations.{from-true, either}
 use Rattle.laws.proofs.Numbers.{is-false}
-use Rattle.laws.proofs.Flags.{flag-here, flag-inside, flag-kept, flag-from, flags-set, flags-more, flags-top}
+use Rattle.laws.proofs.Flags.{flag-here, flag-kept, flag-from, flags-more, flags-top}
 use Rattle.model.specs.Rules.{Pair, among}
 use Rattle.model.proofs.Pairs.{same-refl, same-eq}
 use Rattle.table.specs.Limits.{pair-places}
 use Rattle.table.specs.Flat.{Placed, place-of}
 use Rattle.table.proofs.Flat.{placed-inside}
-use Rattle.soundness.specs.Flagging.{Flagging, flagging, Room, flag-one, flag-all}
+use Rattle.leastness.specs.Flagging.{Flagging, flagging, Room, flag-one, flag-all}
 
 -- Pairs flagged.
 pub flag-off : (hs : List ℕ) (s : ℕ) (p : Pair) (ps : List Pair) (m : Flagging) → (getD hs (place-of p) 0 ≡ s → ⊥) → flag-all hs s (p ∷ ps) m ≡ flag-all hs s ps m

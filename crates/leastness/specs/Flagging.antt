@@ -7,7 +7,7 @@ use Prim.Native.Nat.{ℕ, _+_}
 use lib.Dec.{eqb}
 use lib.ListN.{length, getD, set}
 use Rattle.laws.specs.Truth.{_∧ᵇ_, notᵇ}
-use Rattle.laws.proofs.Flags.{flags-set}
+use Rattle.laws.specs.Flags.{flags-set}
 use Rattle.model.specs.Rules.{Pair}
 use Rattle.table.specs.Limits.{pair-places}
 use Rattle.table.specs.Flat.{place-of}

@@ -1,0 +1,5 @@
+pub mod Carried
+pub mod Chains
+pub mod Flagging
+pub mod Closing
+pub mod Following

@@ -1,0 +1,3 @@
+pub mod CarriesLeast
+pub mod Chains
+pub mod Flagging
