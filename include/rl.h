@@ -46,7 +46,7 @@ typedef struct {
     uint8_t value;
 } RlAssignment;
 
-/* A rule: its trigger `slot *= value`, its literals and assignments with the numbers used, its stratum. */
+/* A rule: its trigger `slot *= value`, its literals and assignments with the numbers used, its stratum. Strata are the least numbers from 1 such that every rule that assigns what a rule tests by a plain `*=`, in the trigger too, has the same or a lower one, and every rule that assigns what it tests under NOT a lower one. */
 typedef struct {
     uint8_t slot;
     uint8_t value;
@@ -144,7 +144,7 @@ typedef struct {
 
 /* In each function a buffer is a pointer and its length; the pointer is not null, also where the length is 0, and an output overlaps no other buffer. A bool is 0 or 1. Nothing else is asked of any argument. */
 
-/* Reads a rule text into a table, or refuses it with 10 to 18. */
+/* Reads a rule text into a table with the least strata, or refuses it with 10 to 18; 18 is for rules in a circle of tests by `*=` that passes through a NOT, with the lowest rule on such a circle. */
 RlRead rl_read(const uint8_t *text, size_t text_length);
 
 /* Prints a rule text in the house style into the output, or refuses it with 10 to 18, 34 (the print would pass 65,535 bytes), 33 (the output is shorter than the print); bytes beyond the print, and all after a refusal, stay as they are. */

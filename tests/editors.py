@@ -1,5 +1,5 @@
 #!/usr/bin/env python3
-"""The examples of the editors' guide, run by the program: each must get the refusal in whose row it stands; every refusal must have its row, the guide's listing be that of examples/dialect, and its file in the house style the print of the file before it.
+"""The examples of the editors' guide, run by the program: each must get the refusal in whose row it stands; every refusal must have its row, the rules that wake each other do as the guide says, the guide's listing be that of examples/dialect, and its file in the house style the print of the file before it.
 
   tests/editors.py   needs target/bin/rl; exit status 1 where an example comes to something else
 """
@@ -38,6 +38,22 @@ def printed(files):
         return subprocess.run([os.path.join(TOP, 'target/bin/rl')], cwd=folder, capture_output=True, check=True).stdout.decode()
 
 
+def waking(guide):
+    """Of the two files on rules that wake each other: the files that each slip or the circle makes, and how the listing begins."""
+    part = guide.split('## Rules that wake each other\n')[1].split('\n## ')[0]
+    plain, under_not = ['\n'.join(block).encode() for block in blocks(part)]
+    slots = plain[:plain.index(b'WHEN')]
+    card = bytes.fromhex('0C 00 00')
+    for slip, state in (('04 02', 'fired'), ('04 22', 'fired'), ('04 44', 'idle')):
+        yield (plain, card, bytes.fromhex(slip)), f'rule 1 stratum 1 {state}\nrule 2 stratum 1 {state}\n'
+    yield (slots + under_not, card, bytes.fromhex('04 02')), 'refused 18 1\n'
+
+
+def blocks(part):
+    """The blocks of indented lines."""
+    return [[line[4:] for line in block.split('\n')] for block in part.split('\n\n') if block.startswith('    ')]
+
+
 def main():
     guide = print_cases.guide()
     with open(os.path.join(TOP, 'examples/dialect/expected'), encoding='utf-8') as file:
@@ -55,6 +71,10 @@ def main():
     if rows != [*range(10, 19), 34, *range(20, 29), 40, *range(30, 34)]:
         print(f'rows stand for {rows}')
         wrong = 1
+    for files, begins in waking(guide):
+        if not printed(files).startswith(begins):
+            print(f'rules that wake each other come to {printed(files)!r}')
+            wrong = 1
     before, after = print_cases.guided()
     if b''.join(print_cases.printed(before, print_cases.PRINT_BYTES)) != after:
         print('the file in the house style is not the print of the one before it')

@@ -48,7 +48,7 @@ pub struct Assignment {
     pub value: u8,
 }
 
-/// A rule: its trigger, its literals and assignments with the numbers used, its stratum.
+/// A rule: its trigger, its literals and assignments with the numbers used, its stratum (`include/rl.h` says which).
 #[repr(C)]
 #[derive(Clone, Copy, PartialEq, Eq, Debug, Default)]
 pub struct Rule {

@@ -1,4 +1,4 @@
-// The lowest rule on a circle of dependence, by reachability over pairs.
+// The lowest rule on a circle of dependence that passes through a NOT, by reachability over pairs.
 ghost use mathlib.Core.Path.{_≡_};
 ghost use Prim.Native.Nat.{_<_};
 ghost use lib.ListN.{getD};

@@ -1,4 +1,4 @@
-// Strata of a table: the least numbers, or the lowest rule on a circle (18).
+// Strata of a table: the least numbers, or the lowest rule on a circle through a NOT (18).
 pub mod least;
 
 ghost use mathlib.Core.Path.{_≡_};
@@ -7,13 +7,13 @@ ghost use Rattle.strata.specs.Layered.{layering};
 use table::RuleNumber;
 use table::Table;
 
-// Whether strata exist; if not, the lowest rule on a circle of dependence.
+// Whether strata exist; if not, the lowest rule on a circle through a NOT.
 pub enum Outcome {
     Layered,
     Circle(RuleNumber),
 }
 
-// The table with the least strata; or the lowest rule on a circle, and the table without slots or rules.
+// The table with the least strata; or the lowest rule on a circle through a NOT, and the table without slots or rules.
 pub struct Layering {
     pub outcome: Outcome,
     pub table: Table,

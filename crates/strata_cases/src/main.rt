@@ -249,8 +249,30 @@ fn link(a: usize, b: usize) -> Rule {
     r
 }
 
-// A chain of n rules: each waits for the one before it, or for the one after it.
-fn chain(n: usize, backward: bool) -> Table {
+// The rule that bars pair a, waits for the last pair, and assigns pair b.
+fn barring_link(a: usize, b: usize) -> Rule {
+    let mut r = link(479, b);
+    let l = Literal {
+        becomes: true,
+        negated: true,
+        slot: (a % 32) as u8,
+        value: (a / 32 % 15 + 1) as u8,
+    };
+    r.literals[0] = l;
+    r.tested = 1;
+    r
+}
+
+// The rule that tests pair a, plainly or under NOT, and assigns pair b.
+fn link_by(a: usize, b: usize, under_not: bool) -> Rule {
+    if under_not {
+        return barring_link(a, b);
+    }
+    link(a, b)
+}
+
+// A chain of n rules: each tests what the one before it assigns, or the one after it; plainly or under NOT.
+fn chain(n: usize, backward: bool, under_not: bool) -> Table {
     let mut t = table::empty_table();
     t.width = SLOTS;
     t.count = n;
@@ -265,10 +287,10 @@ fn chain(n: usize, backward: bool) -> Table {
     'rules: while i < RULES {
         if i < n {
             if backward {
-                let r = link(i + 1, i);
+                let r = link_by(i + 1, i, under_not);
                 t.rules[i] = r;
             } else {
-                let r = link(i, i + 1);
+                let r = link_by(i, i + 1, under_not);
                 t.rules[i] = r;
             }
         }
@@ -298,17 +320,22 @@ fn write_chain(t: Table) {
     io::write_all(STDOUT_FILENO, b"\n");
 }
 
-// Chains of every length, both ways.
+// One chain under its name.
+fn write_named(name: &[u8], n: usize, backward: bool, under_not: bool) {
+    io::write_all(STDOUT_FILENO, name);
+    write_number(n);
+    write_chain(chain(n, backward, under_not));
+}
+
+// Chains of every length, both ways, plain and under NOT.
 fn write_chains() {
     let mut n: usize = 0;
     while n < RULES {
         n += 1;
-        io::write_all(STDOUT_FILENO, b"forward");
-        write_number(n);
-        write_chain(chain(n, false));
-        io::write_all(STDOUT_FILENO, b"backward");
-        write_number(n);
-        write_chain(chain(n, true));
+        write_named(b"forward", n, false, false);
+        write_named(b"backward", n, true, false);
+        write_named(b"forward-not", n, false, true);
+        write_named(b"backward-not", n, true, true);
     }
 }
 

@@ -6,16 +6,16 @@ use Rattle.strata_cases.proofs.chain.Statement.{statement}
 use Rattle.strata_cases.proofs.chain.Tie as tie
 
 abbrev Inv-slots : tie.InvT-slots
-Inv-slots n backward t₀ k₀ t k = k ≤ 32
+Inv-slots n backward under t₀ k₀ t k = k ≤ 32
 
 abbrev μ-slots : tie.MeasureT-slots
-μ-slots n backward t₀ k₀ t k = 32 - k
+μ-slots n backward under t₀ k₀ t k = 32 - k
 
 abbrev Inv-rules : tie.InvT-rules
-Inv-rules n backward t₀ k i₀ t i = i ≤ 255
+Inv-rules n backward under t₀ k i₀ t i = i ≤ 255
 
 abbrev μ-rules : tie.MeasureT-rules
-μ-rules n backward t₀ k i₀ t i = 255 - i
+μ-rules n backward under t₀ k i₀ t i = 255 - i
 
 empty-table-requires : tie.Need-empty-table-requires Inv-slots μ-slots Inv-rules μ-rules
 empty-table-requires c κs = search needs
@@ -47,11 +47,11 @@ slots-again c = search needs
 rules-holds : tie.Need-rules-holds Inv-slots μ-slots Inv-rules μ-rules
 rules-holds c = search needs
 
-add-link : tie.Need-add-link Inv-slots μ-slots Inv-rules μ-rules
-add-link c = search needs
+add-link-by : tie.Need-add-link-by Inv-slots μ-slots Inv-rules μ-rules
+add-link-by c = search needs
 
-link-requires : tie.Need-link-requires Inv-slots μ-slots Inv-rules μ-rules
-link-requires c κs = search needs
+link-by-requires : tie.Need-link-by-requires Inv-slots μ-slots Inv-rules μ-rules
+link-by-requires c κs = search needs
 
 mul-r : tie.Need-mul-r Inv-slots μ-slots Inv-rules μ-rules
 mul-r c = search needs
@@ -59,11 +59,11 @@ mul-r c = search needs
 element-set-from-r : tie.Need-element-set-from-r Inv-slots μ-slots Inv-rules μ-rules
 element-set-from-r c = search needs
 
-add-link-2 : tie.Need-add-link-2 Inv-slots μ-slots Inv-rules μ-rules
-add-link-2 c = search needs
+add-link-by-2 : tie.Need-add-link-by-2 Inv-slots μ-slots Inv-rules μ-rules
+add-link-by-2 c = search needs
 
-link-requires-2 : tie.Need-link-requires-2 Inv-slots μ-slots Inv-rules μ-rules
-link-requires-2 c κs = search needs
+link-by-requires-2 : tie.Need-link-by-requires-2 Inv-slots μ-slots Inv-rules μ-rules
+link-by-requires-2 c κs = search needs
 
 mul-r-2 : tie.Need-mul-r-2 Inv-slots μ-slots Inv-rules μ-rules
 mul-r-2 c = search needs
@@ -101,12 +101,12 @@ chain-spec =
     slots-less
     slots-again
     rules-holds
-    add-link
-    link-requires
+    add-link-by
+    link-by-requires
     mul-r
     element-set-from-r
-    add-link-2
-    link-requires-2
+    add-link-by-2
+    link-by-requires-2
     mul-r-2
     element-set-from-r-2
     add-i

@@ -6,10 +6,10 @@ use Rattle.strata_cases.proofs.write_chains.Statement.{statement}
 use Rattle.strata_cases.proofs.write_chains.Tie as tie
 
 abbrev Inv-loop : tie.InvT-loop
-Inv-loop n₀ t2 t3 n = n ≤ 255
+Inv-loop n₀ t2 t3 t4 t5 n = n ≤ 255
 
 abbrev μ-loop : tie.MeasureT-loop
-μ-loop n₀ t2 t3 n = 255 - n
+μ-loop n₀ t2 t3 t4 t5 n = 255 - n
 
 loop-holds : tie.Need-loop-holds Inv-loop μ-loop
 loop-holds c = search needs
@@ -17,35 +17,29 @@ loop-holds c = search needs
 add-n : tie.Need-add-n Inv-loop μ-loop
 add-n c = search needs
 
-slice-aggregate-write-all : tie.Need-slice-aggregate-write-all Inv-loop μ-loop
-slice-aggregate-write-all c = search needs
+slice-aggregate-write-named : tie.Need-slice-aggregate-write-named Inv-loop μ-loop
+slice-aggregate-write-named c = search needs
 
-write-all-requires : tie.Need-write-all-requires Inv-loop μ-loop
-write-all-requires c κs = search needs
+write-named-requires : tie.Need-write-named-requires Inv-loop μ-loop
+write-named-requires c κs = search needs
 
-write-number-requires : tie.Need-write-number-requires Inv-loop μ-loop
-write-number-requires c κs = search needs
+slice-aggregate-write-named-2 : tie.Need-slice-aggregate-write-named-2 Inv-loop μ-loop
+slice-aggregate-write-named-2 c = search needs
 
-chain-requires : tie.Need-chain-requires Inv-loop μ-loop
-chain-requires c κs = search needs
+write-named-requires-2 : tie.Need-write-named-requires-2 Inv-loop μ-loop
+write-named-requires-2 c κs = search needs
 
-write-chain-requires : tie.Need-write-chain-requires Inv-loop μ-loop
-write-chain-requires c κs = search needs
+slice-aggregate-write-named-3 : tie.Need-slice-aggregate-write-named-3 Inv-loop μ-loop
+slice-aggregate-write-named-3 c = search needs
 
-slice-aggregate-write-all-2 : tie.Need-slice-aggregate-write-all-2 Inv-loop μ-loop
-slice-aggregate-write-all-2 c = search needs
+write-named-requires-3 : tie.Need-write-named-requires-3 Inv-loop μ-loop
+write-named-requires-3 c κs = search needs
 
-write-all-requires-2 : tie.Need-write-all-requires-2 Inv-loop μ-loop
-write-all-requires-2 c κs = search needs
+slice-aggregate-write-named-4 : tie.Need-slice-aggregate-write-named-4 Inv-loop μ-loop
+slice-aggregate-write-named-4 c = search needs
 
-write-number-requires-2 : tie.Need-write-number-requires-2 Inv-loop μ-loop
-write-number-requires-2 c κs = search needs
-
-chain-requires-2 : tie.Need-chain-requires-2 Inv-loop μ-loop
-chain-requires-2 c κs = search needs
-
-write-chain-requires-2 : tie.Need-write-chain-requires-2 Inv-loop μ-loop
-write-chain-requires-2 c κs = search needs
+write-named-requires-4 : tie.Need-write-named-requires-4 Inv-loop μ-loop
+write-named-requires-4 c κs = search needs
 
 loop-less : tie.Need-loop-less Inv-loop μ-loop
 loop-less c = search needs
@@ -64,16 +58,14 @@ write-chains-spec =
     μ-loop
     loop-holds
     add-n
-    slice-aggregate-write-all
-    write-all-requires
-    write-number-requires
-    chain-requires
-    write-chain-requires
-    slice-aggregate-write-all-2
-    write-all-requires-2
-    write-number-requires-2
-    chain-requires-2
-    write-chain-requires-2
+    slice-aggregate-write-named
+    write-named-requires
+    slice-aggregate-write-named-2
+    write-named-requires-2
+    slice-aggregate-write-named-3
+    write-named-requires-3
+    slice-aggregate-write-named-4
+    write-named-requires-4
     loop-less
     loop-again
     returns)
