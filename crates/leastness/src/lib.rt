@@ -1,4 +1,4 @@
-// The test of the strata that a table carries: a part of 31. They are the least exactly where each is as high as it is asked and justified:
+// The steps of the test that a table carries the least strata, a part of 31. Strata are the least exactly where each is as high as it is asked and justified:
 // it is the first, or one more than that of a rule whose pair it tests under NOT, or level with that of a justified rule whose pair it needs.
 // In time that grows with the rules and their literals: a pair is flagged once, and a place where a pair is needed is looked at once.
 ghost use mathlib.Core.Path.{_≡_};
@@ -6,20 +6,17 @@ ghost use Prim.Native.Nat.{_*_, _<_};
 ghost use Rattle.model.specs.Strata.{needed};
 ghost use Rattle.table.specs.Limits.{rule-limit, pair-places};
 ghost use Rattle.table.specs.Link.{rule-of, assignments-of};
-ghost use Rattle.table.specs.Fits.{RuleFits, TableFits};
-ghost use Rattle.leastness.specs.CarriesLeast.{carries-least};
+ghost use Rattle.table.specs.Fits.{RuleFits};
 ghost use Rattle.leastness.specs.Chains.{needs-places, head-at, next-at, heads-with, nexts-with};
 ghost use Rattle.leastness.specs.Flagging.{flagging, Room, flag-all};
 use table::PAIRS;
-use table::RULES;
 use table::Rule;
-use table::Table;
 
 // The places where a rule can need a pair: its trigger and eight literals.
-const EACH: usize = 9;
+pub const EACH: usize = 9;
 
 // The places of all rules.
-const NEEDS: usize = 2295;
+pub const NEEDS: usize = 2295;
 
 // Chains the place o to the pair at k, if that has the number s.
 fn chain(
@@ -42,7 +39,7 @@ fn chain(
 }
 
 // Chains the places of rule i, from 0, to the pairs of number s that it needs.
-fn chain_needed(
+pub fn chain_needed(
     r: Rule,
     i: usize,
     s: usize,
@@ -77,7 +74,7 @@ fn chain_needed(
 }
 
 // Flags the pairs of number s that a rule assigns, and puts those that were not flagged behind the first `top` of the queue; how many stand there then.
-fn flag_assigned(
+pub fn flag_assigned(
     r: Rule,
     s: usize,
     high: &[usize; PAIRS],
@@ -108,76 +105,4 @@ fn flag_assigned(
         n += 1;
     }
     n
-}
-
-// Whether a table carries the least strata.
-pub fn is_least(t: Table) -> bool
-    requires { ⌜ TableFits t ⌝ }
-    ensures { λ b. ⌜ b ≡ carries-least t ⌝ }
-{
-    let n = t.count;
-    let mut high: [usize; PAIRS] = [0; PAIRS];
-    let mut i: usize = 0;
-    'gather: while i < n {
-        let r = t.rules[i];
-        let x = r.stratum;
-        let s = table::wide(x);
-        strata::least::raise(r, s, &mut high);
-        i += 1;
-    }
-    let mut held: [bool; RULES] = [false; RULES];
-    let mut flags: [bool; PAIRS] = [false; PAIRS];
-    let mut queue: [usize; PAIRS] = [0; PAIRS];
-    let mut top: usize = 0;
-    let mut heads: [usize; PAIRS] = [0; PAIRS];
-    let mut nexts: [usize; NEEDS] = [0; NEEDS];
-    let mut k: usize = 0;
-    'ask: while k < n {
-        let r = t.rules[k];
-        let x = r.stratum;
-        let s = table::wide(x);
-        let h = strata::least::asked(r, &high);
-        if s < h {
-            return false;
-        }
-        let e = k;
-        k += 1;
-        if s <= 1 {
-            held[e] = true;
-            continue 'ask;
-        }
-        if strata::least::one_below(r, s, &high) {
-            held[e] = true;
-            top = flag_assigned(r, s, &high, &mut flags, &mut queue, top);
-            continue 'ask;
-        }
-        chain_needed(r, e, s, &high, &mut heads, &mut nexts);
-    }
-    let mut at: usize = 0;
-    'work: while at < top {
-        let p = queue[at];
-        at += 1;
-        let mut x = heads[p];
-        'chain: while 0 < x {
-            let o = x - 1;
-            x = nexts[o];
-            let m = o / EACH;
-            if held[m] {
-                continue 'chain;
-            }
-            held[m] = true;
-            let r = t.rules[m];
-            let y = r.stratum;
-            let s = table::wide(y);
-            top = flag_assigned(r, s, &high, &mut flags, &mut queue, top);
-        }
-    }
-    let mut j: usize = 0;
-    'all: while j < n {
-        if !held[j] {
-            return false;
-        }
-        j += 1;
-    }
-    true
 }
