@@ -34,7 +34,7 @@ use Rattle.table.proofs.Link.{rule-at-is}
 use Rattle.table.proofs.Flat.{same-place, placed-inside}
 use Rattle.table.proofs.Fits.{assigned-placed, tested-placed, count-of, number, fits-at}
 use Rattle.strata.specs.declared.least.Found.{Found}
-use Rattle.strata.specs.Heights.{asked-at, Small, raise-all, least-numbers, found}
+use Rattle.strata.specs.Heights.{asked-at, Small, raise-all, least-numbers, circled, found}
 use Rattle.strata.proofs.Heights.{highest-ge, highest-lt, raise-ge, raise-hit, raise-below, raise-length}
 
 -- The sum of a list.
@@ -228,21 +228,19 @@ module _ (t : Table) (fits : TableFits t) (sh : Shaped t) where
       last n i = omega (arith, i .last, count-of t fits sh)
 
   -- They are the least, since no strata are lower.
-  pub found-least : (ns hs : List ℕ) → Rising t ns hs → Quiet t (t .count) ns hs → _≡_ {A = Found} (record { circled = false; numbers = ns }) (found t)
+  pub found-least : (ns hs : List ℕ) → Rising t ns hs → Quiet t (t .count) ns hs → _≡_ {A = Found} (record { circle = 0; numbers = ns }) (found t)
   unfolding found least-numbers number-of
   found-least ns hs g q =
       rw (eq-eqb (circle-of weak (rules-of t)) 0 (no-circle weak (rules-of t) (number-of ns) (rest-strata ns hs g q)))
-      (ap (λ (xs : List ℕ). record { circled = false; numbers = xs }) (is-tabulate (λ i. cond (ltb i (t .count)) (strata-of weak (rules-of t) (suc i)) 0) rule-limit 0 ns (g .numbers-length) (λ i h. by-count i (le-or-lt (t .count) i))))
+      (ap (λ (xs : List ℕ). record { circle = 0; numbers = xs }) (is-tabulate (λ i. cond (ltb i (t .count)) (strata-of weak (rules-of t) (suc i)) 0) rule-limit 0 ns (g .numbers-length) (λ i h. by-count i (le-or-lt (t .count) i))))
     where
       by-count : (i : ℕ) → (t .count ≤ i) ⊎ (i < t .count) → getD ns i 0 ≡ cond (ltb i (t .count)) (strata-of weak (rules-of t) (suc i)) 0
       by-count i (inl le) = rw (le-ltb i (t .count) le) (g .beyond i le)
       by-count i (inr lt) = rw (lt-ltb i (t .count) lt) (least-e weak (rules-of t) (number-of ns) (record { strata = rest-strata ns hs g q; least = λ u s n j. g .below u s n j }) (suc i) (number t fits sh i lt))
 
   -- A number above the number of rules is no least stratum, so there is a circle.
-  pub found-circle : (i s : ℕ) (ns hs : List ℕ) → Rising t ns hs → i < t .count → s ≡ asked-at hs (rule-of (getD (t .rules) i no-rule)) → t .count < s
-      → _≡_ {A = Found} (record { circled = true; numbers = replicate rule-limit 0 }) (found t)
-  unfolding found
-  found-circle i s ns hs g l e top = rw (ne-eqb (circle-of weak (rules-of t)) 0 (λ z.
+  pub above-circled : (i s : ℕ) (ns hs : List ℕ) → Rising t ns hs → i < t .count → s ≡ asked-at hs (rule-of (getD (t .rules) i no-rule)) → t .count < s → circle-of weak (rules-of t) ≡ 0 → ⊥
+  above-circled i s ns hs g l e top z =
       let L = least-strata weak (rules-of t) z in
       omega (
         arith,
@@ -250,7 +248,12 @@ module _ (t : Table) (fits : TableFits t) (sh : Shaped t) where
         count-of t fits sh,
         least-top weak (rules-of t) z (suc i) (number t fits sh i l),
         rw (rule-at-is t i l) at (asked-top ns hs g _ L (suc i) (number t fits sh i l)),
-      )))
+      )
+
+-- Where there is a circle, its lowest rule is found.
+pub found-circle : (t : Table) (k : ℕ) → k ≡ circle-of weak (rules-of t) → (circle-of weak (rules-of t) ≡ 0 → ⊥) → circled k ≡ found t
+unfolding found
+found-circle t k e n = rw (ne-eqb (circle-of weak (rules-of t)) 0 n, e)
 
 -- The measure of the passes: 255 numbers of at most 255 can rise 65,025 times in all; a pass that moves something raises the sum, and one that moves nothing is the last.
 unfoldable pub passes-left : List ℕ → Bool → ℕ

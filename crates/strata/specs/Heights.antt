@@ -1,5 +1,5 @@
 -- Numbers at pairs, in an array indexed by pair.
-use mathlib.Core.Bool.{Bool, true, false, cond}
+use mathlib.Core.Bool.{Bool, false, cond}
 use mathlib.Core.List.{List, [], _∷_}
 use Prim.Native.Nat.{ℕ, suc, _+_, _<_, max}
 use lib.Dec.{eqb, ltb}
@@ -43,9 +43,10 @@ raise-all (p ∷ ps) s hs = raise-all ps s (set hs (place-of p) (max (getD hs (p
 unfoldable pub least-numbers : Table → List ℕ
 least-numbers t = tabulate (λ i. cond (ltb i (t .count)) (strata-of weak (rules-of t) (suc i)) 0) rule-limit
 
--- What the passes find: the least strata, or that there is a circle.
+-- What is found where k is the lowest rule on a circle through a NOT: no numbers.
+abbrev pub circled : ℕ → Found
+circled k = record { circle = k; numbers = replicate rule-limit 0 }
+
+-- What is found: the least strata, or the lowest rule on a circle.
 unfoldable pub found : Table → Found
-found t =
-    cond (eqb (circle-of weak (rules-of t)) 0)
-    (record { circled = false; numbers = least-numbers t })
-    (record { circled = true; numbers = replicate rule-limit 0 })
+found t = cond (eqb (circle-of weak (rules-of t)) 0) (record { circle = 0; numbers = least-numbers t }) (circled (circle-of weak (rules-of t)))

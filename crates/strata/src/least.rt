@@ -3,15 +3,15 @@ ghost use mathlib.Core.Path.{_≡_};
 ghost use Rattle.model.specs.Strata.{barred};
 ghost use Rattle.table.specs.Link.{rule-of, assignments-of};
 ghost use Rattle.table.specs.Fits.{RuleFits, TableFits};
-ghost use Rattle.strata.specs.Heights.{asked-at, one-below, Small, raise-all, found};
+ghost use Rattle.strata.specs.Heights.{asked-at, one-below, Small, raise-all, circled, found};
 use table::PAIRS;
 use table::RULES;
 use table::Rule;
 use table::Table;
 
-// The least strata, that of rule 1 first; or that a circle leaves none.
+// The least strata, that of rule 1 first, and circle 0; or the lowest rule on a circle through a NOT, and no numbers.
 pub struct Found {
-    pub circled: bool,
+    pub circle: usize,
     pub numbers: [usize; RULES],
 }
 
@@ -86,9 +86,22 @@ pub fn raise(r: Rule, s: usize, high: &mut [usize; PAIRS])
     }
 }
 
+// What is found where k is the lowest rule on a circle through a NOT.
+fn circled(k: usize) -> Found
+    ensures { λ r. ⌜ r ≡ circled k ⌝ }
+{
+    let none: [usize; RULES] = [0; RULES];
+    Found {
+        circle: k,
+        numbers: none,
+    }
+}
+
 // Passes over the rules: each raises a rule to the number that those which assign the pairs it tests ask, until nothing moves.
 // The passes end: a pass that moves something raises the sum of the numbers, no number passes the number of rules (the least strata never do, so that
 // one that would says that there is a circle), and a pass that moves nothing is the last.
+// A circle is also looked for after one pass more than there are rules: a stratum is one more than the most NOTs on a walk of dependence, and without a
+// circle through a NOT such a walk needs no rule twice, so that as many passes find all strata. A circle raises them by one each time round only.
 pub fn find(t: Table) -> Found
     requires { ⌜ TableFits t ⌝ }
     ensures { λ r. ⌜ r ≡ found t ⌝ }
@@ -96,19 +109,25 @@ pub fn find(t: Table) -> Found
     let n = t.count;
     let mut numbers: [usize; RULES] = [0; RULES];
     let mut high: [usize; PAIRS] = [0; PAIRS];
+    let mut left = n + 1;
     let mut moved = true;
     'passes: while moved {
+        if 0 < left {
+            left -= 1;
+        } else {
+            let k = circles::lowest(t);
+            if 0 < k {
+                return circled(k);
+            }
+        }
         moved = false;
         let mut i: usize = 0;
         'rules: while i < n {
             let r = t.rules[i];
             let s = asked(r, &high);
             if n < s {
-                let none: [usize; RULES] = [0; RULES];
-                return Found {
-                    circled: true,
-                    numbers: none,
-                };
+                let k = circles::lowest(t);
+                return circled(k);
             }
             if numbers[i] < s {
                 numbers[i] = s;
@@ -119,7 +138,7 @@ pub fn find(t: Table) -> Found
         }
     }
     Found {
-        circled: false,
+        circle: 0,
         numbers: numbers,
     }
 }

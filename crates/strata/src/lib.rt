@@ -25,9 +25,8 @@ pub fn layer(t: Table) -> Layering
     ensures { λ r. ⌜ r ≡ layering t ⌝ }
 {
     let found = least::find(t);
-    let circled = found.circled;
-    if circled {
-        let k = circles::lowest(t);
+    let k = found.circle;
+    if 0 < k {
         let none = table::empty_table();
         return Layering {
             outcome: Outcome::Circle(k as RuleNumber),
