@@ -5,9 +5,10 @@ use crate::raw::Tally;
 use crate::read::{self, Workspace};
 use crate::response::{self, Answer, Outputs};
 use crate::table::Table;
+use crate::test31::tested;
 use crate::Refusal;
 
-/// The three entry points that are measured, and the table between reading and response.
+/// The four entry points that are measured, and the table between reading and response.
 pub trait Engine {
     /// Reads a text into the engine's table, or gives a refusal 10 to 18 and leaves the table without slots or rules.
     fn read(&mut self, text: &[u8]) -> Result<(), Refusal>;
@@ -17,6 +18,9 @@ pub trait Engine {
 
     /// Prints a text in the house style: the print's length, or 10 to 18, 34, 33.
     fn print(&mut self, text: &[u8], out: &mut [u8]) -> Result<usize, Refusal>;
+
+    /// Whether a table is in order; 31 where it is not.
+    fn is_sound(&mut self, table: &Table) -> bool;
 
     /// The response: the tally after it, and the answer or 32, 31, 20 to 28, 30, 40.
     fn respond(
@@ -61,6 +65,10 @@ impl Engine for Native {
     fn print(&mut self, text: &[u8], out: &mut [u8]) -> Result<usize, Refusal> {
         self.read(text)?;
         self.printer.print(&self.table, &self.workspace.names, out)
+    }
+
+    fn is_sound(&mut self, table: &Table) -> bool {
+        tested(table).is_some()
     }
 
     fn respond(

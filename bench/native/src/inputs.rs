@@ -1,21 +1,10 @@
-//! The inputs of the benchmark: rule texts of growing size with a card and a slip, and texts at the edges.
+//! The inputs of the benchmark: rule texts of growing size, and texts at the edges.
 
-use crate::cards::{write_card, write_slip};
-use crate::raw::SLIP_BYTES;
+use crate::chains::chains;
+use crate::input::{card_bytes, filled, slip_bytes, Input};
 use crate::read::TEXT;
-use crate::table::SLOTS;
 
-/// A rule text with a card and a slip, and what it holds.
-pub struct Input {
-    pub name: String,
-    pub text: Vec<u8>,
-    pub card: Vec<u8>,
-    pub slip: Vec<u8>,
-    /// Whether it stands in the line of growing sizes.
-    pub grows: bool,
-}
-
-/// The measures of a generated text: levels are the strata it comes to, `longest` the bytes of its longest name.
+/// The measures of a generated text: `levels` are how many rules a change goes through, `longest` the bytes of its longest name.
 struct Shape {
     slots: usize,
     values: usize,
@@ -24,16 +13,18 @@ struct Shape {
     assignments: usize,
     levels: usize,
     longest: usize,
+    /// Whether rules wait for others under NOT too, so that there are as many strata as levels; if not, all rules are in stratum 1.
+    layered: bool,
 }
 
 /// Shapes from small to the limits.
 const SHAPES: [Shape; 6] = [
-    Shape { slots: 3, values: 2, rules: 2, literals: 1, assignments: 1, levels: 2, longest: 4 },
-    Shape { slots: 6, values: 3, rules: 8, literals: 2, assignments: 1, levels: 2, longest: 8 },
-    Shape { slots: 12, values: 4, rules: 32, literals: 3, assignments: 2, levels: 3, longest: 8 },
-    Shape { slots: 24, values: 8, rules: 96, literals: 4, assignments: 2, levels: 5, longest: 9 },
-    Shape { slots: 32, values: 15, rules: 192, literals: 6, assignments: 3, levels: 7, longest: 5 },
-    Shape { slots: 32, values: 15, rules: 255, literals: 8, assignments: 4, levels: 7, longest: 5 },
+    Shape { slots: 3, values: 2, rules: 2, literals: 1, assignments: 1, levels: 2, longest: 4, layered: false },
+    Shape { slots: 6, values: 3, rules: 8, literals: 2, assignments: 1, levels: 2, longest: 8, layered: false },
+    Shape { slots: 12, values: 4, rules: 32, literals: 3, assignments: 2, levels: 3, longest: 8, layered: false },
+    Shape { slots: 24, values: 8, rules: 96, literals: 4, assignments: 2, levels: 5, longest: 9, layered: false },
+    Shape { slots: 32, values: 15, rules: 192, literals: 6, assignments: 3, levels: 7, longest: 5, layered: false },
+    Shape { slots: 32, values: 15, rules: 255, literals: 8, assignments: 4, levels: 7, longest: 5, layered: false },
 ];
 
 /// A seeded generator of numbers.
@@ -68,13 +59,15 @@ fn names(rng: &mut Rng, count: usize, longest: usize) -> Vec<String> {
     names
 }
 
-/// What a text is made from: the names, the card, the one value that each slot may change to, the slots of each level.
+/// What a text is made from: the names, the card, and for each slot the value that it changes to, one that it never changes to but rules test under NOT, and the one that idle rules assign.
 struct Plan<'a> {
     shape: &'a Shape,
     slots: Vec<String>,
     values: Vec<Vec<String>>,
     card: Vec<usize>,
     next: Vec<usize>,
+    barred: Vec<usize>,
+    idle: Vec<usize>,
 }
 
 impl Plan<'_> {
@@ -96,7 +89,7 @@ impl Plan<'_> {
         match form % 4 {
             0 => self.pair(slot, "*=", self.next[slot]),
             1 => self.pair(any, "|=", self.card[any]),
-            2 => format!("NOT {}", self.pair(slot, "*=", self.card[slot])),
+            2 => format!("NOT {}", self.pair(slot, "*=", self.barred[slot])),
             _ => format!("NOT {}", self.pair(any, "|=", self.next[any])),
         }
     }
@@ -116,54 +109,23 @@ impl Plan<'_> {
         let first = rng.below(own.len());
         let count = self.shape.assignments.min(own.len());
         let assigned: Vec<usize> = (0..count).map(|at| own[(first + at) % own.len()]).collect();
-        let list: Vec<String> = assigned.iter().map(|slot| self.pair(*slot, ":=", self.next[*slot])).collect();
+        let values = if idle { &self.idle } else { &self.next };
+        let list: Vec<String> = assigned.iter().map(|slot| self.pair(*slot, ":=", values[*slot])).collect();
         let then = if count == 1 { list[0].clone() } else { format!("{{{}}}", list.join(", ")) };
         let when = self.pair(trigger, "*=", self.next[trigger]);
         format!("WHEN {when} IF {} THEN {then};", literals.join(" AND "))
     }
 }
 
-/// The text of lines, filled with white space between them up to a length.
-fn filled(lines: &[String], length: usize) -> Vec<u8> {
-    let used: usize = lines.iter().map(|line| line.len() + 1).sum();
-    let more = length.saturating_sub(used);
-    let mut text = Vec::new();
-    for (at, line) in lines.iter().enumerate() {
-        text.extend(line.as_bytes());
-        let spaces = more / lines.len() + usize::from(at < more % lines.len());
-        text.extend(std::iter::repeat_n(b' ', spaces));
-        text.push(b'\n');
-    }
-    text
-}
-
-/// A card's bytes, its values from 0 as the plan counts them.
-fn card_bytes(values: &[usize]) -> Vec<u8> {
-    let mut all = [0; SLOTS];
-    all.iter_mut().zip(values).for_each(|(to, from)| *to = *from as u8 + 1);
-    let mut bytes = vec![0; (6 + 4 * values.len()).div_ceil(8)];
-    write_card(&all, values.len(), &mut bytes);
-    bytes
-}
-
-/// A slip's bytes, its values from 0 as the plan counts them.
-fn slip_bytes(changes: &[(usize, usize)]) -> Vec<u8> {
-    let mut all = [0; SLOTS];
-    changes.iter().for_each(|(slot, value)| all[*slot] = 1 << (value + 1));
-    let mut bytes = vec![0; SLIP_BYTES];
-    let size = write_slip(&all, &mut bytes);
-    bytes.truncate(size);
-    bytes
-}
-
-/// The input of a shape; the largest is filled up to the longest text.
-fn generated(shape: &Shape, largest: bool) -> Input {
+/// The input of a shape, its text filled up to a length.
+fn generated(shape: &Shape, length: usize) -> Input {
     let mut rng = Rng(shape.rules as u64);
     let slots = names(&mut rng, shape.slots, shape.longest);
     let values = slots.iter().map(|_| names(&mut rng, shape.values, shape.longest)).collect();
     let card: Vec<usize> = (0..shape.slots).map(|_| rng.below(shape.values)).collect();
-    let next: Vec<usize> = card.iter().map(|value| (value + 1) % shape.values).collect();
-    let plan = Plan { shape, slots, values, card, next };
+    let after = |steps: usize| -> Vec<usize> { card.iter().map(|value| (value + steps) % shape.values).collect() };
+    let (next, [barred, idle]) = (after(1), (if shape.layered { [2, 2] } else { [0, 1] }).map(after));
+    let plan = Plan { shape, slots, values, card: after(0), next, barred, idle };
     let mut lines: Vec<String> = (0..shape.slots)
         .map(|slot| format!("SLOT {} {{{}}};", plan.slots[slot], plan.values[slot].join(", ")))
         .collect();
@@ -173,31 +135,15 @@ fn generated(shape: &Shape, largest: bool) -> Input {
         rules.swap(at, rng.below(at + 1));
     }
     lines.extend(rules);
-    let changes: Vec<(usize, usize)> = plan.slots_of(0, 1).iter().map(|slot| (*slot, plan.next[*slot])).collect();
+    let values: Vec<usize> = plan.card.iter().map(|value| value + 1).collect();
+    let changes: Vec<(usize, usize)> = plan.slots_of(0, 1).iter().map(|slot| (*slot, plan.next[*slot] + 1)).collect();
+    let strata = if shape.layered { format!(", {} strata", shape.levels) } else { String::new() };
     Input {
-        name: format!("{} slots, {} rules, {} in a condition", shape.slots, shape.rules, shape.literals),
-        text: filled(&lines, if largest { TEXT } else { 0 }),
-        card: card_bytes(&plan.card),
+        name: format!("{} slots, {} rules, {} in a condition{strata}", shape.slots, shape.rules, shape.literals),
+        text: filled(&lines, length),
+        card: card_bytes(&values),
         slip: slip_bytes(&changes),
-        grows: true,
-    }
-}
-
-/// 255 rules in one chain with the last link first, so that each rule is in a stratum of its own; closed to a circle or not.
-fn chain(closed: bool) -> Input {
-    let pair = |link: usize, mark: &str| format!("s{} {mark} v{}", link % 32, link / 32);
-    let values: Vec<String> = (0..8).map(|value| format!("v{value}")).collect();
-    let mut lines: Vec<String> = (0..32).map(|slot| format!("SLOT s{slot} {{{}}};", values.join(", "))).collect();
-    for rule in 0..255 {
-        let last = if closed && rule == 0 { 0 } else { 255 - rule };
-        lines.push(format!("WHEN {} IF TRUE THEN {};", pair(254 - rule, "*="), pair(last, ":=")));
-    }
-    Input {
-        name: (if closed { "255 rules in a circle (18)" } else { "255 rules in a chain, last first (40)" }).to_string(),
-        text: filled(&lines, 0),
-        card: card_bytes(&[7; 32]),
-        slip: slip_bytes(&[(0, 0)]),
-        grows: false,
+        grows: !shape.layered,
     }
 }
 
@@ -207,8 +153,13 @@ fn white() -> Input {
     Input { name, text: vec![b' '; TEXT], card: vec![0], slip: vec![0], grows: false }
 }
 
-/// All inputs, the growing ones first.
+/// All inputs, the growing ones first; the largest is filled up to the longest text, and so is the same in strata.
 pub fn inputs() -> Vec<Input> {
-    let growing = SHAPES.iter().enumerate().map(|(at, shape)| generated(shape, at + 1 == SHAPES.len()));
-    growing.chain([chain(false), chain(true), white()]).collect()
+    let (largest, smaller) = SHAPES.split_last().expect("there are shapes");
+    let mut inputs: Vec<Input> = smaller.iter().map(|shape| generated(shape, 0)).collect();
+    inputs.push(generated(largest, TEXT));
+    inputs.push(generated(&Shape { layered: true, ..*largest }, TEXT));
+    inputs.extend(chains());
+    inputs.push(white());
+    inputs
 }

@@ -1,9 +1,13 @@
 //! A native engine for RL, made for speed, and its measurement beside the proved library.
 
 pub mod cards;
+pub mod chains;
 pub mod draw;
 pub mod engine;
+pub mod firing;
+pub mod input;
 pub mod inputs;
+pub mod least;
 pub mod measure;
 pub mod names;
 pub mod print;

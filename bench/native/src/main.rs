@@ -2,8 +2,9 @@
 
 use native::draw::{svg, Line, Panel};
 use native::engine::{Engine, Native};
-use native::inputs::{inputs, Input};
-use native::measure::{response_times, result, text_times};
+use native::input::Input;
+use native::inputs::inputs;
+use native::measure::{result, table_times, text_times};
 use native::proved::Proved;
 use native::table::Table;
 use native::Refusal;
@@ -11,14 +12,17 @@ use native::Refusal;
 /// How often all inputs are measured, one after the other, so that a busy machine does not slow one of them only.
 const ROUNDS: usize = 8;
 
-/// What was measured on an input: its work, and the times of the proved library and of the native engine; a response only where the text is accepted.
+/// What was measured on an input: its work, and the times of the proved library and of the native engine; the test 31 and a response only where the text is accepted.
 struct Row {
     name: String,
     grows: bool,
     bytes: usize,
+    rules: usize,
+    strata: u8,
     pairs: usize,
     outcome: String,
     reading: [f64; 2],
+    soundness: Option<[f64; 2]>,
     response: Option<[f64; 2]>,
     print: String,
     printing: [f64; 2],
@@ -35,7 +39,7 @@ fn row(proved: &mut dyn Engine, native: &mut dyn Engine, input: &Input) -> Optio
     if theirs != ours {
         println!("DIFFERENT on {}", input.name);
         for (name, result) in [("proved", theirs), ("native", ours)] {
-            let numbers = (result.reading, result.tally, result.answer, result.printing);
+            let numbers = (result.reading, result.is_sound, result.tally, result.answer, result.printing);
             println!("{name}: {numbers:?} {:?}\n{}", result.outputs, String::from_utf8_lossy(&result.print));
         }
         return None;
@@ -43,14 +47,18 @@ fn row(proved: &mut dyn Engine, native: &mut dyn Engine, input: &Input) -> Optio
     let refused = |why: Refusal| format!("refused {} {}", why.number, why.second);
     let answered = ours.reading.and(ours.answer);
     let [reading, printing] = text_times([&mut *proved, &mut *native], input);
+    let times = ours.reading.is_ok().then(|| table_times([proved, native], input, &ours.table));
     Some(Row {
         name: input.name.clone(),
         grows: input.grows,
         bytes: input.text.len(),
+        rules: ours.table.count,
+        strata: ours.table.rules.iter().map(|rule| rule.stratum).max().unwrap_or(0),
         pairs: pairs(&ours.table),
         outcome: answered.map_or_else(refused, |answer| format!("{} fired", answer.fired)),
         reading,
-        response: ours.reading.is_ok().then(|| response_times([proved, native], input, &ours.table)),
+        soundness: times.map(|times| times[0]),
+        response: times.map(|times| times[1]),
         print: ours.printing.map_or_else(refused, |length| format!("{length} bytes")),
         printing,
     })
@@ -72,7 +80,20 @@ fn print_times(rows: &[Row]) {
     println!("|---|---|---|---|---|---|---|---|---|");
     for row in rows {
         let (reading, response) = (times(Some(row.reading)), times(row.response));
-        println!("| {:<37} | {:>6} | {:<12} | {reading} | {response} |", row.name, row.bytes, row.outcome);
+        println!("| {:<52} | {:>6} | {:<12} | {reading} | {response} |", row.name, row.bytes, row.outcome);
+    }
+}
+
+/// Prints the times of the test 31 by itself, and for the proved library as a part of the response that makes it.
+fn print_soundness(rows: &[Row]) {
+    println!("\nThe test 31 by itself; and that as a part of the response, for the proved library.\n");
+    println!("| input | rules | strata | 31, proved | 31, native | ratio | part of response |");
+    println!("|---|---|---|---|---|---|---|");
+    for row in rows {
+        if let (Some(soundness), Some(response)) = (row.soundness, row.response) {
+            let (times, part) = (times(Some(soundness)), soundness[0] / response[0]);
+            println!("| {:<52} | {:>3} | {:>3} | {times} | {part:>5.2} |", row.name, row.rules, row.strata);
+        }
     }
 }
 
@@ -86,7 +107,7 @@ fn print_printing(rows: &[Row]) {
         let [proved, native] = [0, 1].map(|engine| row.printing[engine] - row.reading[engine]);
         let (printing, part) = (times(Some(row.printing)), proved / row.reading[0]);
         let beyond = format!("{proved:>9.2} | {native:>9.2} | {part:>5.2}");
-        println!("| {:<37} | {:>6} | {:<12} | {printing} | {beyond} |", row.name, row.bytes, row.print);
+        println!("| {:<52} | {:>6} | {:<12} | {printing} | {beyond} |", row.name, row.bytes, row.print);
     }
 }
 
@@ -139,8 +160,10 @@ fn measure_again(proved: &mut dyn Engine, native: &mut dyn Engine, input: &Input
     lower(&mut row.printing, printing);
     native.read(&input.text).ok();
     let table = Box::new(*native.table());
-    if let Some(times) = &mut row.response {
-        lower(times, response_times([proved, native], input, &table));
+    if let (Some(soundness), Some(response)) = (&mut row.soundness, &mut row.response) {
+        let [one, other] = table_times([proved, native], input, &table);
+        lower(soundness, one);
+        lower(response, other);
     }
 }
 
@@ -156,6 +179,7 @@ fn main() {
     let same = rows.iter().all(Option::is_some);
     let rows: Vec<Row> = rows.into_iter().flatten().collect();
     print_times(&rows);
+    print_soundness(&rows);
     print_printing(&rows);
     print_growth(&rows);
     if let Some(file) = std::env::args().nth(1) {

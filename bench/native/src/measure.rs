@@ -5,7 +5,7 @@ use std::hint::black_box;
 use std::time::{Duration, Instant};
 
 use crate::engine::Engine;
-use crate::inputs::Input;
+use crate::input::Input;
 use crate::raw::{Tally, CARD_BYTES, FIRED_BYTES, PRINT_BYTES, SLIP_BYTES};
 use crate::response::{Answer, Outputs};
 use crate::table::Table;
@@ -20,6 +20,8 @@ const REPETITIONS: usize = 20;
 pub struct Result {
     pub reading: std::result::Result<(), Refusal>,
     pub table: Box<Table>,
+    /// Whether the table is in order, and whether it is with every stratum one higher.
+    pub is_sound: [bool; 2],
     pub tally: Tally,
     pub answer: std::result::Result<Answer, Refusal>,
     pub outputs: [Vec<u8>; 3],
@@ -48,15 +50,23 @@ fn page() -> Vec<u8> {
     vec![0xA5; PRINT_BYTES]
 }
 
-/// The reading, the response and the print of an engine.
+/// A table with every stratum one higher.
+fn lifted(table: &Table) -> Box<Table> {
+    let mut lifted = Box::new(*table);
+    lifted.rules.iter_mut().for_each(|rule| rule.stratum = rule.stratum.wrapping_add(1));
+    lifted
+}
+
+/// The reading, the test 31, the response and the print of an engine.
 pub fn result(engine: &mut dyn Engine, input: &Input) -> Result {
     let reading = engine.read(&input.text);
     let table = Box::new(*engine.table());
+    let is_sound = [engine.is_sound(&table), engine.is_sound(&lifted(&table))];
     let mut outputs = rooms();
     let (tally, answer) = respond(engine, &table, input, &mut outputs);
     let mut print = page();
     let printing = engine.print(&input.text, &mut print);
-    Result { reading, table, tally, answer, outputs, printing, print }
+    Result { reading, table, is_sound, tally, answer, outputs, printing, print }
 }
 
 /// How many calls take about the time of a repetition.
@@ -101,11 +111,15 @@ pub fn text_times(engines: [&mut dyn Engine; 2], input: &Input) -> [[f64; 2]; 2]
     [[one, other], [one_printing, other_printing]]
 }
 
-/// The best times of a response by two engines to the same table, in microseconds.
-pub fn response_times(engines: [&mut dyn Engine; 2], input: &Input, table: &Table) -> [f64; 2] {
-    let [first, second] = engines;
+/// The best times of two engines with the same table in microseconds: of the test 31, and of a response, which makes it too.
+pub fn table_times(engines: [&mut dyn Engine; 2], input: &Input, table: &Table) -> [[f64; 2]; 2] {
+    let [first, second] = engines.map(RefCell::new);
     let (mut a, mut b) = (rooms(), rooms());
-    let mut one = || _ = black_box(respond(first, black_box(table), input, &mut a));
-    let mut other = || _ = black_box(respond(second, black_box(table), input, &mut b));
-    best([&mut one, &mut other])
+    let [one, other, one_response, other_response] = best([
+        &mut || _ = black_box(first.borrow_mut().is_sound(black_box(table))),
+        &mut || _ = black_box(second.borrow_mut().is_sound(black_box(table))),
+        &mut || _ = black_box(respond(*first.borrow_mut(), black_box(table), input, &mut a)),
+        &mut || _ = black_box(respond(*second.borrow_mut(), black_box(table), input, &mut b)),
+    ]);
+    [[one, other], [one_response, other_response]]
 }

@@ -39,6 +39,10 @@ impl Engine for Proved {
         given(printed.number, printed.second, printed.length)
     }
 
+    fn is_sound(&mut self, table: &Table) -> bool {
+        raw::is_sound(table)
+    }
+
     fn respond(
         &mut self,
         table: &Table,

@@ -1,8 +1,9 @@
-//! The response: the tests of its inputs, one pass over the rules by stratum, the answer.
+//! The response: the tests of its inputs, then the answer.
 
-use crate::cards::{bytes_for, unpack_card, unpack_slip, write_card, write_slip, Changes};
+use crate::cards::{bytes_for, unpack_card, unpack_slip, write_card, write_slip};
+use crate::firing::fire;
 use crate::raw::{Tally, SLIP_BYTES};
-use crate::table::{Rule, Table, RULES, SLOTS};
+use crate::table::{Table, SLOTS};
 use crate::test31::tested;
 use crate::{refusal, Refusal};
 
@@ -21,77 +22,6 @@ pub struct Outputs<'a> {
 pub struct Answer {
     pub length: usize,
     pub fired: usize,
-}
-
-/// What a card and changes make true: for each slot a bit for each value, `|=` in the first half and `*=` in the second.
-struct State {
-    holds: [u16; 2 * SLOTS],
-}
-
-impl State {
-    /// Whether a test of a slot and a value holds.
-    #[inline]
-    fn has(&self, becomes: bool, slot: u8, value: u8) -> bool {
-        let at = (becomes as usize * SLOTS + slot as usize) % (2 * SLOTS);
-        self.holds[at] >> (value & 15) & 1 == 1
-    }
-
-    /// Whether a rule is enabled; it is passed over at its first false literal.
-    #[inline]
-    fn enables(&self, rule: &Rule) -> bool {
-        let holds = |l: &crate::table::Literal| self.has(l.becomes, l.slot, l.value) != l.negated;
-        self.has(true, rule.slot, rule.value) && rule.literals().iter().all(holds)
-    }
-}
-
-/// The positions of rules by stratum.
-#[inline]
-fn by_stratum(rules: &[Rule]) -> [u8; RULES] {
-    let mut next = [0u8; 257];
-    for rule in rules {
-        next[rule.stratum as usize + 1] += 1;
-    }
-    let mut sum = 0;
-    for start in &mut next {
-        sum += *start;
-        *start = sum;
-    }
-    let mut order = [0; RULES];
-    for (at, rule) in rules.iter().enumerate() {
-        let next = &mut next[rule.stratum as usize];
-        order[*next as usize % RULES] = at as u8;
-        *next = next.wrapping_add(1);
-    }
-    order
-}
-
-/// A fired record: one bit for each rule, rule 1 highest in the first word.
-type Fired = [u64; 4];
-
-/// Fires the rules by stratum; rules of one stratum do not wait for each other, so one pass is enough.
-#[inline]
-fn fire(rules: &[Rule], values: &[u8; SLOTS], changes: &mut Changes) -> Fired {
-    let order = by_stratum(rules);
-    let mut state = State { holds: [0; 2 * SLOTS] };
-    for slot in 0..SLOTS {
-        state.holds[slot] = 1 << values[slot];
-        state.holds[SLOTS + slot] = changes[slot] & !state.holds[slot];
-    }
-    let mut fired: Fired = [0; 4];
-    for at in &order[..rules.len()] {
-        let at = *at as usize;
-        let rule = &rules[at];
-        if !state.enables(rule) {
-            continue;
-        }
-        fired[at / 64] |= 1 << (63 - at % 64);
-        for a in rule.assignments() {
-            let slot = a.slot as usize % SLOTS;
-            changes[slot] |= 1 << (a.value & 15);
-            state.holds[SLOTS + slot] = changes[slot] & !state.holds[slot];
-        }
-    }
-    fired
 }
 
 /// Refuses with 30 the first output that is too short.

@@ -1,78 +1,150 @@
-//! The least strata in one sweep over the dependences, and the lowest rule on a circle.
+//! The least strata in one search of the dependences, and the lowest rule on a circle through a NOT.
 
-use crate::table::{place, Rule, Table, LITERALS, PAIRS, RULES};
+use crate::table::{place, Rule, Table, ASSIGNMENTS, PAIRS, RULES};
 
-/// The dependences of a table's rules, kept from one reading to the next.
+/// The nodes of the search: the pairs, then the rules.
+const NODES: usize = PAIRS + RULES;
+
+/// The low of a node whose set is closed.
+const CLOSED: u16 = u16::MAX;
+
+/// The least number of a set with a NOT inside it.
+const CIRCLED: u16 = 1 << 15;
+
+/// The dependences of a table's rules, kept from one reading to the next: a rule waits for the pairs that it tests by `*=`, a pair for the rules that assign it.
+/// The search is Tarjan's: of the nodes that wait for each other it makes sets, and closes each after those that it waits for, so that its number is known then.
 pub struct Graph {
-    /// Where the rules that test a pair begin among `testers`.
-    starts: [u16; PAIRS + 1],
-    /// The rules that test each pair, pair after pair.
-    testers: [u8; RULES * (LITERALS + 1)],
-    /// How many rules that assign a pair have no number yet.
-    unassigned: [u8; PAIRS],
-    /// The highest number of the rules that assign a pair.
-    high: [u8; PAIRS],
-    /// How many tests of a rule wait for a number.
-    waiting: [u8; RULES],
-    /// Rules that wait for nothing, in the order they came to it.
-    ready: [u8; RULES],
+    /// Of each pair the first assignment of it, four to a rule, from 1; 0 is none.
+    heads: [u16; PAIRS],
+    /// Of each assignment the next of the same pair.
+    nexts: [u16; RULES * ASSIGNMENTS],
+    /// Of each node 0 before it is met; then when the earliest node known to be in its set was met; then CLOSED.
+    lows: [u16; NODES],
+    /// Of each node met the highest number that its set is known to need, and the set's number once that is closed.
+    numbers: [u16; NODES],
+    /// The nodes of open sets in the order they were met.
+    open: [u16; NODES],
+    /// How many nodes are in open sets.
+    top: usize,
+    /// How many nodes were met.
+    met: u16,
+    /// The lowest rule, from 0, of the closed sets with a NOT inside; RULES where there is none.
+    lowest: usize,
+}
+
+/// What is known of the set of a node while the node is visited.
+struct Visit {
+    node: usize,
+    met: u16,
+    low: u16,
+    high: u16,
 }
 
 impl Graph {
     /// No dependences.
     pub fn new() -> Graph {
         Graph {
-            starts: [0; PAIRS + 1],
-            testers: [0; RULES * (LITERALS + 1)],
-            unassigned: [0; PAIRS],
-            high: [0; PAIRS],
-            waiting: [0; RULES],
-            ready: [0; RULES],
+            heads: [0; PAIRS],
+            nexts: [0; RULES * ASSIGNMENTS],
+            lows: [0; NODES],
+            numbers: [0; NODES],
+            open: [0; NODES],
+            top: 0,
+            met: 0,
+            lowest: RULES,
         }
     }
 
-    /// Counts who assigns and who tests each pair, and lists the testers.
+    /// Lists who assigns each pair, and forgets the last search.
     fn build(&mut self, rules: &[Rule]) {
-        self.unassigned = [0; PAIRS];
-        self.high = [0; PAIRS];
-        self.starts = [0; PAIRS + 1];
-        for rule in rules {
-            rule.assignments().iter().for_each(|a| self.unassigned[place(a.slot, a.value)] += 1);
-            tested(rule, |pair| self.starts[pair + 1] += 1);
-        }
-        let mut sum = 0;
-        for start in &mut self.starts {
-            sum += *start;
-            *start = sum;
-        }
-        let mut next = self.starts;
+        self.heads = [0; PAIRS];
+        self.lows = [0; NODES];
+        (self.top, self.met, self.lowest) = (0, 0, RULES);
         for (at, rule) in rules.iter().enumerate() {
-            let mut waiting = 0;
-            tested(rule, |pair| {
-                self.testers[next[pair] as usize] = at as u8;
-                next[pair] += 1;
-                waiting += u8::from(self.unassigned[pair] > 0);
-            });
-            self.waiting[at] = waiting;
-        }
-    }
-
-    /// One rule fewer that assigns a pair is without a number; testers that wait for nothing more are put in line.
-    fn settle(&mut self, pair: usize, stratum: u8, line: &mut usize) {
-        self.high[pair] = self.high[pair].max(stratum);
-        self.unassigned[pair] -= 1;
-        if self.unassigned[pair] > 0 {
-            return;
-        }
-        for at in self.starts[pair]..self.starts[pair + 1] {
-            let tester = self.testers[at as usize];
-            let waiting = &mut self.waiting[tester as usize];
-            *waiting -= 1;
-            if *waiting == 0 {
-                self.ready[*line] = tester;
-                *line += 1;
+            for (k, a) in rule.assignments().iter().enumerate() {
+                let (head, link) = (&mut self.heads[place(a.slot, a.value)], at * ASSIGNMENTS + k);
+                self.nexts[link] = *head;
+                *head = link as u16 + 1;
             }
         }
+    }
+
+    /// Begins the visit of a node that was not met, whose set needs a number at least.
+    #[inline]
+    fn enter(&mut self, node: usize, least: u16) -> Visit {
+        self.met += 1;
+        self.lows[node] = self.met;
+        self.numbers[node] = least;
+        self.open[self.top] = node as u16;
+        self.top += 1;
+        Visit { node, met: self.met, low: self.met, high: least }
+    }
+
+    /// Takes in what is known of a node that the visited one waits for, plainly or under NOT.
+    #[inline]
+    fn take(&self, visit: &mut Visit, node: usize, negated: bool) {
+        let (low, number) = (self.lows[node], self.numbers[node]);
+        let needed = match (negated, low) {
+            (false, _) => number,
+            (true, CLOSED) => number + 1,
+            (true, _) => CIRCLED,
+        };
+        visit.low = visit.low.min(low);
+        visit.high = visit.high.max(needed);
+    }
+
+    /// Ends a visit: where no node met before belongs to the set it is closed, with the nodes met since.
+    #[inline]
+    fn leave(&mut self, visit: Visit) {
+        if visit.low < visit.met {
+            self.lows[visit.node] = visit.low;
+            self.numbers[visit.node] = visit.high;
+            return;
+        }
+        let mut node = NODES;
+        while node != visit.node {
+            self.top -= 1;
+            node = self.open[self.top] as usize;
+            self.lows[node] = CLOSED;
+            self.numbers[node] = visit.high % CIRCLED;
+            if visit.high >= CIRCLED && node >= PAIRS {
+                self.lowest = self.lowest.min(node - PAIRS);
+            }
+        }
+    }
+
+    /// Visits a pair that was not met, and the rules that assign it.
+    fn visit_pair(&mut self, rules: &[Rule], pair: usize) {
+        let mut visit = self.enter(pair, 0);
+        let mut link = self.heads[pair];
+        while link != 0 {
+            let at = (link as usize - 1) / ASSIGNMENTS;
+            link = self.nexts[link as usize - 1];
+            if self.lows[PAIRS + at] == 0 {
+                self.visit_rule(rules, at);
+            }
+            self.take(&mut visit, PAIRS + at, false);
+        }
+        self.leave(visit);
+    }
+
+    /// Visits a rule that was not met, and the pairs that it tests by `*=`; no visit is more than 511 deep in others, since each is of another node and rules and pairs take turns.
+    fn visit_rule(&mut self, rules: &[Rule], at: usize) {
+        let rule = &rules[at];
+        let mut visit = self.enter(PAIRS + at, 1);
+        let mut test = |pair: usize, negated: bool| {
+            if self.lows[pair] == 0 {
+                self.visit_pair(rules, pair);
+            }
+            self.take(&mut visit, pair, negated);
+        };
+        test(place(rule.slot, rule.value), false);
+        for literal in rule.literals() {
+            if literal.becomes {
+                test(place(literal.slot, literal.value), literal.negated);
+            }
+        }
+        self.leave(visit);
     }
 }
 
@@ -82,81 +154,18 @@ impl Default for Graph {
     }
 }
 
-/// Hands on each pair that a rule tests by `*=`.
-#[inline]
-fn tested(rule: &Rule, mut each: impl FnMut(usize)) {
-    each(place(rule.slot, rule.value));
-    for literal in rule.literals() {
-        if literal.becomes {
-            each(place(literal.slot, literal.value));
-        }
-    }
-}
-
-/// Writes the least strata into a table that was just read, or gives the lowest rule on a circle, from 1.
+/// Writes the least strata into a table that was just read, or gives the lowest rule on a circle through a NOT, from 1.
 pub fn layer(table: &mut Table, graph: &mut Graph) -> Result<(), usize> {
     let rules = &mut table.rules[..table.count];
     graph.build(rules);
-    let mut line = 0;
     for at in 0..rules.len() {
-        graph.ready[line] = at as u8;
-        line += usize::from(graph.waiting[at] == 0);
-    }
-    let mut done = 0;
-    while done < line {
-        let rule = &mut rules[graph.ready[done] as usize];
-        done += 1;
-        let mut high = 0;
-        tested(rule, |pair| high = high.max(graph.high[pair]));
-        rule.stratum = high + 1;
-        for a in rule.assignments() {
-            graph.settle(place(a.slot, a.value), high + 1, &mut line);
+        if graph.lows[PAIRS + at] == 0 {
+            graph.visit_rule(rules, at);
         }
     }
-    if done == rules.len() {
-        Ok(())
-    } else {
-        Err(lowest_on_circle(rules))
+    if graph.lowest < RULES {
+        return Err(graph.lowest + 1);
     }
-}
-
-/// A set of rules.
-type Rules = [u64; 4];
-
-/// The lowest rule, from 1, that depends on itself by way of others without a number; there is one.
-#[cold]
-fn lowest_on_circle(rules: &[Rule]) -> usize {
-    let mut assigners: [Rules; PAIRS] = [[0; 4]; PAIRS];
-    for (at, rule) in rules.iter().enumerate().filter(|(_, rule)| rule.stratum == 0) {
-        rule.assignments().iter().for_each(|a| assigners[place(a.slot, a.value)][at / 64] |= 1 << (at % 64));
-    }
-    let mut before: [Rules; RULES] = [[0; 4]; RULES];
-    for (at, rule) in rules.iter().enumerate().filter(|(_, rule)| rule.stratum == 0) {
-        tested(rule, |pair| join(&mut before[at], &assigners[pair]));
-    }
-    let circled = |at: &usize| reaches_itself(&before, *at);
-    (0..rules.len()).find(circled).map_or(0, |at| at + 1)
-}
-
-/// Adds a set to another.
-#[inline]
-fn join(set: &mut Rules, more: &Rules) {
-    set.iter_mut().zip(more).for_each(|(word, more)| *word |= more);
-}
-
-/// Whether a rule is reached from itself in one step or more.
-fn reaches_itself(before: &[Rules; RULES], rule: usize) -> bool {
-    let mut reached = before[rule];
-    let mut passed: Rules = [0; 4];
-    loop {
-        if reached[rule / 64] >> (rule % 64) & 1 == 1 {
-            return true;
-        }
-        let Some(word) = (0..4).find(|word| reached[*word] & !passed[*word] != 0) else {
-            return false;
-        };
-        let bit = (reached[word] & !passed[word]).trailing_zeros() as usize;
-        passed[word] |= 1 << bit;
-        join(&mut reached, &before[64 * word + bit]);
-    }
+    rules.iter_mut().zip(&graph.numbers[PAIRS..]).for_each(|(rule, number)| rule.stratum = *number as u8);
+    Ok(())
 }

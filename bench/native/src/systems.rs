@@ -30,7 +30,7 @@ impl Case<'_> {
         &self.table.rules[..self.table.count]
     }
 
-    /// For answer sets: a program without circles has one, and its `change` atoms are the changes.
+    /// For answer sets: a program without circles through a NOT has one, and its `change` atoms are the changes.
     pub fn clingo(&self) -> String {
         let pair = |(slot, value): (u8, u8)| self.pair('"', ",", slot, value);
         let mut out = String::from("#defined was/2. #defined slip/2.\n");

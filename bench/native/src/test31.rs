@@ -1,6 +1,7 @@
-//! The test 31 of an arbitrary table, without branches inside a rule.
+//! The test 31 of an arbitrary table.
 
-use crate::table::{place, Rule, Table, ASSIGNMENTS, LITERALS, PAIRS, RULES, SLOTS, VALUES};
+use crate::least::{are_least, raise};
+use crate::table::{Rule, Table, ASSIGNMENTS, LITERALS, PAIRS, RULES, SLOTS, VALUES};
 
 /// The last value of each slot that a table has, 0 for every other byte.
 pub type Lasts = [u8; 256];
@@ -27,7 +28,7 @@ fn lacks(lasts: &Lasts, slot: u8, value: u8) -> bool {
     value.wrapping_sub(1) >= lasts[slot as usize]
 }
 
-/// Whether a rule breaks a limit, names a pair that the table lacks, or assigns a slot twice.
+/// Whether a rule breaks a limit, names a pair that the table lacks, or assigns a slot twice; without branches for its literals.
 #[inline]
 fn is_wrong(lasts: &Lasts, rule: &Rule) -> bool {
     let mut wrong = rule.tested > LITERALS || rule.assigned > ASSIGNMENTS || lacks(lasts, rule.slot, rule.value);
@@ -44,7 +45,6 @@ fn is_wrong(lasts: &Lasts, rule: &Rule) -> bool {
 }
 
 /// The last values of a table's slots, or None where the table is refused with 31.
-/// Strata are least where each is one more than the highest of the rules that assign a pair the rule tests.
 pub fn tested(table: &Table) -> Option<Lasts> {
     let lasts = lasts(table)?;
     let rules = &table.rules[..table.count];
@@ -53,18 +53,7 @@ pub fn tested(table: &Table) -> Option<Lasts> {
         if is_wrong(&lasts, rule) {
             return None;
         }
-        for a in rule.assignments() {
-            let high: &mut u8 = &mut high[place(a.slot, a.value)];
-            *high = (*high).max(rule.stratum);
-        }
+        raise(&mut high, rule);
     }
-    let least = |rule: &Rule| {
-        let mut highest = high[place(rule.slot, rule.value)];
-        for literal in rule.literals() {
-            let mask = (literal.becomes as u8).wrapping_neg();
-            highest = highest.max(high[place(literal.slot, literal.value)] & mask);
-        }
-        rule.stratum.wrapping_sub(1) == highest && rule.stratum != 0
-    };
-    rules.iter().all(least).then_some(lasts)
+    are_least(rules, &high).then_some(lasts)
 }
