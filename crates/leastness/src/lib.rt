@@ -24,8 +24,8 @@ fn chain(
     o: usize,
     s: usize,
     high: &[usize; PAIRS],
-    heads: &mut [usize; PAIRS],
-    nexts: &mut [usize; NEEDS],
+    heads: &mut [u16; PAIRS],
+    nexts: &mut [u16; NEEDS],
 )
     requires { ⌜ (k < pair-places) × (o < needs-places) ⌝ }
     ensures { λ _. ⌜ (now (heads .exit) ≡ head-at (now (high .entry)) s k o (now (heads .entry))) × (now (nexts .exit) ≡ next-at (now (high .entry)) s k o (now (heads .entry)) (now (nexts .entry))) ⌝ }
@@ -34,7 +34,7 @@ fn chain(
     if h == s {
         let x = heads[k];
         nexts[o] = x;
-        heads[k] = o + 1;
+        heads[k] = (o + 1) as u16;
     }
 }
 
@@ -44,8 +44,8 @@ pub fn chain_needed(
     i: usize,
     s: usize,
     high: &[usize; PAIRS],
-    heads: &mut [usize; PAIRS],
-    nexts: &mut [usize; NEEDS],
+    heads: &mut [u16; PAIRS],
+    nexts: &mut [u16; NEEDS],
 )
     requires { ⌜ RuleFits r × (i < rule-limit) ⌝ }
     ensures { λ _. ⌜ (now (heads .exit) ≡ heads-with (now (high .entry)) s (needed (rule-of r)) (i * 9) (now (heads .entry)))

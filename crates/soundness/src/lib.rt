@@ -69,8 +69,8 @@ pub fn is_sound(t: Table) -> bool
     let mut flags: [bool; PAIRS] = [false; PAIRS];
     let mut queue: [usize; PAIRS] = [0; PAIRS];
     let mut top: usize = 0;
-    let mut heads: [usize; PAIRS] = [0; PAIRS];
-    let mut nexts: [usize; NEEDS] = [0; NEEDS];
+    let mut heads: [u16; PAIRS] = [0; PAIRS];
+    let mut nexts: [u16; NEEDS] = [0; NEEDS];
     let mut k: usize = 0;
     'ask: while k < n {
         let r = t.rules[k];
@@ -99,7 +99,7 @@ pub fn is_sound(t: Table) -> bool
         at += 1;
         let mut x = heads[p];
         'chain: while 0 < x {
-            let o = x - 1;
+            let o = (x - 1) as usize;
             x = nexts[o];
             let m = o / EACH;
             if held[m] {

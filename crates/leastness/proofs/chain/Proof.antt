@@ -27,6 +27,9 @@ element-write-nexts c = search needs
 add-heads : tie.Need-add-heads
 add-heads c = search needs
 
+cast-heads : tie.Need-cast-heads
+cast-heads c = search needs
+
 mul-heads : tie.Need-mul-heads
 mul-heads c = search needs
 
@@ -50,6 +53,7 @@ chain-spec =
     mul-nexts
     element-write-nexts
     add-heads
+    cast-heads
     mul-heads
     element-write-heads
     returns
