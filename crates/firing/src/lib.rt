@@ -14,7 +14,7 @@ pub struct Firing {
     pub fired: [bool; RULES],
 }
 
-// Fires the rules stratum by stratum, in passes over the rules of a stratum until one fires nothing; so strata along which plain tests may stay level would do.
+// Fires the rules stratum by stratum, in passes over the rules of a stratum until one fires nothing: a plain test may wait for another rule of its own stratum.
 // A rule is passed over at its first false literal. The passes end: each fires a rule, and none fires twice, or is the last of its stratum.
 pub fn fire(t: Table, card: &[u8; SLOTS], slip: [bool; PAIRS]) -> Firing
     requires { ⌜ Fireable t ⌝ }

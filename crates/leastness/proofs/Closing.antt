@@ -28,8 +28,8 @@ use Rattle.table.specs.Flat.{place-of}
 use Rattle.table.specs.Fits.{RuleFits, TableFits}
 use Rattle.table.proofs.Link.{rule-at-is, stratum-at-is}
 use Rattle.table.proofs.Fits.{number}
-use Rattle.strata.specs.Heights.{one-below}
-use Rattle.strata.proofs.Heights.{below-e}
+use Rattle.leastness.specs.OneBelow.{one-below}
+use Rattle.leastness.proofs.OneBelow.{below-e}
 use Rattle.leastness.specs.Chains.{needs-places, heads-with, nexts-with}
 use Rattle.leastness.specs.Flagging.{Flagging, flagging, flag-all}
 use Rattle.leastness.proofs.Flagging.{Queued, FlaggedAll, flagged-all}

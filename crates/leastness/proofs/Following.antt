@@ -27,7 +27,8 @@ use Rattle.table.specs.Fits.{TableFits}
 use Rattle.table.proofs.Flat.{same-place}
 use Rattle.table.proofs.Fits.{count-of, number}
 use Rattle.strata.specs.Heights.{asked-at}
-use Rattle.strata.proofs.Heights.{highest-ge, below-i}
+use Rattle.strata.proofs.Heights.{highest-ge}
+use Rattle.leastness.proofs.OneBelow.{below-i}
 use Rattle.leastness.specs.Chains.{needs-places}
 use Rattle.leastness.specs.Flagging.{Flagging, flagging, flag-all}
 use Rattle.leastness.proofs.Flagging.{FlaggedAll}

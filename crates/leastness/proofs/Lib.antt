@@ -1,4 +1,5 @@
 pub mod Carried
+pub mod OneBelow
 pub mod Chains
 pub mod Flagging
 pub mod Closing

@@ -1,3 +1,4 @@
 pub mod CarriesLeast
+pub mod OneBelow
 pub mod Chains
 pub mod Flagging

@@ -1,12 +1,14 @@
-// The steps of the test that a table carries the least strata, a part of 31. Strata are the least exactly where each is as high as it is asked and justified:
+// The steps of the test that a table carries the least strata, a part of 31. Strata are the least exactly where each is at least as high as it is asked, and justified:
 // it is the first, or one more than that of a rule whose pair it tests under NOT, or level with that of a justified rule whose pair it needs.
 // In time that grows with the rules and their literals: a pair is flagged once, and a place where a pair is needed is looked at once.
 ghost use mathlib.Core.Path.{_≡_};
 ghost use Prim.Native.Nat.{_*_, _<_};
-ghost use Rattle.model.specs.Strata.{needed};
+ghost use Rattle.model.specs.Strata.{needed, barred};
 ghost use Rattle.table.specs.Limits.{rule-limit, pair-places};
 ghost use Rattle.table.specs.Link.{rule-of, assignments-of};
 ghost use Rattle.table.specs.Fits.{RuleFits};
+ghost use Rattle.strata.specs.Heights.{Small};
+ghost use Rattle.leastness.specs.OneBelow.{one-below};
 ghost use Rattle.leastness.specs.Chains.{needs-places, head-at, next-at, heads-with, nexts-with};
 ghost use Rattle.leastness.specs.Flagging.{flagging, Room, flag-all};
 use table::PAIRS;
@@ -17,6 +19,30 @@ pub const EACH: usize = 9;
 
 // The places of all rules.
 pub const NEEDS: usize = 2295;
+
+// Whether a pair that a rule tests under NOT has a number one below s.
+pub fn one_below(r: Rule, s: usize, high: &[usize; PAIRS]) -> bool
+    requires { ⌜ RuleFits r × Small (now high) ⌝ }
+    ensures { λ b. ⌜ b ≡ one-below (now (high .entry)) s (barred (rule-of r)) ⌝ }
+{
+    let m = r.tested;
+    let mut j: usize = 0;
+    'literals: while j < m {
+        let l = r.literals[j];
+        j += 1;
+        if !table::is_under_not(l) {
+            continue 'literals;
+        }
+        let a = l.slot;
+        let v = l.value;
+        let k = table::place(a, v);
+        let h = high[k];
+        if h + 1 == s {
+            return true;
+        }
+    }
+    false
+}
 
 // Chains the place o to the pair at k, if that has the number s.
 fn chain(

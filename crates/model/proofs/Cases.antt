@@ -1,9 +1,14 @@
 -- The lettered cases A to H of document 01, computed from the definitions; of cases C and D what document 02, section 2, says.
 -- Assumes nothing.
+use Prim.Native.Nat.{zero, suc}
+use native.Mathlib.Omega.{arith}
 use mathlib.Core.Path.{_≡_, refl}
+use mathlib.Core.Bool.{true}
 use mathlib.Core.List.{[], _∷_}
+use mathlib.Core.Logic.{inl, inr}
 use Rattle.model.specs.Strata.{weak}
 use Rattle.model.specs.Circles.{circle-of}
+use Rattle.model.specs.Causes.{FromInside, NoOutsideCause}
 use Rattle.model.specs.Response.{response}
 use Rattle.model.specs.Result.{pair}
 use Rattle.model.proofs.CaseRules.{computes, x, y, z, v0, v1, rule-a, rule-b, rule-c, rule-d, rule-e, rule-h, all-0, no-values, strata-list, answer-of, answer}
@@ -45,6 +50,21 @@ strata-D = refl
 pub idle-D : response weak (rule-a ∷ rule-c ∷ []) all-0 (pair y v1 ∷ []) ≡ []
 unfolding computes
 idle-D = refl
+
+-- Neither has an outside cause: x to 1 comes of the second alone, z to 1 of the first alone, and the slip has neither.
+pub uncaused-D : NoOutsideCause (rule-a ∷ rule-c ∷ []) all-0 (pair y v1 ∷ []) (λ n. true)
+unfolding computes FromInside NoOutsideCause
+uncaused-D zero i t = absurd (omega (arith, i .first))
+uncaused-D (suc zero) i t = (pair x v1, tt, inr (λ h. h, λ m j h. tt))
+uncaused-D (suc (suc zero)) i t = (pair z v1, tt, inr (λ h. h, λ m j h. tt))
+uncaused-D (suc (suc (suc n))) i t = absurd (omega (arith, i .last))
+
+-- Nor has the first on a card that has x to 1 already, whatever a slip repeats.
+pub uncaused-had : NoOutsideCause (rule-a ∷ []) (v1 ∷ v0 ∷ v0 ∷ []) (pair x v1 ∷ []) (λ n. true)
+unfolding computes FromInside NoOutsideCause
+uncaused-had zero i t = absurd (omega (arith, i .first))
+uncaused-had (suc zero) i t = (pair x v1, tt, inl tt)
+uncaused-had (suc (suc n)) i t = absurd (omega (arith, i .last))
 
 -- x to 1 fires the first, which wakes the second.
 pub woken-D : answer weak (rule-a ∷ rule-c ∷ []) all-0 (pair x v1 ∷ [])

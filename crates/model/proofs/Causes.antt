@@ -8,25 +8,28 @@ use mathlib.Core.Logic.{⊎-elim}
 use lib.Dec.{T}
 use lib.ListN.{length}
 use Rattle.laws.specs.Numbers.{Numbered}
-use Rattle.model.specs.Rules.{Pair, Rule}
+use Rattle.laws.proofs.Truth.{and-l, and-r, not-e}
+use Rattle.model.specs.Rules.{Pair, Rule, was, became}
 use Rattle.model.specs.Orders.{rule-at, names, changes, can-fire, firing-order}
-use Rattle.model.specs.Causes.{NoOutsideCause}
+use Rattle.model.specs.Causes.{FromInside, NoOutsideCause}
 use Rattle.model.proofs.Changes.{names-e, names-none, cause}
-use Rattle.model.proofs.Enabled.{needed-in}
+use Rattle.model.proofs.Enabled.{needed-became}
 use Rattle.model.proofs.Orders.{Ready, fire-first, fire-rest}
 
-module _ (rs : List Rule) (S : List ℕ) (I : List Pair) (X : ℕ → Bool) (closed : NoOutsideCause rs I X) where
+module _ (rs : List Rule) (S : List ℕ) (I : List Pair) (X : ℕ → Bool) (closed : NoOutsideCause rs S I X) where
   -- None of them has fired so far.
   abbrev Idle : List ℕ → Type 0
   Idle done = (n : ℕ) → T (names done n) → Numbered (length rs) n × (¬ T (X n))
 
   -- Then none of them is ready.
   none-ready : (done : List ℕ) → Idle done → (n : ℕ) → Ready rs S I done n → ¬ T (X n)
-  unfolding NoOutsideCause
+  unfolding NoOutsideCause FromInside became
   none-ready done idle n r t =
-      let w = closed n t in
-      ⊎-elim (λ i. w .2 i) (λ c. let d = idle (c .0) (c .1) in d .1 (w .3 (c .0) (d .0) (c .2)))
-      (cause rs I done (w .0) (needed-in S (changes rs I done) (rule-at rs n) (w .0) (r .enabled-then) (w .1)))
+      let w = closed n (r .rule) t in
+      let b = needed-became S (changes rs I done) (rule-at rs n) (w .0) (r .enabled-then) (w .1) in
+      ⊎-elim (λ h. not-e (was S (w .0)) (and-l _ _ b) h)
+      (λ h. ⊎-elim (h .0) (λ c. let d = idle (c .0) (c .1) in d .1 (h .1 (c .0) (d .0) (c .2))) (cause rs I done (w .0) (and-r _ _ b)))
+      (w .2)
 
   none-fires : (done ns : List ℕ) → Idle done → T (can-fire rs S I done ns) → (n : ℕ) → T (names ns n) → ¬ T (X n)
   none-fires done [] idle t n h = absurd (names-none n h)

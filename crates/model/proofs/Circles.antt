@@ -6,7 +6,7 @@ use mathlib.Core.List.{List}
 use lib.Dec.{T}
 use lib.ListN.{length}
 use Rattle.laws.specs.Numbers.{Numbered, some-of, first-of}
-use Rattle.laws.proofs.Truth.{and-l, and-r, and-i, or-r, stable}
+use Rattle.laws.proofs.Truth.{and-l, and-r, and-i, stable}
 use Rattle.laws.proofs.Numbers.{some-i, some-e, first-some, first-none, first-zero}
 use Rattle.model.specs.Rules.{Rule}
 use Rattle.model.specs.Strata.{Grading, must-fall}

@@ -1,4 +1,4 @@
--- A rule that is enabled at two sets of changes is enabled at a third that has what it needs and lacks what it bars; and what an enabled rule needs is among the changes.
+-- A rule that is enabled at two sets of changes is enabled at a third that has what it needs and lacks what it bars; and what an enabled rule needs has come.
 -- Assumes nothing.
 use Prim.Native.Nat.{ℕ}
 use mathlib.Core.Bool.{Bool, true, false, cond}
@@ -48,23 +48,23 @@ enabled-up S C E D r f g h k =
     (became-up S C D (r .trigger) (f (r .trigger) (or-l _ _ (same-refl (r .trigger)))) (and-l _ _ h))
     (literals-up S C E D (r .literals) (λ p t. f p (or-r _ _ t)) g (and-r _ _ h) (and-r _ _ k))
 
-plain-in : (S : List ℕ) (C : Pairs) (l : Literal) → T (is-plain l) → T (holds S C l) → T (C (l .pair))
-unfolding holds test is-plain became _∧ᵇ_ notᵇ
-plain-in S C l = go (l .becomes) (l .negated) (l .pair)
+plain-became : (S : List ℕ) (C : Pairs) (l : Literal) → T (is-plain l) → T (holds S C l) → T (became S C (l .pair))
+unfolding holds test is-plain _∧ᵇ_ notᵇ
+plain-became S C l = go (l .becomes) (l .negated) (l .pair)
   where
-    go : (b n : Bool) (p : Pair) → T (b ∧ᵇ notᵇ n) → T (cond n (notᵇ (cond b (became S C p) (was S p))) (cond b (became S C p) (was S p))) → T (C p)
+    go : (b n : Bool) (p : Pair) → T (b ∧ᵇ notᵇ n) → T (cond n (notᵇ (cond b (became S C p) (was S p))) (cond b (became S C p) (was S p))) → T (became S C p)
     go true true p t h = absurd t
-    go true false p t h = and-r (notᵇ (was S p)) _ h
+    go true false p t h = h
     go false n p t h = absurd t
 
-literals-in : (S : List ℕ) (C : Pairs) (ls : List Literal) (p : Pair) → T (all-hold S C ls) → T (among p (pairs-where is-plain ls)) → T (C p)
+literals-became : (S : List ℕ) (C : Pairs) (ls : List Literal) (p : Pair) → T (all-hold S C ls) → T (among p (pairs-where is-plain ls)) → T (became S C p)
 unfolding all-hold pairs-where among
-literals-in S C [] p h t = absurd t
-literals-in S C (l ∷ ls) p h t =
-    ⊎-elim (λ w. rw (w .1) (plain-in S C l (w .0) (and-l _ _ h))) (λ s. literals-in S C ls p (and-r _ _ h) s) (where-e is-plain l ls p t)
+literals-became S C [] p h t = absurd t
+literals-became S C (l ∷ ls) p h t =
+    ⊎-elim (λ w. rw (w .1) (plain-became S C l (w .0) (and-l _ _ h))) (λ s. literals-became S C ls p (and-r _ _ h) s) (where-e is-plain l ls p t)
 
--- What an enabled rule needs is among the changes.
-pub needed-in : (S : List ℕ) (C : Pairs) (r : Rule) (p : Pair) → T (enabled S C r) → T (among p (needed r)) → T (C p)
-unfolding enabled became needed among
-needed-in S C r p h t =
-    ⊎-elim (λ s. rw (same-eq p (r .trigger) s) (and-r _ _ (and-l _ _ h))) (λ s. literals-in S C (r .literals) p (and-r _ _ h) s) (or-e _ _ t)
+-- What an enabled rule needs has come: the card lacks it, and it is among the changes.
+pub needed-became : (S : List ℕ) (C : Pairs) (r : Rule) (p : Pair) → T (enabled S C r) → T (among p (needed r)) → T (became S C p)
+unfolding enabled needed among
+needed-became S C r p h t =
+    ⊎-elim (λ s. rw (same-eq p (r .trigger) s) (and-l _ _ h)) (λ s. literals-became S C (r .literals) p (and-r _ _ h) s) (or-e _ _ t)

@@ -4,7 +4,6 @@ use Prim.Native.Nat.{ℕ, _≤_, _<_}
 use native.Mathlib.Omega.{arith}
 use mathlib.Core.Path.{_≡_, refl}
 use mathlib.Core.List.{List}
-use mathlib.Core.Logic.{inl}
 use lib.Dec.{T}
 use lib.ListN.{length}
 use Rattle.laws.specs.Numbers.{Numbered}

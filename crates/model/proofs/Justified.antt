@@ -1,12 +1,12 @@
 -- Strata are the least exactly where every number is justified.
 -- Assumes nothing.
-use Prim.Native.Nat.{ℕ, zero, suc, _-_, _≤_, _<_}
+use Prim.Native.Nat.{ℕ, zero, suc, _-_, _≤_}
 use native.Mathlib.Omega.{arith}
 use mathlib.Core.Path.{_≡_, refl}
 use mathlib.Core.Bool.{Bool, true, false, cond}
 use mathlib.Core.List.{List}
 use mathlib.Core.Logic.{_⊎_, inl, inr, ⊎-elim, _↔_}
-use lib.Dec.{T, eqb, leb, leb→le, le→leb, eqb→eq, eqb-refl}
+use lib.Dec.{T, eqb, leb, leb→le, le→leb, eqb→eq}
 use lib.ListN.{length}
 use borrow.Author.Tests.{eq-eqb}
 use Rattle.laws.specs.Truth.{_∧ᵇ_, _∨ᵇ_}
@@ -16,11 +16,24 @@ use Rattle.laws.proofs.Equations.{from-true}
 use Rattle.laws.proofs.Numbers.{some-i, some-e}
 use Rattle.model.specs.Rules.{Rule}
 use Rattle.model.specs.Strata.{Grading, may-stay-level, must-fall, Strata}
-use Rattle.model.specs.Circles.{reach, Walk, here, on, circle-of}
+use Rattle.model.specs.Circles.{reach, Walk, here, on}
 use Rattle.model.specs.Least.{strata-of}
-use Rattle.model.specs.Justified.{Justified, at-first, one-above, level-with, grounded, level-step, justified}
+use Rattle.model.specs.Justified.{Justified, at-first, one-above, level-with}
 use Rattle.model.proofs.Reach.{reach-refl, reach-step, reach-trans, reach-walk}
-use Rattle.model.proofs.Strata.{no-circle, least-strata, least-least, least-e}
+use Rattle.model.proofs.Strata.{least-least, least-e}
+
+module _ (G : Grading) (rs : List Rule) (t : ℕ → ℕ) where
+  -- Justified as a test: a number that needs no other rule of its stratum.
+  grounded : ℕ → Bool
+  grounded n = leb (t n) 1 ∨ᵇ some-of (λ m. must-fall G rs n m ∧ᵇ eqb (t n) (suc (t m))) (length rs)
+
+  -- A step within a stratum.
+  level-step : ℕ → ℕ → Bool
+  level-step n m = may-stay-level G rs n m ∧ᵇ eqb (t n) (t m)
+
+  -- Steps within its stratum lead from the rule to a grounded one.
+  justified : ℕ → Bool
+  justified n = some-of (λ x. reach (length rs) level-step n x ∧ᵇ grounded x) (length rs)
 
 module _ (G : Grading) (rs : List Rule) (t : ℕ → ℕ) where
   -- A grounded number is justified.
@@ -37,7 +50,7 @@ module _ (G : Grading) (rs : List Rule) (t : ℕ → ℕ) where
   walk-justified (on {x = x} {m = m} w i k s) j = walk-justified w (level-with k (and-l _ _ s) (eqb→eq (t x) (t m) (and-r _ _ s)) j)
 
   -- What the test says.
-  pub justified-e : (n : ℕ) → T (justified G rs t n) → Justified G rs t n
+  justified-e : (n : ℕ) → T (justified G rs t n) → Justified G rs t n
   unfolding justified
   justified-e n h =
       let w = some-e _ (length rs) h in
@@ -63,12 +76,6 @@ module _ (G : Grading) (rs : List Rule) (t : ℕ → ℕ) where
       some-i _ (length rs) (w .0) (w .1) (and-i _ _
       (reach-trans (length rs) (level-step G rs t) n m (w .0) j (w .1) (reach-step (length rs) (level-step G rs t) n n m i j (reach-refl (length rs) (level-step G rs t) n) s) (and-l _ _ (w .2)))
       (and-r _ _ (w .2)))
-
-  -- And back.
-  pub justified-i : {n : ℕ} → Numbered (length rs) n → Justified G rs t n → T (justified G rs t n)
-  justified-i {n = n} i (at-first le) = grounded-justified n i (first-grounded n le)
-  justified-i {n = n} i (one-above {m = m} j d e) = grounded-justified n i (above-grounded n m j d e)
-  justified-i {n = n} i (level-with {m = m} j d e h) = level-justified n m i j d e (justified-i j h)
 
   -- A set that holds the first stratum and what stands one above a rule that it must fall to, and that holds a rule with each rule that it may stay level with: it holds all that is justified.
   pub all-justified : (X : ℕ → Type 0) → ((n : ℕ) → Numbered (length rs) n → t n ≤ 1 → X n)

@@ -8,7 +8,7 @@ use mathlib.Core.List.{List}
 use mathlib.Core.Logic.{_⊎_, inl, inr, ⊎-elim}
 use lib.Dec.{T}
 use lib.ListN.{length}
-use Rattle.laws.specs.Truth.{_∧ᵇ_, _∨ᵇ_, notᵇ}
+use Rattle.laws.specs.Truth.{_∧ᵇ_, notᵇ}
 use Rattle.laws.specs.Numbers.{Numbered}
 use Rattle.laws.proofs.Truth.{or-l, or-r, or-e, le-or-lt}
 use Rattle.model.specs.Rules.{Pair, Literal, Rule, among}

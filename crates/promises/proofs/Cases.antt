@@ -114,7 +114,7 @@ pub record Case : Type 0 where
 abbrev case : List ℕ → List ℕ → List ℕ → Listing → Case
 case text card slip u = record { text = text; card = card; slip = slip; comes-to = u }
 
--- A: a alone, x to 1: changes x, z. B: b alone: change x only. C: a, b: as the program lists it. D: a, c: 18, rule 1. E: d, e, y to 1: strata 2, 1; changes x, y; only rule 2 fired.
+-- A: a alone, x to 1: changes x, z. B: b alone: change x only. C: a, b: as the program lists it. D: a, c, y to 1: strata 1, 1; neither fires. E: d, e, y to 1: strata 2, 1; changes x, y; only rule 2 fired.
 -- F: a, b, card 0C 00 00: only x changes. G: a, slip x to 0: no rule fires. H: 40, slot 0. I: TRUE AND y |= 0 reads. J: y |= 0 AND TRUE is 12. K: card 0C 44 C0 is 22, slot 2. L: 0C 44 41 is 23.
 abbrev pub lettered : List Case
 lettered =

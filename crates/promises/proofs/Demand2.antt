@@ -16,7 +16,7 @@ use Rattle.grammar.specs.Files.{File}
 use Rattle.grammar.specs.Meaning.{Is-file}
 use Rattle.reader.specs.declared.Outcome.the-variants.{Accepted}
 use Rattle.rule_file.specs.Whole.{reading}
-use Rattle.rule_file.proofs.Answers.{reading-accepted-iff, reading-18-iff}
+use Rattle.rule_file.proofs.Answers.{reading-accepted-iff, reading-no-strata-iff, reading-18-iff}
 use Rattle.cards.proofs.EntryTrips.{unpack-pack-card, unpack-pack-slip}
 use Rattle.response.specs.Ending.{Answer}
 use Rattle.promises.specs.Agreement.{InConflict, Shows, LowestConflict, Agreed}
@@ -61,7 +61,8 @@ module _ (text : List ℕ) (f : File) (h : Is-file text f) (o : reading text .ou
 pub demand-2 : Demand2
 demand-2 = record {
   accepted = reading-accepted-iff;
-  no-strata = reading-18-iff;
+  no-strata = reading-no-strata-iff;
+  circle = reading-18-iff;
   answered = λ text f h o y card slip rooms a e. answer text f h o card slip a (demand-3 text f h o .where-answered y card slip rooms a e);
   conflicting = λ text f h o y card slip rooms s e. conflict text f h o card slip s (demand-3 text f h o .where-40 y card slip rooms s e);
   card-back = unpack-pack-card;

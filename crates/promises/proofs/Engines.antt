@@ -5,6 +5,7 @@ use native.Mathlib.Omega.{arith}
 use mathlib.Core.Path.{_≡_, refl, sym, ap, _∙_}
 use mathlib.Core.Bool.{Bool, true, false, cond}
 use mathlib.Core.List.{List, [], _∷_}
+use mathlib.Core.Logic.{_↔_}
 use lib.Dec.{T}
 use lib.ListN.{getD}
 use Rattle.laws.specs.Truth.{_∨ᵇ_}
@@ -43,7 +44,7 @@ pub fires-nothing : (read-card (value-counts (reading text-C .table)) all-0 ≡ 
 unfolding lists
 fires-nothing = (refl, refl, refl, refl, refl)
 
--- One that finds no strata in any file: case C is accepted. (18 stands exactly where no strata exist: `reading-18-iff`.)
+-- One that finds no strata in any file: case C is accepted. (18 stands exactly where no strata exist: `reading-no-strata-iff`.)
 pub finds-strata : reading text-C .outcome ≡ Accepted
 unfolding lists
 finds-strata = refl
@@ -83,6 +84,21 @@ fresh-not-full = refl
 
 pub fresh-no-32 : (t : Table) (card slip : List ℕ) (rooms : Rooms) (s : ℕ) → ¬ (answer-to t fresh card slip rooms ≡ refused 32 s)
 fresh-no-32 t card slip rooms s e = rw fresh-not-full at (only-full t fresh card slip rooms s e)
+
+-- 31 is given, at a tally that is not full, exactly for a table that does not pass its test.
+pub exactly-31 : (t : Table) (y : Tally) (card slip : List ℕ) (rooms : Rooms) → is-full y ≡ false → (answer-to t y card slip rooms ≡ refused 31 0) ↔ (¬ T (sound t))
+unfolding answer-to answer-by-table if-sound
+exactly-31 t y card slip rooms q = rw q (go (sound t))
+  where
+    answer : OrRefused Answer
+    answer = answer-by-rules (value-counts t) (rules-of t) card slip rooms
+
+    go : (b : Bool) → (cond b answer (refused 31 0) ≡ refused 31 0) ↔ (¬ T b)
+    go true = (
+      λ e h. only-e (Other 31) answer 31 0 (only-more (OneOf of-rules) (Other 31) (one-of-other of-rules 31 tt) answer (rules-refused (value-counts t) (rules-of t) card slip rooms)) e refl,
+      λ n. absurd (n tt),
+    )
+    go false = (λ e h. h, λ n. refl)
 
 -- A table that the reading hands out gets no 31.
 pub reading-no-31 : (text : List ℕ) (y : Tally) (card slip : List ℕ) (rooms : Rooms) (s : ℕ) → ¬ (answer-to (reading text .table) y card slip rooms ≡ refused 31 s)

@@ -26,13 +26,14 @@ use Rattle.reader.specs.declared.Outcome.the-variants.{Accepted}
 use Rattle.rule_file.specs.Whole.{reading}
 use Rattle.rule_file.proofs.Answers.{reading-accepted-iff, reading-carries}
 use Rattle.soundness.proofs.Sound.{sound-iff-least}
-use Rattle.cards.specs.Forms.{read-slip}
+use Rattle.cards.specs.Forms.{read-card, read-slip}
 use Rattle.tally.specs.declared.Tally.{Tally}
 use Rattle.response.specs.Ending.{Answer}
 use Rattle.response.specs.Respond.{Rooms}
 use Rattle.promises.specs.Agreement.{bit-of, responds}
 use Rattle.promises.specs.WeakStrata.{WeakStrata}
 use Rattle.promises.proofs.Demand3.{demand-3}
+use Rattle.promises.proofs.Engines.{exactly-31}
 
 module _ (text : List ℕ) (f : File) (h : Is-file text f) where
   carried-least : reading text .outcome ≡ Accepted → LeastStrata weak (f .rules) (stratum-at (reading text .table))
@@ -42,15 +43,20 @@ module _ (text : List ℕ) (f : File) (h : Is-file text f) where
       rw e at (least-i weak (c .file .rules) (stratum-at (reading text .table)) (c .no-circle) (c .strata-are))
 
   none-fired : reading text .outcome ≡ Accepted → (y : Tally) (card slip : List ℕ) (rooms : Rooms) (a : Answer) → responds text y card slip rooms ≡ taken a
-      → (I : List Pair) → read-slip (slot-counts (f .slots)) slip ≡ taken I → (X : ℕ → Bool) → NoOutsideCause (f .rules) I X → (n : ℕ) → T (X n) → bit-of (a .fired) n ≡ false
+      → (S : List ℕ) (I : List Pair) → read-card (slot-counts (f .slots)) card ≡ taken S → read-slip (slot-counts (f .slots)) slip ≡ taken I
+      → (X : ℕ → Bool) → NoOutsideCause (f .rules) S I X → (n : ℕ) → T (X n) → bit-of (a .fired) n ≡ false
   unfolding whole-order
-  none-fired o y card slip rooms a e I i X c n x =
+  none-fired o y card slip rooms a e S I d i X c n x =
       let A = demand-3 text f h o .where-answered y card slip rooms a e in
       let ns = response weak (f .rules) (A .S) (A .I) in
-      let same : A .I ≡ I = one-slip (A .I) I (sym (A .slip-is) ∙ i) in
-      let u = uncaused (f .rules) (A .S) (A .I) X (rw same c) ns (and-l _ _ (and-l _ _ (A .ours))) n x in
+      let same-card : A .S ≡ S = one-card (A .S) S (sym (A .card-is) ∙ d) in
+      let same-slip : A .I ≡ I = one-slip (A .I) I (sym (A .slip-is) ∙ i) in
+      let u = uncaused (f .rules) (A .S) (A .I) X (rw (same-card, same-slip) c) ns (and-l _ _ (and-l _ _ (A .ours))) n x in
       sym (A .each-order ns (A .ours) .same-fired n) ∙ is-false (names ns n) u
     where
+      one-card : (xs ys : List ℕ) → taken xs ≡ taken ys → xs ≡ ys
+      one-card xs ys z = let w : xs ≡ ys = cc in w
+
       one-slip : (ps qs : List Pair) → taken ps ≡ taken qs → ps ≡ qs
       one-slip ps qs z = let w : ps ≡ qs = cc in w
 
@@ -58,6 +64,10 @@ pub weak-strata : WeakStrata
 weak-strata = record {
   carried = carried-least;
   tested = sound-iff-least;
+  refused-31 = λ t w y q card slip rooms.
+      let i = exactly-31 t y card slip rooms q in
+      let s = sound-iff-least t w in
+      (λ e l. i .0 e (s .1 l), λ n. i .1 (λ u. n (s .0 u)));
   idle = none-fired;
   section-7 = λ text f h u s. let w = to-weak strict (f .rules) u s in (reading-accepted-iff text .0 (f, h, (u, w)), λ S I. response-whole weak (f .rules) u w S I);
 }

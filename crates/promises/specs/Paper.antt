@@ -53,8 +53,10 @@ pub record PaperConflict (f : File) (card slip : List ℕ) (s : ℕ) : Type 0 wh
 pub record Demand2 : Type 0 where
   -- Accepted: exactly the texts of files whose rules have strata.
   pub accepted : (text : List ℕ) → ((f : File) × Is-file text f × ((u : ℕ → ℕ) × Strata weak (f .rules) u)) ↔ (reading text .outcome ≡ Accepted)
-  -- 18: exactly the texts of files whose rules have none, with the lowest rule on a circle through a NOT.
-  pub no-strata : (text : List ℕ) (k : ℕ) → (reading text .outcome ≡ Refused 18 k) ↔ ((f : File) × Is-file text f × ((u : ℕ → ℕ) → ¬ Strata weak (f .rules) u) × LowestThroughNot (f .rules) k)
+  -- 18: exactly the texts of files whose rules have none;
+  pub no-strata : (text : List ℕ) → ((k : ℕ) × (reading text .outcome ≡ Refused 18 k)) ↔ ((f : File) × Is-file text f × ((u : ℕ → ℕ) → ¬ Strata weak (f .rules) u))
+  -- and these are exactly the texts of files with a circle through a NOT, of which it names the lowest rule.
+  pub circle : (text : List ℕ) (k : ℕ) → (reading text .outcome ≡ Refused 18 k) ↔ ((f : File) × Is-file text f × LowestThroughNot (f .rules) k)
   -- Each answer, and each conflict, by an accepted file.
   pub answered : (text : List ℕ) (f : File) → Is-file text f → reading text .outcome ≡ Accepted → (y : Tally) (card slip : List ℕ) (rooms : Rooms) (a : Answer)
       → responds text y card slip rooms ≡ taken a → PaperAnswer f card slip a

@@ -6,7 +6,7 @@ use mathlib.Core.Bool.{Bool, false}
 use mathlib.Core.List.{List}
 use mathlib.Core.Logic.{_↔_}
 use lib.Dec.{T}
-use Rattle.laws.specs.Answers.{taken}
+use Rattle.laws.specs.Answers.{taken, refused}
 use Rattle.model.specs.Rules.{Pair}
 use Rattle.model.specs.Orders.{whole-order}
 use Rattle.model.specs.Strata.{strict, weak, Strata}
@@ -20,10 +20,11 @@ use Rattle.grammar.specs.Meaning.{Is-file}
 use Rattle.reader.specs.declared.Outcome.the-variants.{Accepted}
 use Rattle.rule_file.specs.Whole.{reading}
 use Rattle.soundness.specs.Sound.{well-formed, sound}
-use Rattle.cards.specs.Forms.{read-slip}
+use Rattle.cards.specs.Forms.{read-card, read-slip}
 use Rattle.tally.specs.declared.Tally.{Tally}
 use Rattle.response.specs.Ending.{Answer}
-use Rattle.response.specs.Respond.{Rooms}
+use Rattle.response.specs.Respond.{Rooms, answer-to}
+use Rattle.tally.specs.Counting.{is-full}
 use Rattle.promises.specs.Agreement.{bit-of, responds}
 
 pub record WeakStrata : Type 0 where
@@ -31,9 +32,13 @@ pub record WeakStrata : Type 0 where
   pub carried : (text : List ℕ) (f : File) → Is-file text f → reading text .outcome ≡ Accepted → LeastStrata weak (f .rules) (stratum-at (reading text .table))
   -- 31 passes a table that is otherwise in order exactly where it carries the least.
   pub tested : (t : Table) → T (well-formed t) → T (sound t) ↔ LeastStrata weak (rules-of t) (stratum-at t)
-  -- Rules without a cause outside their set do not fire: each needs a pair that is not the slip's and that rules of the set alone assign.
+  -- So a response by such a table, at a tally that is not full, is refused with 31 exactly where it does not.
+  pub refused-31 : (t : Table) → T (well-formed t) → (y : Tally) → is-full y ≡ false → (card slip : List ℕ) (rooms : Rooms)
+      → (answer-to t y card slip rooms ≡ refused 31 0) ↔ (¬ LeastStrata weak (rules-of t) (stratum-at t))
+  -- Rules without a cause outside their set do not fire.
   pub idle : (text : List ℕ) (f : File) → Is-file text f → reading text .outcome ≡ Accepted → (y : Tally) (card slip : List ℕ) (rooms : Rooms) (a : Answer) → responds text y card slip rooms ≡ taken a
-      → (I : List Pair) → read-slip (slot-counts (f .slots)) slip ≡ taken I → (X : ℕ → Bool) → NoOutsideCause (f .rules) I X → (n : ℕ) → T (X n) → bit-of (a .fired) n ≡ false
+      → (S : List ℕ) (I : List Pair) → read-card (slot-counts (f .slots)) card ≡ taken S → read-slip (slot-counts (f .slots)) slip ≡ taken I
+      → (X : ℕ → Bool) → NoOutsideCause (f .rules) S I X → (n : ℕ) → T (X n) → bit-of (a .fired) n ≡ false
   -- A file with strata of section 7, which fall along every `*=`, is accepted; and firing by those strata is one of the orders that demand 3 holds to the answer.
   pub section-7 : (text : List ℕ) (f : File) → Is-file text f → (u : ℕ → ℕ) → Strata strict (f .rules) u
       → (reading text .outcome ≡ Accepted) × ((S : List ℕ) (I : List Pair) → T (whole-order (f .rules) S I (response-by (f .rules) S I u)))

@@ -12,8 +12,9 @@ use Rattle.model.specs.Rules as model
 use Rattle.model.specs.Strata.{weak, Strata}
 use Rattle.model.specs.Circles.{LowestThroughNot, circle-of}
 use Rattle.model.specs.Least.{strata-of}
-use Rattle.model.proofs.Strata.{no-circle, no-strata, least-strata}
-use Rattle.model.proofs.Steps.{lowest-through-not, one-lowest}
+use Rattle.model.proofs.Circles.{NoCircle, no-circle-e}
+use Rattle.model.proofs.Strata.{no-circle, least-strata}
+use Rattle.model.proofs.Steps.{through-not-i, lowest-through-not, one-lowest}
 use Rattle.table.specs.declared.Table.{Table}
 use Rattle.table.specs.Empty.{empty-table}
 use Rattle.table.specs.Fits.{TableFits}
@@ -186,9 +187,9 @@ reading-carries text o =
       no-circle = z;
     })
 
--- A text is refused with 18 exactly where it is a file whose rules have no strata; the second number is the lowest rule on a circle through a NOT.
-pub reading-18-iff : (text : List ℕ) (k : ℕ)
-    → (reading text .outcome ≡ Refused 18 k) ↔ ((f : File) × Is-file text f × ((u : ℕ → ℕ) → ¬ Strata weak (f .rules) u) × LowestThroughNot (f .rules) k)
+-- A text is refused with 18 exactly where it is a file whose rules have a circle through a NOT; the second number is the lowest rule on such a circle.
+pub reading-18-iff : (text : List ℕ) (k : ℕ) → (reading text .outcome ≡ Refused 18 k) ↔ ((f : File) × Is-file text f × LowestThroughNot (f .rules) k)
+unfolding NoCircle
 reading-18-iff text k = (λ o. there o (read text) refl, back)
   where
     seconds : (a b : ℕ) → Refused 18 a ≡ Refused 18 b → a ≡ b
@@ -197,27 +198,42 @@ reading-18-iff text k = (λ o. there o (read text) refl, back)
     numbers : (a b m : ℕ) → Refused 18 a ≡ Refused b m → b ≡ 18
     numbers a b m c = let z : b ≡ 18 = cc in z
 
-    there : reading text .outcome ≡ Refused 18 k → (a : Answer) → read text ≡ a → (f : File) × Is-file text f × ((u : ℕ → ℕ) → ¬ Strata weak (f .rules) u) × LowestThroughNot (f .rules) k
+    there : reading text .outcome ≡ Refused 18 k → (a : Answer) → read text ≡ a → (f : File) × Is-file text f × LowestThroughNot (f .rules) k
     there o (accepted f) e = by-circle (eqb (circle-of weak (f .rules)) 0) refl
       where
-        by-circle : (b : Bool) → eqb (circle-of weak (f .rules)) 0 ≡ b → (f : File) × Is-file text f × ((u : ℕ → ℕ) → ¬ Strata weak (f .rules) u) × LowestThroughNot (f .rules) k
+        by-circle : (b : Bool) → eqb (circle-of weak (f .rules)) 0 ≡ b → (f : File) × Is-file text f × LowestThroughNot (f .rules) k
         by-circle true q = absurd (outcomes-differ 18 k (sym (ap (λ (a : FileRead). a .outcome) (reading-file text f e ∙ layered-zero f (eqb-true (circle-of weak (f .rules)) 0 q))) ∙ o))
         by-circle false q =
             let n = eqb-false (circle-of weak (f .rules)) 0 q in (
               f,
               accepts-iff text f .0 e,
-              no-strata weak (f .rules) n,
               rw (seconds k _ (sym o ∙ ap (λ (a : FileRead). a .outcome) (reading-file text f e ∙ layered-circle f n))) (lowest-through-not (f .rules) n),
             )
     there o (refused j m) e =
         let z = numbers k j m (sym o ∙ ap (λ (a : FileRead). a .outcome) (reading-refused text j m e)) in
         absurd (omega (arith, z, refused-range text j m e .1))
 
-    back : (f : File) × Is-file text f × ((u : ℕ → ℕ) → ¬ Strata weak (f .rules) u) × LowestThroughNot (f .rules) k → reading text .outcome ≡ Refused 18 k
+    back : (f : File) × Is-file text f × LowestThroughNot (f .rules) k → reading text .outcome ≡ Refused 18 k
     back w =
         let f = w .0 in
-        ap (λ (a : FileRead). a .outcome) (reading-file text f (accepts-iff text f .1 (w .1)) ∙ layered-circle f (λ z. w .2 (strata-of weak (f .rules)) (least-strata weak (f .rules) z)))
-        ∙ ap (λ (n : ℕ). Refused 18 n) (sym (one-lowest (f .rules) k (w .3)))
+        let some : ¬ (circle-of weak (f .rules) ≡ 0) = λ z. no-circle-e weak (f .rules) z k (w .2 .rule) (through-not-i (f .rules) k (w .2 .circle)) in
+        ap (λ (a : FileRead). a .outcome) (reading-file text f (accepts-iff text f .1 (w .1)) ∙ layered-circle f some)
+        ∙ ap (λ (n : ℕ). Refused 18 n) (sym (one-lowest (f .rules) k (w .2)))
+
+-- It is so refused exactly where it is a file whose rules have no strata.
+pub reading-no-strata-iff : (text : List ℕ) → ((k : ℕ) × (reading text .outcome ≡ Refused 18 k)) ↔ ((f : File) × Is-file text f × ((u : ℕ → ℕ) → ¬ Strata weak (f .rules) u))
+reading-no-strata-iff text = (there, back)
+  where
+    there : (k : ℕ) × (reading text .outcome ≡ Refused 18 k) → (f : File) × Is-file text f × ((u : ℕ → ℕ) → ¬ Strata weak (f .rules) u)
+    there w =
+        let l = reading-18-iff text (w .0) .0 (w .1) in
+        (l .0, l .1, λ u s. outcomes-differ 18 (w .0) (sym (reading-accepted-iff text .0 (l .0, l .1, (u, s))) ∙ w .1))
+
+    back : (f : File) × Is-file text f × ((u : ℕ → ℕ) → ¬ Strata weak (f .rules) u) → (k : ℕ) × (reading text .outcome ≡ Refused 18 k)
+    back w =
+        let f = w .0 in
+        let n : ¬ (circle-of weak (f .rules) ≡ 0) = λ z. w .2 (strata-of weak (f .rules)) (least-strata weak (f .rules) z) in
+        (circle-of weak (f .rules), ap (λ (a : FileRead). a .outcome) (reading-file text f (accepts-iff text f .1 (w .1)) ∙ layered-circle f n))
 
 -- Every table that the reading hands out passes 31.
 pub reading-passes : (text : List ℕ) → T (sound (reading text .table))

@@ -65,6 +65,12 @@ pub beside-circle : reading (after-slots "WHEN y *= 1 IF TRUE THEN z := 0; WHEN 
 unfolding runs
 beside-circle = refl
 
+-- Nor is a plain circle that only waits for one through a NOT: rules 1 and 2 wake each other, and rule 3 bars what it assigns itself.
+pub plain-beside : reading (after-slots "WHEN x *= 1 IF z *= 1 THEN y := 1; WHEN y *= 1 IF TRUE THEN x := 1; WHEN x *= 0 IF NOT z *= 1 THEN z := 1;")
+    ≡ record { outcome = Refused 18 3; table = empty-table }
+unfolding runs
+plain-beside = refl
+
 -- The least strata of a plain circle that waits under NOT for another rule: 2, 2, 1.
 pub above-strata : carried-strata (reading (after-slots "WHEN x *= 1 IF NOT z *= 1 THEN y := 1; WHEN y *= 1 IF TRUE THEN x := 1; WHEN x *= 0 IF TRUE THEN z := 1;") .table) ≡ 2 ∷ 2 ∷ 1 ∷ []
 unfolding runs

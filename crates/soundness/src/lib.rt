@@ -48,7 +48,8 @@ pub fn is_well_formed(t: Table) -> bool
     true
 }
 
-// The test of a table: well-formed, and it carries the least strata. Each of them is as high as it is asked, and each rule is found justified: by itself, or from the queue of pairs whose number a justified rule has.
+// The test of a table: well-formed, and it carries the least strata. Each of them is at least as high as it is asked, and each rule is held once its number is
+// found justified: by itself, or from the queue of pairs that a held rule assigns at their highest number.
 pub fn is_sound(t: Table) -> bool
     ensures { λ b. ⌜ b ≡ sound t ⌝ }
 {
@@ -86,7 +87,7 @@ pub fn is_sound(t: Table) -> bool
             held[e] = true;
             continue 'ask;
         }
-        if strata::least::one_below(r, s, &high) {
+        if leastness::one_below(r, s, &high) {
             held[e] = true;
             top = leastness::flag_assigned(r, s, &high, &mut flags, &mut queue, top);
             continue 'ask;

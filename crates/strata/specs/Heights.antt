@@ -1,10 +1,10 @@
 -- Numbers at pairs, in an array indexed by pair.
-use mathlib.Core.Bool.{Bool, false, cond}
+-- A reader need not believe what stands here: `layering` says what is found.
+use mathlib.Core.Bool.{cond}
 use mathlib.Core.List.{List, [], _∷_}
 use Prim.Native.Nat.{ℕ, suc, _+_, _<_, max}
 use lib.Dec.{eqb, ltb}
 use lib.ListN.{getD, set, replicate}
-use Rattle.laws.specs.Truth.{_∨ᵇ_}
 use Rattle.laws.specs.Tabulated.{tabulate}
 use Rattle.model.specs.Rules.{Pair, Rule}
 use Rattle.model.specs.Strata.{weak, needed, barred}
@@ -24,11 +24,6 @@ highest-at hs (p ∷ ps) = max (getD hs (place-of p) 0) (highest-at hs ps)
 -- The least number that a rule can have where these numbers stand at the pairs: none below one that stands at a pair it needs, and above each at a pair it bars; from 1.
 unfoldable pub asked-at : List ℕ → Rule → ℕ
 asked-at hs r = max (highest-at hs (needed r)) (highest-at hs (barred r) + 1)
-
--- One of some pairs has a number that is one below s.
-unfoldable pub one-below : List ℕ → ℕ → List Pair → Bool
-one-below hs s [] = false
-one-below hs s (p ∷ ps) = eqb (getD hs (place-of p) 0 + 1) s ∨ᵇ one-below hs s ps
 
 -- All numbers are small enough to be raised by one.
 pub record Small (hs : List ℕ) : Type 0 where

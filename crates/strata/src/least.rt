@@ -1,9 +1,8 @@
 // The least strata of a table's rules, by passes over an array indexed by pair.
 ghost use mathlib.Core.Path.{_≡_};
-ghost use Rattle.model.specs.Strata.{barred};
 ghost use Rattle.table.specs.Link.{rule-of, assignments-of};
 ghost use Rattle.table.specs.Fits.{RuleFits, TableFits};
-ghost use Rattle.strata.specs.Heights.{asked-at, one-below, Small, raise-all, circled, found};
+ghost use Rattle.strata.specs.Heights.{asked-at, Small, raise-all, circled, found};
 use table::PAIRS;
 use table::RULES;
 use table::Rule;
@@ -43,30 +42,6 @@ pub fn asked(r: Rule, high: &[usize; PAIRS]) -> usize
     h
 }
 
-// Whether a pair that a rule tests under NOT has a number one below s.
-pub fn one_below(r: Rule, s: usize, high: &[usize; PAIRS]) -> bool
-    requires { ⌜ RuleFits r × Small (now high) ⌝ }
-    ensures { λ b. ⌜ b ≡ one-below (now (high .entry)) s (barred (rule-of r)) ⌝ }
-{
-    let m = r.tested;
-    let mut j: usize = 0;
-    'literals: while j < m {
-        let l = r.literals[j];
-        j += 1;
-        if !table::is_under_not(l) {
-            continue 'literals;
-        }
-        let a = l.slot;
-        let v = l.value;
-        let k = table::place(a, v);
-        let h = high[k];
-        if h + 1 == s {
-            return true;
-        }
-    }
-    false
-}
-
 // The pairs that a rule assigns are raised to s.
 pub fn raise(r: Rule, s: usize, high: &mut [usize; PAIRS])
     requires { ⌜ RuleFits r ⌝ }
@@ -101,7 +76,7 @@ fn circled(k: usize) -> Found
 // The passes end: a pass that moves something raises the sum of the numbers, no number passes the number of rules (the least strata never do, so that
 // one that would says that there is a circle), and a pass that moves nothing is the last.
 // A circle is also looked for after one pass more than there are rules: a stratum is one more than the most NOTs on a walk of dependence, and without a
-// circle through a NOT such a walk needs no rule twice, so that as many passes find all strata. A circle raises them by one each time round only.
+// circle through a NOT such a walk needs no rule twice, so that as many passes find all strata. A circle raises its rules by no more than its NOTs each time round. This bounds the cost, and is not proved.
 pub fn find(t: Table) -> Found
     requires { ⌜ TableFits t ⌝ }
     ensures { λ r. ⌜ r ≡ found t ⌝ }

@@ -1,7 +1,6 @@
 -- `table::is_under_not` meets its contract.
 -- Assumes nothing.
-use mathlib.Core.Path.{_≡_, refl}
-use mathlib.Core.Bool.{Bool, true, false}
+use mathlib.Core.Path.{refl}
 use Rattle.laws.specs.Truth.{_∧ᵇ_}
 use Rattle.model.specs.Strata.{is-under-not}
 use Rattle.table.proofs.is_under_not.Statement.{statement}

@@ -71,9 +71,12 @@ next : (c : tie.Joined3 Inv-literals μ-literals) →
     let a = g .before .before .before .before .before in
     let s = a .before .before .before .before in
     max (a .literals .h) (max (c .if3 .y) (ask-from (s .args .high .now) (s .args .t1) (a .literals .j + 1))) ≡ asked-at (s .args .high .now) (rule-of (s .args .t1))
-next c = ⊎-elim
-    (λ w. omega (arith, w, next-under-not (c .before .before) (w .0 .taken)))
-    (λ w. omega (arith, w, next-plain (c .before .before) (w .0 .left)))
+next c =
+    let g = c .before .before in
+    let high = g .before .before .before .before .before .before .before .before .before .args .high .now in
+    ⊎-elim
+    (λ w. let y : c .if3 .y ≡ getD high (g .place2 .result) 0 + 1 = omega (arith, w) in rw y (next-under-not g (w .0 .taken)))
+    (λ w. let y : c .if3 .y ≡ getD high (g .place2 .result) 0 = omega (arith, w) in rw y (next-plain g (w .0 .left)))
     (c .if3 .came)
 
 place-requires : tie.Need-place-requires Inv-literals μ-literals

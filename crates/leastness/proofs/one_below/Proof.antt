@@ -1,24 +1,22 @@
--- `strata::least::one_below` meets its contract.
+-- `leastness::one_below` meets its contract.
 -- Assumes nothing.
-use mathlib.Core.Path.{_≡_, refl, sym, _∙_, ap}
-use mathlib.Core.Bool.{true, false}
+use mathlib.Core.Path.{_≡_, sym, _∙_}
 use mathlib.Core.List.{_∷_}
-use mathlib.Core.Logic.{⊎-elim}
-use Prim.Native.Nat.{_+_, _-_, _*_, _≤_}
+use Prim.Native.Nat.{_+_, _-_, _≤_}
 use lib.ListN.{getD}
 use borrow.Author.Tests.{not-true, not-false}
 use Rattle.model.specs.Result.{pair}
-use Rattle.table.specs.Link.{assignments-of, rule-of}
+use Rattle.table.specs.Link.{rule-of}
 use Rattle.model.specs.Strata.{is-under-not, barred}
 use Rattle.table.specs.Shape.{RuleShaped, no-literal}
 use Rattle.table.proofs.Shape.{rule-shaped}
 use Rattle.table.proofs.Walks.{picked-from, barred-start, picked-end, picked-next, picked-over}
-use Rattle.strata.specs.Heights.{one-below}
-use Rattle.strata.proofs.Heights.{below-here, below-over, below-none}
+use Rattle.leastness.specs.OneBelow.{one-below}
+use Rattle.leastness.proofs.OneBelow.{below-here, below-over, below-none}
 use native.Mathlib.Omega.{arith}
 use borrow.Author.Needs.{needs}
-use Rattle.strata.proofs.least.one_below.Statement.{statement}
-use Rattle.strata.proofs.least.one_below.Tie as tie
+use Rattle.leastness.proofs.one_below.Statement.{statement}
+use Rattle.leastness.proofs.one_below.Tie as tie
 
 abbrev Inv-literals : tie.InvT-literals
 Inv-literals s high r m j₀ j = (j ≤ m) × (one-below high s (picked-from r is-under-not j) ≡ one-below high s (barred (rule-of r)))
