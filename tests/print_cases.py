@@ -89,6 +89,13 @@ def lettered():
         yield XYZ + b''.join(rules)
 
 
+def woken():
+    """Rules that wait for each other, by NOTs that cancel and by one that does not."""
+    back = b'WHEN x *= 1 IF TRUE THEN z := 1;'
+    yield XYZ + back + b'WHEN y *= 1 IF NOT NOT z *= 1 THEN x := 1;'
+    yield XYZ + b'WHEN x *= 1 IF TRUE THEN y := 1; WHEN y *= 1 IF NOT z *= 1 THEN x := 1;' + back
+
+
 # Every form that the print leaves out or spaces anew, in a text with tabs and CR LF.
 CANCELLED = b'''SLOT x{0,1};SLOT\ty\r\n{ 0\t,\t1 } ;\r\n\r\n  SLOT z { 0 ,1 , 2};
 WHEN x*=1 IF TRUE THEN z:=1;WHEN x*=1 IF TRUE AND y|=0 THEN{z:=1};\r
@@ -130,7 +137,7 @@ def respaced(chance, text):
 
 def cases():
     yield from [(b'', 0), (b'', 5), (b' \t\r\n', 0)]
-    for text in [*lettered(), example('case-c'), example('dialect'), *guided(), CANCELLED]:
+    for text in [*lettered(), *woken(), example('case-c'), example('dialect'), *guided(), CANCELLED]:
         outcome = printed(text, PRINT_BYTES)
         length = 40 if isinstance(outcome, bytes) else sum(map(len, outcome))
         yield from [(text, room) for room in (length, length - 1, length + 7, 0)]

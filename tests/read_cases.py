@@ -1,5 +1,5 @@
 #!/usr/bin/env python3
-"""The stored texts, and what their reading should give, by a reader of its own made from document 01 and the appendix of the RL paper.
+"""The stored texts, and what their reading should give, by a reader of its own made from document 01, section 2 of document 02 and the appendix of the RL paper.
 
   tests/read_cases.py          writes tests/stored/texts/input and expected
   tests/read_cases.py --check  says whether they are what it would write; exit status 1 where they are not
@@ -169,14 +169,28 @@ def rule(condition=b'TRUE', assign=b'y := 1', trigger=b'x *= 1'):
     return XYZ + b'WHEN ' + trigger + b' IF ' + condition + b' THEN ' + assign + b';'
 
 
+def circles():
+    """Rules that test what they assign, and circles: plain, through a NOT, kept plain by NOTs that cancel, such as meet a rule more than once; strata above 1."""
+    yield from [rule(nots + b'y *= 1') for nots in (b'', b'NOT ', b'NOT NOT ', b'NOT NOT NOT ')] + [rule(b'y *= 1 AND NOT y *= 1'), rule(b'NOT y *= 1', b'z := 1'), rule(b'NOT y *= 0')]
+    to_z, to_x = b'WHEN x *= 1 IF TRUE THEN z := 1;', b'WHEN y *= 1 IF %sz *= 1 THEN x := 1;'
+    for nots in (b'', b'NOT ', b'NOT NOT ', b'NOT NOT NOT '):
+        yield from [XYZ + to_z + to_x % nots, XYZ + to_x % nots + to_z, XYZ + b'WHEN z *= 1 IF TRUE THEN z := 0;' + to_x % nots + to_z]
+    one, two, three = b'WHEN x *= 1 IF TRUE THEN y := 1;', to_x % b'NOT ', to_z
+    yield from [XYZ + b''.join(rules) for rules in ([one, two, three], [three, two, one], [two, one, three], [one, two], [one, three], [two, three])]
+    yield from [XYZ + b'WHEN y *= 0 IF TRUE THEN y := 0;' + two + three, XYZ + b'WHEN z *= 1 IF TRUE THEN z := 0;' + one + two + three]
+    low, middle, high = b'WHEN x *= 1 IF TRUE THEN x := 0;', b'WHEN x *= 1 IF NOT x *= 0 THEN y := 1;', b'WHEN x *= 1 IF NOT y *= 1 THEN z := 1;'
+    yield from [XYZ + low + middle + high, XYZ + high + middle + low, XYZ + high + low, XYZ + high + b'WHEN z *= 1 IF TRUE THEN x := 1;' + middle + low]
+
+
 def texts():
-    """The cases and limits of document 01, each place's faults and their precedence, and texts damaged at random."""
+    """The cases and limits of document 01, circles, each place's faults and their precedence, and texts damaged at random."""
     a, b = b'WHEN x *= 1 IF y |= 0 THEN z := 1;', b'WHEN z *= 1 IF y |= 0 THEN y := 1;'
     many = lambda n: b','.join(b'v%d' % i for i in range(n))
     yield from [b'', b' \t\r\n', XYZ, XYZ + a + b, rule(b'TRUE AND y |= 0'), rule(b'y |= 0 AND TRUE'), b'(', XYZ + b'(', XYZ + RULE + b'(', XYZ + RULE + b'*', XYZ + RULE + b'WHEN x *']
     yield from [b'SLOT ' + b'a' * 24 + b' {b};', b'SLOT ' + b'a' * 25 + b' {b};', b'SLOT x {' + b'b' * 24 + b'};', b'SLOT x {' + b'b' * 25 + b'};', b'a' * 25, b'SLOT x ' + b'a' * 25, XYZ + RULE + b'a' * 25]
     c, d, e = b'WHEN z *= 1 IF y |= 0 THEN x := 1;', b'WHEN y *= 1 IF NOT x *= 1 THEN z := 1;', b'WHEN y *= 1 IF x |= 0 THEN x := 1;'
     yield from [XYZ + a + c, XYZ + c + a, XYZ + d + e, XYZ + e + d, XYZ + e + a + c, XYZ + a + b + e, rule(assign=b'x := 1'), rule(b'NOT y *= 1'), rule(b'NOT NOT y *= 1'), rule(b'y |= 1'), rule(b'y *= 0'), XYZ + a + c + b'(']
+    yield from circles()
     short = b'WHEN x*=1 IF TRUE THEN y:=1;'
     yield from [XYZ + RULE * 2, XYZ + short * 255 + b' ', XYZ + short * 256, XYZ + short * 255 + b'SLOT']
     yield from [b''.join(b'SLOT s%d {v};' % i for i in range(n)) for n in (32, 33)] + [b''.join(b'SLOT s%d {v};' % i for i in range(32)) + b'SLOT s1 (']

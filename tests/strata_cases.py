@@ -1,12 +1,13 @@
 #!/usr/bin/env python3
-"""The stored tables of the crate strata_cases, and what it should write of them, by a reckoning of its own made from document 01.
+"""The stored tables of the crate strata_cases, and what it should write of them, by a reckoning of its own made from document 01 and section 2 of document 02.
 
   tests/strata_cases.py          writes crates/strata_cases/stdin and stdout
   tests/strata_cases.py --check  says whether they are what it would write; exit status 1 where they are not
 
 A table here is (fill, counts, rules): what fills unused places, the values of each slot, and the rules; a rule is
 (trigger, literals, assignments, stratum), a literal (becomes, negated, slot, value). A longer list than the limit stands for a number that breaks it.
-Strata are the lengths of longest paths of dependence, found by depth first search; circles are found by search from each rule.
+Rules that come to each other by dependence make a knot, found by depth first search, forward and back. A circle through a NOT is a knot with
+a NOT among its own steps; where there is none, a stratum is one more than the most NOTs on a walk of dependence, reckoned knot by knot.
 """
 import random
 import sys
@@ -16,48 +17,64 @@ from stored import run
 SLOTS, VALUES, RULES, LITERALS, ASSIGNMENTS = 32, 15, 255, 8, 4
 
 
-def tested(rule):
-    """The pairs that a rule tests by *=: its trigger, and its literals *= with or without NOT."""
-    return {rule[0]} | {(s, v) for becomes, negated, s, v in rule[1] if becomes}
-
-
-def assigned(rule):
-    return set(rule[2])
+def tests(rule):
+    """The pairs that a rule tests by *=, each with 1 under NOT and 0 elsewhere: its trigger, and its literals *=."""
+    return [(rule[0], 0)] + [((s, v), negated) for becomes, negated, s, v in rule[1] if becomes]
 
 
 def dependences(rules):
-    """For each rule the rules that it depends on, all by number from 0."""
-    return [[m for m, other in enumerate(rules) if tested(rule) & assigned(other)] for rule in rules]
+    """For each rule its steps of dependence: each a rule by number from 0, and 1 under NOT."""
+    assigning = {}
+    for m, rule in enumerate(rules):
+        for pair in rule[2]:
+            assigning.setdefault(pair, set()).add(m)
+    return [{(m, under) for pair, under in tests(rule) for m in assigning.get(pair, ())} for rule in rules]
+
+
+def search(nexts, starts):
+    """For each start not met before, the numbers first met from it, depth first, each after those beyond it."""
+    met, groups = set(), []
+    for start in starts:
+        if start in met:
+            continue
+        met.add(start)
+        group, path = [], [(start, iter(nexts[start]))]
+        while path:
+            for m in path[-1][1]:
+                if m not in met:
+                    met.add(m)
+                    path.append((m, iter(nexts[m])))
+                    break
+            else:
+                group.append(path.pop()[0])
+        groups.append(group)
+    return groups
+
+
+def knots(edges):
+    """The sets of rules that come to each other, each after those that it depends on."""
+    nexts = [{m for m, under in steps} for steps in edges]
+    backs = [[] for steps in edges]
+    for n, steps in enumerate(nexts):
+        for m in steps:
+            backs[m].append(n)
+    order = [n for group in search(nexts, range(len(edges))) for n in group]
+    return [set(group) for group in reversed(search(backs, reversed(order)))]
 
 
 def circle(edges):
-    """The lowest rule, from 1, that can be reached from itself; None where there is none."""
-    for start in range(len(edges)):
-        seen, todo = set(), list(edges[start])
-        while todo:
-            at = todo.pop()
-            if at == start:
-                return start + 1
-            if at not in seen:
-                seen.add(at)
-                todo += edges[at]
-    return None
+    """The lowest rule, from 1, in a knot with a NOT among its own steps; None where there is none."""
+    through = [knot for knot in knots(edges) if any(under and m in knot for n in knot for m, under in edges[n])]
+    return min((min(knot) + 1 for knot in through), default=None)
 
 
 def strata(edges):
-    """The least strata where there is no circle: one more than the longest path of dependence from a rule."""
-    length = {}
-    for start in range(len(edges)):
-        todo = [start]
-        while todo:
-            at = todo[-1]
-            left = [m for m in edges[at] if m not in length]
-            if left:
-                todo += left
-            else:
-                length[at] = 1 + max((length[m] for m in edges[at]), default=0)
-                todo.pop()
-    return [length[n] for n in range(len(edges))]
+    """The least strata where no circle passes through a NOT: a knot has one number, that of the highest step out of it, or one more under NOT."""
+    numbers = {}
+    for knot in knots(edges):
+        high = max((numbers[m] + under for n in knot for m, under in edges[n] if m not in knot), default=1)
+        numbers.update((n, high) for n in knot)
+    return [numbers[n] for n in range(len(edges))]
 
 
 def well_formed(table):
@@ -88,16 +105,13 @@ def sound(table):
 
 def written(table):
     """What the program writes of a table."""
-    fill, counts, rules = table
     line = ' form %d sound %d' % (well_formed(table), sound(table))
     if well_formed(table):
-        edges = dependences(rules)
+        edges = dependences(table[2])
         low = circle(edges)
         if low is not None:
             return line + ' circle %d passes 1' % low
-        numbers = strata(edges)
-        now = (fill, counts, [(t, l, a, n) for (t, l, a, s), n in zip(rules, numbers)])
-        line += ' layered' + ''.join(' %d' % n for n in numbers) + ' passes %d' % sound(now)
+        line += ' layered' + ''.join(' %d' % n for n in strata(edges)) + ' passes %d' % sound(layered(table))
     return line
 
 
@@ -126,57 +140,154 @@ def pair(k):
 
 
 FULL = [VALUES] * SLOTS
+P = [pair(k) for k in range(480)]
 X, Y, Z = (0, 2), (1, 2), (2, 2)
 
 
-def cases():
-    three = [2, 2, 2]
+def full(*rules):
+    return (0, FULL, list(rules))
+
+
+def barred(table, *numbers):
+    """A table in which these rules, from 1, test under NOT what their triggers tested, and have one trigger that no rule assigns."""
+    fill, counts, rules = table
+    turned = [((31, 15), [(1, 1) + t] + l, a, s) if n in numbers else (t, l, a, s) for n, (t, l, a, s) in enumerate(rules, 1)]
+    return (fill, counts, turned)
+
+
+def carrying(table, *numbers):
+    """A table with these strata, the last of them for all rules that are left."""
+    fill, counts, rules = table
+    return (fill, counts, [(t, l, a, numbers[min(n, len(numbers) - 1)]) for n, (t, l, a, s) in enumerate(rules)])
+
+
+def layered(table):
+    """A table with its least strata."""
+    return carrying(table, *strata(dependences(table[2])))
+
+
+def backward(table):
+    """A table with its rules in the other order."""
+    return (table[0], table[1], table[2][::-1])
+
+
+def files(*lists):
+    """Tables over the three slots of document 01."""
+    return [(0, [2, 2, 2], list(rules)) for rules in lists]
+
+
+def documents():
+    """The cases of document 01 and the readings of section 2 of document 02."""
     a = rule(X, Z, had=[(1, 1)])
     b = rule(Z, Y, had=[(1, 1)])
     c = rule(Z, X, had=[(1, 1)])
     d = rule(Y, Z, under=[X])
     e = rule(Y, X, had=[(0, 1)])
     h = rule(X, (0, 1))
-
-    def files(*lists):
-        return [(0, three, list(rules)) for rules in lists]
-
-    # the cases of document 01, in either order
+    # the cases, in either order
     yield from files([], [a], [b], [a, b], [b, a], [a, c], [c, a], [d, e], [e, d], [h])
-    # a rule that tests what it assigns: in its trigger, plainly, under NOT; by |= it does not
-    yield from files([rule(X, X)], [rule(X, Y, plain=[Y])], [rule(X, Y, under=[Y])], [rule(X, Y, had=[Y])], [rule(X, Y, had_not=[Y])])
-    # NOT NOT is plain, so the same edges
-    yield from files([rule(X, Y), rule(Z, X, plain=[Y])], [rule(X, Y), rule(Z, X, under=[Y])], [rule(X, Y), rule(Z, X, had=[Y], had_not=[Y])])
-    p = [pair(k) for k in range(480)]
+    # a rule that tests what it assigns: in its trigger, plainly, under NOT, both; by |= it does not
+    yield from files([rule(X, X)], [rule(X, Y, plain=[Y])], [rule(X, Y, under=[Y])], [rule(X, Y, plain=[Y], under=[Y])], [rule(X, Y, had=[Y])], [rule(X, Y, had_not=[Y])])
+    # a circle of two: plain, under NOT, both, by |=
+    yield from files([rule(X, Y), rule(Z, X, plain=[Y])], [rule(X, Y), rule(Z, X, under=[Y])], [rule(X, Y), rule(Z, X, plain=[Y], under=[Y])], [rule(X, Y), rule(Z, X, had=[Y], had_not=[Y])])
+    # 1 waits for 2, 2 for 1 and under NOT for 3, 3 for 2: no circle through the NOT meets 1 without meeting 2 twice; the same in other orders, and without one of the three
+    one, two, three = rule(X, Y), rule(Y, X, under=[Z]), rule(X, Z)
+    yield from files([one, two, three], [three, two, one], [two, one, three], [one, three, two], [one, two], [one, three], [two, three])
 
-    def full(*rules):
-        return (0, FULL, list(rules))
 
-    # two circles, of which the one with the higher numbers is met first from rule 1; a rule between two circles
-    yield full(rule(p[0], p[1]), rule(p[2], p[3]), rule(p[3], p[2]), rule(p[4], p[5]), rule(p[5], p[4], plain=[p[3]]))
-    yield full(rule(p[9], p[0]), rule(p[4], p[5]), rule(p[7], p[8]), rule(p[5], p[4], plain=[p[8]]), rule(p[8], p[7]))
-    yield full(rule(p[1], p[4]), rule(p[0], p[1]), rule(p[1], p[0]), rule(p[4], p[5]), rule(p[5], p[4]))
+def circles():
+    """Circles, plain and through a NOT, and what leads into them or hangs from them."""
+    # two circles, of which the one with the higher numbers is met first from rule 1
+    two = full(rule(P[0], P[1]), rule(P[2], P[3]), rule(P[3], P[2]), rule(P[4], P[5]), rule(P[5], P[4], plain=[P[3]]))
+    yield from [two, barred(two, 2), barred(two, 4), barred(two, 3, 4), barred(two, 1)]
+    far = full(rule(P[9], P[0]), rule(P[4], P[5]), rule(P[7], P[8]), rule(P[5], P[4], plain=[P[8]]), rule(P[8], P[7]))
+    yield from [far, barred(far, 3), barred(far, 2), barred(far, 5, 4)]
+    # a rule between two circles
+    between = full(rule(P[1], P[4]), rule(P[0], P[1]), rule(P[1], P[0]), rule(P[4], P[5]), rule(P[5], P[4]))
+    yield from [between, barred(between, 1), barred(between, 4), barred(between, 3)]
     # rules that only lead into a circle, and rules that only hang from one
-    yield full(rule(p[1], p[9]), rule(p[2], p[1]), rule(p[3], p[2]), rule(p[2], p[3]), rule(p[7], p[8]))
-    yield full(rule(p[8], p[1]), rule(p[1], p[2]), rule(p[2], p[3]), rule(p[3], p[2]), rule(p[1], p[7]))
+    into = full(rule(P[1], P[9]), rule(P[2], P[1]), rule(P[3], P[2]), rule(P[2], P[3]), rule(P[7], P[8]))
+    yield from [into, barred(into, 4), barred(into, 1, 2), backward(barred(into, 4))]
+    from_it = full(rule(P[8], P[1]), rule(P[1], P[2]), rule(P[2], P[3]), rule(P[3], P[2]), rule(P[1], P[7]))
+    yield from [from_it, barred(from_it, 3), barred(from_it, 2), backward(barred(from_it, 3))]
+    # a plain circle of six, of which the last or the first rule is on a circle through a NOT too; the NOT elsewhere in the knot
+    six = [rule(P[i], P[(i + 1) % 6]) for i in range(6)]
+    last = rule(P[5], P[0], under=[P[10]])
+    yield full(*six[:5], last, rule(P[0], P[10]))
+    yield full(rule(P[5], P[10]), *six[:3], rule(P[3], P[4], under=[P[10]]), *six[4:])
+    yield full(*six, rule(P[2], P[10]), rule(P[10], P[11]), rule(P[31], P[2], under=[P[11]]))
+    yield full(*six, rule(P[2], P[10]), rule(P[31], P[11], under=[P[10]]), rule(P[11], P[12]), rule(P[12], P[4]))
+    yield full(*six, rule(P[2], P[10]), rule(P[31], P[11], under=[P[10]]), rule(P[11], P[12]), rule(P[12], P[13]))
+    yield full(rule(P[13], P[14]), *six, rule(P[2], P[10]), rule(P[10], P[11], under=[P[0]]), rule(P[11], P[13], under=[P[2]]))
+    # two circles through one rule, one of them through a NOT, and a third through a rule of the plain one
+    yield full(rule(P[20], P[21]), rule(P[21], P[20]), rule(P[20], P[1]), rule(P[1], P[20], under=[P[2]]), rule(P[20], P[2]))
+    # 255 rules in one circle through a NOT, and a circle at the end of a chain
+    ring = full(*[rule(P[i], P[(i + 1) % 255]) for i in range(255)])
+    yield from [barred(ring, 255), backward(barred(ring, 128))]
+    own = full(*[rule(P[i + 1], P[i]) for i in range(254)], rule(P[300], P[254], plain=[P[254]]))
+    yield from [barred(own, 100), full(*own[2][:254], rule(P[300], P[254], under=[P[254]]))]
+    end = full(*[rule(P[i], P[i + 1]) for i in range(253)], rule(P[254], P[253]), rule(P[253], P[254]))
+    yield from [barred(end, 100), barred(end, 255)]
+    # a plain circle of 252 rules, and a circle through a NOT that shares its last rule
+    shared = full(*[rule(P[i], P[(i + 1) % 252]) for i in range(251)], rule(P[251], P[0], under=[P[400]]), rule(P[0], P[399]), rule(P[399], P[400]))
+    yield from [shared, backward(shared)]
+
+
+def heights():
+    """Strata: pairs and slots, diamonds, chains."""
     # dependence is on pairs, not on slots
-    yield full(rule((0, 1), (0, 2)), rule((0, 2), (0, 3)), rule((0, 3), (0, 4)))
+    slots = full(rule((0, 1), (0, 2)), rule((0, 2), (0, 3)), rule((0, 3), (0, 4)))
+    yield from [slots, barred(slots, 2, 3)]
     # diamonds
-    yield full(rule(p[0], p[1]), rule(p[1], p[2]), rule(p[1], p[3]), rule(p[2], p[4], plain=[p[3]]))
-    yield full(rule(p[2], p[4], under=[p[3]]), rule(p[1], p[3]), rule(p[1], p[2]), rule(p[0], p[1]))
-    yield full(rule(p[0], p[1], p[2], p[3], p[4]), *[rule(p[1 + k % 4], p[10 + k], under=[p[10 + j] for j in range(max(0, k - 7), k)]) for k in range(20)])
+    sides = full(rule(P[0], P[1]), rule(P[1], P[2]), rule(P[1], P[3]), rule(P[2], P[4], plain=[P[3]]))
+    yield from [sides, barred(sides, 2), barred(sides, 3), barred(sides, 2, 3, 4)]
+    yield full(rule(P[2], P[4], under=[P[3]]), rule(P[1], P[3]), rule(P[1], P[2]), rule(P[0], P[1]))
+    yield full(rule(P[0], P[1], P[2], P[3], P[4]), *[rule(P[1 + k % 4], P[10 + k], under=[P[10 + j] for j in range(max(0, k - 7), k)]) for k in range(20)])
     # all 480 pairs in one chain: two tested and two assigned by each of 239 rules
-    yield full(*[rule(p[2 * i], p[2 * i + 2], p[2 * i + 3], plain=[p[2 * i + 1]]) for i in range(239)])
-    yield full(*[rule(p[2 * i], p[2 * i + 2], p[2 * i + 3], under=[p[2 * i + 1]]) for i in reversed(range(239))])
-    # 255 rules in one circle, and the circle at the end of a chain
-    yield full(*[rule(p[i], p[(i + 1) % 255]) for i in range(255)])
-    yield full(*[rule(p[i + 1], p[i]) for i in range(254)], rule(p[300], p[254], plain=[p[254]]))
-    yield full(*[rule(p[i], p[i + 1]) for i in range(253)], rule(p[254], p[253]), rule(p[253], p[254]))
+    yield full(*[rule(P[2 * i], P[2 * i + 2], P[2 * i + 3], plain=[P[2 * i + 1]]) for i in range(239)])
+    yield full(*[rule(P[2 * i], P[2 * i + 2], P[2 * i + 3], under=[P[2 * i + 1]]) for i in reversed(range(239))])
     # every rule tests nine pairs and assigns four
-    yield full(*[rule(p[i], *[p[i + 9 + j] for j in range(4)], plain=[p[i + j] for j in range(1, 9)]) for i in range(240)])
-    # 31: right strata, and each way to break it
-    good = [rule(X, Z, stratum=1), rule(Z, Y, stratum=2)]
-    yield from files(good, [good[0], rule(Z, Y, stratum=1)], [good[0], rule(Z, Y, stratum=3)], [rule(X, Z, stratum=2), rule(Z, Y, stratum=3)], [rule(X, Z, stratum=0), rule(Z, Y, stratum=1)])
+    yield full(*[rule(P[i], *[P[i + 9 + j] for j in range(4)], plain=[P[i + j] for j in range(1, 9)]) for i in range(240)])
+    # chains of 255 rules, plain above a NOT and under NOT throughout, with their strata and with the last one lower; shorter ones of which every other rule tests under NOT
+    chain = full(*[rule(P[i], P[i + 1]) for i in range(255)])
+    for table in (barred(chain, 2), barred(chain, *range(1, 256)), barred(full(*chain[2][:40]), *range(1, 41, 2))):
+        right = layered(table)
+        numbers = [r[3] for r in right[2]]
+        yield from [right, backward(right), backward(carrying(table, *numbers[:-1], numbers[-1] - 1))]
+
+
+def carried():
+    """31: right strata, and others."""
+    # a plain chain, and one under NOT
+    chain = full(rule(P[0], P[1]), rule(P[1], P[2]), rule(P[2], P[3]))
+    for numbers in ((1, 1, 1), (1, 2, 3), (1, 1, 2), (2, 2, 2), (3, 2, 1), (1, 1, 0), (0, 0, 0), (1, 2, 1)):
+        yield from [carrying(chain, *numbers), carrying(barred(chain, 2, 3), *numbers), carrying(barred(chain, 2), *numbers)]
+    # two rules that feed each other
+    pair_of = full(rule(P[0], P[1]), rule(P[1], P[0]))
+    yield from [carrying(pair_of, *numbers) for numbers in ((1, 1), (2, 2), (1, 2), (2, 1), (0, 0), (0, 1), (3, 3), (255, 255))]
+    # a rule that feeds itself, alone and above a NOT
+    yield from [carrying(full(rule(P[0], P[0])), n) for n in (0, 1, 2)]
+    lifted = full(rule(P[5], P[9]), rule(P[0], P[0], under=[P[9]]))
+    yield from [carrying(lifted, *numbers) for numbers in ((1, 1), (1, 2), (1, 3), (2, 3))]
+    # a plain circle above a NOT and a rule that hangs from it, plainly and under NOT
+    above = full(rule(P[5], P[9]), rule(P[0], P[1], under=[P[9]]), rule(P[1], P[0]), rule(P[1], P[7]))
+    for numbers in ((1, 2, 2, 2), (1, 3, 3, 3), (1, 1, 1, 1), (1, 2, 1, 1), (1, 2, 2, 3), (1, 2, 3, 3), (1, 3, 3, 4), (2, 3, 3, 3)):
+        yield from [carrying(above, *numbers), carrying(barred(above, 4), *numbers)]
+    # two plain circles, the second fed by the first: either may be lifted so that each number is what the others ask
+    twice = full(rule(P[0], P[1]), rule(P[1], P[0]), rule(P[1], P[2]), rule(P[2], P[3]), rule(P[3], P[2]))
+    yield from [carrying(twice, *numbers) for numbers in ((1,), (2,), (1, 1, 1, 2, 2), (2, 2, 1, 1, 1), (1, 1, 2, 2, 2))]
+    # 255 rules in a plain circle
+    ring = full(*[rule(P[i], P[(i + 1) % 255]) for i in range(255)])
+    yield from [carrying(ring, n) for n in (1, 2)]
+    # rules with a circle through a NOT carry no right numbers
+    yield from [carrying(barred(pair_of, 2), *numbers) for numbers in ((1, 1), (1, 2), (2, 1), (255, 255))]
+
+
+def forms():
+    """31: the other ways to break it."""
+    three = [2, 2, 2]
+    good = [rule(X, Z, stratum=1), rule(Y, Y, under=[Z], stratum=2)]
+    yield (0, three, good)
     yield (0, [2, 0, 2], [])
     yield (0, [2, 16, 2], [])
     yield (0, [], [])
@@ -189,15 +300,18 @@ def cases():
     yield from files(*[[rule(X, had=[q], stratum=1)] for q in ((0, 0), (0, 3), (3, 1))])
     yield from files(*[[rule(X, q, stratum=1)] for q in ((1, 0), (1, 3), (3, 1))])
     yield from files([rule(X, Y, Y, stratum=1)], [rule(X, Y, (1, 1), stratum=1)], [rule(X, Z, Y, stratum=1)], [rule(X, Y, Z, (1, 1), stratum=1)])
-    yield full(rule(p[0], had=[p[1]] * 8, stratum=1))
-    yield full(rule(p[0], had=[p[1]] * 9, stratum=1))
-    yield full(rule(p[0], p[1], p[2], p[3], p[4], stratum=1))
-    yield full(rule(p[0], p[1], p[2], p[3], p[4], p[5], stratum=1))
+    yield full(rule(P[0], had=[P[1]] * 8, stratum=1))
+    yield full(rule(P[0], had=[P[1]] * 9, stratum=1))
+    yield full(rule(P[0], P[1], P[2], P[3], P[4], stratum=1))
+    yield full(rule(P[0], P[1], P[2], P[3], P[4], P[5], stratum=1))
     # unused places hold anything
     for fill in (1, 2, 77, 255):
         yield (fill, three, good)
         yield (fill, [2], [rule((0, 1), stratum=1)])
-    # tables by chance
+
+
+def by_chance():
+    """Tables by chance: with any strata, or with the least where there are any, perhaps one of them changed."""
     chance = random.Random(5)
     for i in range(60):
         width = chance.randint(1, 6)
@@ -210,9 +324,27 @@ def cases():
         rules = []
         for n in range(chance.randint(1, 14)):
             slots = chance.sample(range(width), chance.randint(0, min(width, 3)))
-            literals = [(chance.randint(0, 1), chance.randint(0, 1)) + any_pair() for j in range(chance.randint(0, 3))]
+            literals = [(chance.randint(0, 1), int(not chance.randrange(i % 4 + 1))) + any_pair() for j in range(chance.randint(0, 3))]
             rules.append((any_pair(), literals, [(s, chance.randint(1, counts[s])) for s in slots], chance.randint(0, 3)))
-        yield (chance.randrange(256), counts, rules)
+        table = (chance.randrange(256), counts, rules)
+        if i % 2 and circle(dependences(rules)) is None:
+            table = layered(table)
+            numbers = [r[3] for r in table[2]]
+            numbers[chance.randrange(len(rules))] += chance.choice([0, 0, 1, -1])
+            table = carrying(table, *numbers)
+        yield table
+
+
+def cases():
+    for part in (documents, circles, heights, carried, forms, by_chance):
+        yield from part()
+
+
+def chain_line(word, rules):
+    """What the program writes of a chain that it makes itself: how many rules, the strata of the first and the last, whether it then passes."""
+    table = layered(full(*rules))
+    numbers = [r[3] for r in table[2]]
+    return '%s %d %d %d %d' % (word, len(rules), numbers[0], numbers[-1], sound(table))
 
 
 def stored():
@@ -223,8 +355,8 @@ def stored():
     assert len(stdin) <= 65536
     lines = ['case %d%s' % (i + 1, written(t)) for i, t in enumerate(tables)]
     for n in range(1, 256):
-        lines.append('forward %d %d %d 1' % (n, 1, n))
-        lines.append('backward %d %d %d 1' % (n, n, 1))
+        lines.append(chain_line('forward', [rule(P[i], P[i + 1]) for i in range(n)]))
+        lines.append(chain_line('backward', [rule(P[i + 1], P[i]) for i in range(n)]))
     yield 'crates/strata_cases/stdin', stdin
     yield 'crates/strata_cases/stdout', ''.join(line + '\n' for line in lines).encode()
 
