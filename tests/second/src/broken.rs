@@ -1,16 +1,17 @@
 //! An engine with one fault, for the comparison to find.
 
+use crate::broken_firing::fire;
 use crate::cards::{
     card_fields, card_length, faulty_changes, pack_card, pack_slip, put, slip_bytes, slip_fields, unpack_card,
     unpack_slip,
 };
 use crate::engine::{Engine, Second};
 use crate::fault::Fault;
-use crate::response::{conflict, fire, fired_count, needed, outcome, record, short_output};
-use crate::response::{Answer, Changes, Firing, Outputs, Tally, FULL};
-use crate::table::{Literal, Name, Pair, Program, Rule, Table};
+use crate::response::{conflict, fired_count, needed, outcome, record, short_output};
+use crate::response::{Answer, Changes, Outputs, Tally, FULL};
+use crate::table::{Name, Pair, Program, Table};
 use crate::table31::tested;
-use crate::{broken_print, broken_reading, refusal, Refusal};
+use crate::{broken_print, broken_reading, broken_strata, refusal, Refusal};
 
 /// The second engine with one fault, and the responses it has given.
 pub struct Broken {
@@ -95,39 +96,6 @@ impl Broken {
         }
     }
 
-    /// Whether a rule is enabled.
-    fn enabled(&self, card: &[u8], changes: &Changes, rule: &Rule) -> bool {
-        let had = |pair: &Pair| card[pair.0 as usize] == pair.1;
-        let empty = |pair: &Pair| card[pair.0 as usize] == 0;
-        let trigger = Literal { becomes: true, negated: false, pair: rule.trigger };
-        let holds = |literal: &Literal| match self.fault {
-            Fault::HadBecomes if literal.becomes && had(&literal.pair) => {
-                changes.contains(&literal.pair) != literal.negated
-            }
-            Fault::EmptyNeverBecomes if literal.becomes && empty(&literal.pair) => literal.negated,
-            Fault::EmptyNeverNegated if !literal.becomes && empty(&literal.pair) => false,
-            _ => crate::response::holds(card, changes, literal),
-        };
-        match self.fault {
-            Fault::NothingFires => false,
-            Fault::NothingNew if rule.assignments.iter().all(|pair| changes.contains(pair)) => false,
-            Fault::FirstFalseIgnored => {
-                holds(&trigger) && rule.literals.iter().filter(|literal| !holds(literal)).count() <= 1
-            }
-            Fault::StopsAtConflict if conflict(changes).is_some() => false,
-            _ => holds(&trigger) && rule.literals.iter().all(holds),
-        }
-    }
-
-    /// Fires the rules of a program.
-    fn fire(&self, program: &Program, card: &[u8], slip: &[Pair]) -> Firing {
-        let mut program = program.clone();
-        if self.fault == Fault::NumberOrder {
-            program.strata.fill(1);
-        }
-        fire(&program, slip, |changes, rule| self.enabled(card, changes, rule))
-    }
-
     /// The slot that came into conflict first.
     fn first_conflict(program: &Program, slip: &[Pair], fired: &[usize]) -> Option<u8> {
         let mut changes: Changes = slip.iter().copied().collect();
@@ -142,7 +110,7 @@ impl Broken {
 
     /// The answer that firing comes to, or 40.
     fn outcome(&self, program: &Program, card: &[u8], slip: &[Pair]) -> Result<Answer, Refusal> {
-        let mut firing = self.fire(program, card, slip);
+        let mut firing = fire(self.fault, program, card, slip);
         match self.fault {
             Fault::RecordReversed => firing.fired.iter_mut().for_each(|at| *at = program.rules.len() - 1 - *at),
             Fault::NoConflict => {
@@ -191,7 +159,7 @@ impl Broken {
 
     /// The answer to a card and a slip, or the refusal.
     fn answer(&mut self, table: &Table, card: &[u8], slip: &[u8], rooms: [usize; 3]) -> Result<Answer, Refusal> {
-        let program = broken_reading::program(self.fault, table)?;
+        let program = broken_strata::program(self.fault, table)?;
         if self.fault == Fault::SlipFirst {
             self.slip(&program, slip)?;
         }
@@ -245,7 +213,7 @@ impl Engine for Broken {
 
     fn strata(&mut self, table: &Table) -> Result<Vec<u8>, Refusal> {
         let program = crate::table31::unlayered(table)?;
-        broken_reading::strata(self.fault, &program.rules).map_err(|rule| refusal(18, rule))
+        broken_strata::strata(self.fault, &program.rules).map_err(|rule| refusal(18, rule))
     }
 
     fn slot_name(&mut self, text: &[u8], table: &Table, slot: u8) -> Result<Name, Refusal> {
@@ -262,19 +230,19 @@ impl Engine for Broken {
     }
 
     fn unpack_card(&mut self, table: &Table, card: &[u8]) -> Result<Vec<u8>, Refusal> {
-        self.card(&broken_reading::program(self.fault, table)?, card)
+        self.card(&broken_strata::program(self.fault, table)?, card)
     }
 
     fn unpack_slip(&mut self, table: &Table, slip: &[u8]) -> Result<Vec<Pair>, Refusal> {
-        self.slip(&broken_reading::program(self.fault, table)?, slip)
+        self.slip(&broken_strata::program(self.fault, table)?, slip)
     }
 
     fn pack_card(&mut self, table: &Table, values: &[u8], output: &mut [u8]) -> Result<usize, Refusal> {
-        put(&pack_card(&broken_reading::program(self.fault, table)?, values)?, output, 1)
+        put(&pack_card(&broken_strata::program(self.fault, table)?, values)?, output, 1)
     }
 
     fn pack_slip(&mut self, table: &Table, changes: &[Pair], output: &mut [u8]) -> Result<usize, Refusal> {
-        let program = broken_reading::program(self.fault, table)?;
+        let program = broken_strata::program(self.fault, table)?;
         let packed = instead_of(pack_slip(&program, changes), 24, || match self.fault {
             Fault::ManyChanges => self.changes(&program, changes).map(|_| Vec::new()),
             _ => Err(refusal(24, 0)),

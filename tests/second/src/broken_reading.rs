@@ -1,11 +1,9 @@
-//! Reading, strata and the test 31 with one fault.
+//! Reading with one fault.
 
+use crate::broken_strata::strata;
 use crate::fault::Fault;
 use crate::read::{completed, meaning, refusals, walk, AtToken, Production, Walk, Want, GRAMMAR, TEXT};
-use crate::rule_set::RuleSet;
-use crate::strata::{dependences, layers, on_circle};
-use crate::table::{table_of, LiteralPlace, Program, Rule, SlotLine, Table, LITERALS};
-use crate::table31::{tested, unlayered};
+use crate::table::{table_of, LiteralPlace, Rule, SlotLine, Table};
 use crate::text::Kind;
 use crate::{refusal, Refusal};
 
@@ -90,57 +88,6 @@ fn read_rules(fault: Fault, text: &[u8]) -> Result<(Vec<SlotLine>, Vec<Rule>), R
     Ok(meaning(text, &walk))
 }
 
-/// The rules as the fault's dependences see them.
-fn bent_rules(fault: Fault, rules: &[Rule]) -> Vec<Rule> {
-    let mut bent = rules.to_vec();
-    for literal in bent.iter_mut().flat_map(|rule| rule.literals.iter_mut()) {
-        match fault {
-            Fault::WasBinds => literal.becomes = true,
-            Fault::NegatedFree => literal.becomes &= !literal.negated,
-            _ => {}
-        }
-    }
-    for rule in &mut bent {
-        if fault == Fault::TriggerFree {
-            rule.trigger = (u8::MAX, 0);
-        }
-        if fault == Fault::SlotsBind {
-            rule.trigger.1 = 1;
-            rule.literals.iter_mut().for_each(|literal| literal.pair.1 = 1);
-            rule.assignments.iter_mut().for_each(|pair| pair.1 = 1);
-        }
-    }
-    bent
-}
-
-/// The rule that 18 names, from 1.
-fn circle_rule(fault: Fault, dependences: &[RuleSet]) -> usize {
-    let circle = on_circle(dependences);
-    let reaches_circle = |at: &usize| {
-        let mut with = dependences.to_vec();
-        circle.iter().for_each(|from| with[*from].put(*at));
-        on_circle(&with).contains(at)
-    };
-    match fault {
-        Fault::HighestOnCircle => circle[circle.len() - 1] + 1,
-        Fault::BehindCircle => (0..dependences.len()).find(reaches_circle).map_or(0, |at| at + 1),
-        _ => circle[0] + 1,
-    }
-}
-
-/// The strata by the fault, or the rule that 18 names.
-pub fn strata(fault: Fault, rules: &[Rule]) -> Result<Vec<u8>, usize> {
-    let dependences = dependences(&bent_rules(fault, rules));
-    match layers(&dependences) {
-        Some(numbers) if fault == Fault::StrataTooHigh => {
-            Ok(numbers.iter().map(|number| number.saturating_add(1)).collect())
-        }
-        Some(_) if fault == Fault::NoStrata && !rules.is_empty() => Err(1),
-        Some(numbers) => Ok(numbers),
-        None => Err(circle_rule(fault, &dependences)),
-    }
-}
-
 /// Reads a text with a fault.
 pub fn read(fault: Fault, text: &[u8]) -> (Option<Refusal>, Box<Table>) {
     let (lines, rules) = match read_rules(fault, text) {
@@ -159,27 +106,4 @@ pub fn read(fault: Fault, text: &[u8]) -> (Option<Refusal>, Box<Table>) {
         }
     }
     (numbers.err(), table)
-}
-
-/// Whether some used rule has an unused literal place that is not zero.
-fn unused_literals(table: &Table) -> bool {
-    let used = &table.rules[..table.count];
-    used.iter()
-        .any(|rule| rule.literals[rule.tested.min(LITERALS)..].iter().any(|place| *place != LiteralPlace::default()))
-}
-
-/// The test 31 with a fault.
-pub fn program(fault: Fault, table: &Table) -> Result<Program, Refusal> {
-    let program = unlayered(table)?;
-    let refused = match fault {
-        Fault::StrataUntested => false,
-        Fault::UnusedTested => tested(table).is_err() || unused_literals(table),
-        Fault::NoAssignments => tested(table).is_err() || program.rules.iter().any(|rule| rule.assignments.is_empty()),
-        _ => strata(fault, &program.rules).as_ref() != Ok(&program.strata),
-    };
-    if refused {
-        Err(refusal(31, 0))
-    } else {
-        Ok(program)
-    }
 }

@@ -5,7 +5,7 @@ use std::path::Path;
 
 use crate::engine::{Engine, Second};
 use crate::gen::{self, any_file, File, Rng};
-use crate::gen_tables::damaged;
+use crate::gen_tables::{circled_table, damaged};
 use crate::gen_text::Sketch;
 use crate::print::{print_of, put};
 use crate::raw::PRINT_BYTES;
@@ -180,6 +180,22 @@ fn fitting(rng: &mut Rng, file: &File, table: &Table) -> Sketch {
     }
 }
 
+/// A table for the test 31: the one that was read, changed; for a file refused with 18 often its rules with numbers that are no strata, changed or not.
+fn changed_table(rng: &mut Rng, text: &[u8], refused: Option<Refusal>, table: &Table) -> Box<Table> {
+    let circled = refused.map_or(false, |why| why.number == 18) && rng.chance(1, 2);
+    match circled.then(|| read_rules(text)) {
+        Some(Ok((lines, rules))) => {
+            let circled = circled_table(rng, &lines, &rules);
+            if rng.chance(1, 2) {
+                circled
+            } else {
+                damaged(rng, &circled, text.len())
+            }
+        }
+        _ => damaged(rng, table, text.len()),
+    }
+}
+
 /// An entry for a table made from a sketch.
 fn entry(rng: &mut Rng, sketch: &Sketch, table: &Table, tally: Tally) -> Entry {
     Entry {
@@ -226,17 +242,18 @@ pub fn compare_seed(other: &mut dyn Engine, seed: u64) -> Result<(), Box<Failing
     compare_print(other, &file.text, refused).map_err(|difference| failing(None, difference))?;
     compare_strata(other, &file.text).map_err(|difference| failing(None, difference))?;
     compare_names(other, &file.text, &table).map_err(|difference| failing(None, difference))?;
-    let fitting = fitting(&mut rng, &file, &table);
-    let day = compare_day(other, &fitting, &table, &mut rng);
+    let sketch = fitting(&mut rng, &file, &table);
+    let day = compare_day(other, &sketch, &table, &mut rng);
     day.map_err(|(entry, difference)| failing(Some(entry), difference))?;
-    let changed = damaged(&mut rng, &table, file.text.len());
+    let changed = changed_table(&mut rng, &file.text, refused, &table);
     let on_table = |mut difference: Difference| {
         difference.place += " (on a changed table)";
         difference
     };
     let names = compare_names(other, &file.text, &changed);
     names.map_err(|difference| failing(None, on_table(difference)))?;
-    let day = compare_day(other, &fitting, &changed, &mut rng);
+    let sketch = fitting(&mut rng, &file, &changed);
+    let day = compare_day(other, &sketch, &changed, &mut rng);
     day.map_err(|(entry, difference)| failing(Some(entry), on_table(difference)))
 }
 
@@ -300,7 +317,7 @@ pub fn refusals_met(first: u64, rounds: u64) -> std::collections::BTreeMap<u8, u
         *met.entry(refused.map_or(0, |why| why.number)).or_default() += 1;
         let print = Second.print(&file.text, &mut [0; 40]);
         *met.entry(print.err().map_or(0, |why| why.number)).or_default() += 1;
-        for changed in [None, Some(damaged(&mut rng, &table, file.text.len()))] {
+        for changed in [None, Some(changed_table(&mut rng, &file.text, refused, &table))] {
             let tally = gen::tally(&mut rng);
             let table = changed.as_ref().unwrap_or(&table);
             let sketch = fitting(&mut rng, &file, table);

@@ -37,16 +37,34 @@ faults! {
     NinthLiteralLate,
     /// An undeclared value is let through, and the table comes back empty.
     UndeclaredValue,
-    /// 18 names the highest rule on a circle.
+    /// 18 names the highest rule on a circle through a NOT.
     HighestOnCircle,
-    /// 18 names the lowest rule that gets no stratum, on a circle or behind one.
+    /// 18 names the lowest rule that gets no stratum, on a circle through a NOT or behind one.
     BehindCircle,
+    /// 18 names the lowest rule on a circle through a NOT or waited for by one.
+    BeforeCircle,
+    /// 18 names the lowest rule on a circle, a plain one too.
+    LowestOnAnyCircle,
+    /// 18 names the lowest rule on a circle through a NOT that meets no rule twice.
+    SimpleCircles,
+    /// 18 names the lowest rule whose own NOT is on a circle.
+    OwnNotOnly,
+    /// A plain circle is 18.
+    PlainCircleRefused,
+    /// A rule that plainly tests what it assigns is 18.
+    OwnTestRefused,
+    /// A rule's NOT on what it assigns itself binds nothing.
+    OwnNotFree,
     /// No file has strata.
     NoStrata,
     /// `|=` binds.
     WasBinds,
-    /// A test under NOT binds nothing.
-    NegatedFree,
+    /// A plain test needs a lower stratum.
+    PlainFalls,
+    /// The trigger needs a lower stratum.
+    TriggerFalls,
+    /// A test under NOT may stay level.
+    NegatedLevel,
     /// The trigger binds nothing.
     TriggerFree,
     /// A test of a slot binds to all its values.
@@ -61,8 +79,16 @@ faults! {
     NameAtEnd,
     /// Names are shown only from tables that pass 31.
     NameTested,
-    /// Other than the least strata are let through.
+    /// Any numbers are let through as strata.
     StrataUntested,
+    /// Any strata are let through, the least or not.
+    AnyStrata,
+    /// Numbers are let through where each is what its rule needs by the others.
+    EachAsAsked,
+    /// The least strata that fall at plain tests too are let through.
+    FallingStrata,
+    /// Stratum 0 is let through in place of 1.
+    ZeroStratum,
     /// 31 looks at unused literal places.
     UnusedTested,
     /// A table's rule without assignments is 31.
@@ -103,6 +129,12 @@ faults! {
     FirstFalseIgnored,
     /// Rules are fired in number order, strata are not looked at.
     NumberOrder,
+    /// Each stratum is passed over once.
+    OnePass,
+    /// A rule's own assignment may be its cause.
+    OwnCause,
+    /// Rules of one stratum may be each other's only cause.
+    SharedCause,
     /// A rule whose assignments are all in C already does not fire.
     NothingNew,
     /// 40 names the slot that came into conflict first.

@@ -1,12 +1,15 @@
 //! Demand 3 by experiment: every complete and consistent firing order ends as the response does, and rearranged files agree.
 
-use std::collections::BTreeSet;
+use std::collections::{BTreeMap, BTreeSet};
 
-use crate::cards::{unpack_card, unpack_slip};
+use crate::cards::{card_bytes, slip_bytes, unpack_card, unpack_slip};
 use crate::engine::Engine;
-use crate::gen::Rng;
+use crate::gen::{card_values, plain_file, slip_changes, Rng};
+use crate::gen_rules::{sketch, Ranks, Shape};
+use crate::kinds::{response_kinds, text_kinds, Kind};
 use crate::orders::{complete_orders, complete_sets, consistent_ends, end, End, Moment};
 use crate::response::{Changes, Outputs, Tally};
+use crate::strata::strata;
 use crate::table::Table;
 use crate::table31::tested;
 use crate::text::pieces;
@@ -35,9 +38,10 @@ fn fired_positions(record: &[u8]) -> BTreeSet<usize> {
     (0..record.len() * 8).filter(|at| record[at / 8] >> (7 - at % 8) & 1 == 1).collect()
 }
 
-/// What was counted over many checks: files; responses answered and in conflict; complete orders; responses where several rules fire; responses where some complete order is not consistent; the longest order; rearranged files.
+/// What was counted over many checks: files refused and accepted; responses answered and in conflict; complete orders; responses where several rules fire; responses where some complete order is not consistent; the longest order; rearranged files; the kinds of files and responses.
 #[derive(Default, Debug)]
 pub struct Counts {
+    pub refused: usize,
     pub files: usize,
     pub answered: usize,
     pub conflicts: usize,
@@ -46,6 +50,14 @@ pub struct Counts {
     pub inconsistent: usize,
     pub longest: usize,
     pub rearranged: usize,
+    pub kinds: BTreeMap<Kind, usize>,
+}
+
+impl Counts {
+    /// Counts kinds.
+    fn meet(&mut self, kinds: Vec<Kind>) {
+        kinds.into_iter().for_each(|kind| *self.kinds.entry(kind).or_default() += 1);
+    }
 }
 
 /// The complete orders, each by itself where they are few, else one for each set of fired rules; None where even those are too many.
@@ -138,4 +150,48 @@ pub fn check_rearranged(
     } else {
         Err(format!("a rearranged file gives {new:?}, not {old:?}"))
     }
+}
+
+/// The shape of a small file: few pairs, so that rules meet each other.
+fn small(rng: &mut Rng) -> Shape {
+    Shape {
+        slots: 2 + rng.below(4),
+        values: 1 + rng.below(3),
+        rules: 1 + rng.below(9),
+        literals: rng.below(4),
+        assignments: 1 + rng.below(2),
+        ranks: *rng.pick(&[Ranks::Free, Ranks::Below, Ranks::Below, Ranks::Level, Ranks::Level, Ranks::Level]),
+    }
+}
+
+/// Checks a generated small file: that it is accepted where its rules have strata, and then on several cards and slips all firing orders, and the file rearranged; what fails is said.
+pub fn check_small(engine: &mut dyn Engine, seed: u64, counts: &mut Counts) -> Result<(), String> {
+    let mut rng = Rng::new(seed);
+    let shape = small(&mut rng);
+    let sketch = sketch(&mut rng, &shape);
+    let file = plain_file(&mut rng, sketch);
+    let (refused, table) = engine.read(&file.text);
+    match (refused, strata(&file.sketch.rules)) {
+        (None, Ok(_)) => {}
+        (Some(_), Err(_)) => {
+            counts.refused += 1;
+            return Ok(());
+        }
+        (_, wanted) => return Err(format!("seed {seed}: reading gives {refused:?} where strata are {wanted:?}")),
+    }
+    counts.files += 1;
+    counts.meet(text_kinds(&file.text));
+    for _ in 0..5 {
+        let card = card_bytes(&card_values(&mut rng, &file.sketch));
+        let slip = slip_bytes(&slip_changes(&mut rng, &file.sketch));
+        counts.meet(response_kinds(&table, &card, &slip));
+        let orders = check_orders(engine, &table, &card, &slip, counts);
+        let moved = orders.and_then(|_| check_rearranged(engine, &file.text, &table, (&card, &slip), &mut rng));
+        moved.map_err(|why| {
+            let text = String::from_utf8_lossy(&file.text);
+            format!("seed {seed}: {why}\n{text}\ncard {card:02X?} slip {slip:02X?}")
+        })?;
+        counts.rearranged += 1;
+    }
+    Ok(())
 }

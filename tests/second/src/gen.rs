@@ -2,8 +2,9 @@
 
 use crate::cards::{card_bytes, card_length, slip_bytes, slip_length};
 use crate::gen_print::long_print;
+use crate::gen_rules::{chain, sketch, Ranks, SHAPES};
 use crate::gen_text::{crowd, damage_bytes, damage_condition, damage_near, damage_tokens, double};
-use crate::gen_text::{join, sketch, sketch_tokens, Sketch, SHAPES};
+use crate::gen_text::{join, sketch_tokens, Sketch};
 use crate::read::TEXT;
 use crate::response::Tally;
 use crate::table::Pair;
@@ -71,11 +72,16 @@ fn fill(rng: &mut Rng, text: &mut Vec<u8>) {
     text.resize(length.max(text.len()), b' ');
 }
 
-/// A sketch of any shape.
+/// A sketch of any shape, or a chain.
 pub fn any_sketch(rng: &mut Rng) -> Sketch {
+    if rng.chance(1, 120) {
+        return chain(rng);
+    }
     let size = *rng.pick(&[0, 0, 0, 0, 1, 1, 1, 1, 1, 1, 1, 1, 2, 2, 2, 2, 2, 2, 2, 2, 3, 3, 3, 3, 4]);
     let mut shape = SHAPES[size];
-    shape.ranked ^= rng.chance(1, 6);
+    if rng.chance(2, 3) {
+        shape.ranks = *rng.pick(&[Ranks::Free, Ranks::Planted, Ranks::Below, Ranks::Below]);
+    }
     sketch(rng, &shape)
 }
 
@@ -89,7 +95,7 @@ fn damage_file(rng: &mut Rng, tokens: &mut Vec<String>, way: usize) {
         4 => damage_condition(rng, tokens),
         _ => {}
     }
-    if way < 5 && rng.chance(1, 3) {
+    if way < 5 && rng.chance(if way == 0 { 2 } else { 1 }, 3) {
         damage_near(rng, tokens);
     }
 }
@@ -136,7 +142,7 @@ pub fn card_values(rng: &mut Rng, sketch: &Sketch) -> Vec<u8> {
     sketch.likely.iter().zip(sketch.lasts()).map(value).collect()
 }
 
-/// Changes of rising slots, often those that rules wait for.
+/// Changes of rising slots, often those that rules wait for; now and then one alone, if it can be one that no rule makes.
 pub fn slip_changes(rng: &mut Rng, sketch: &Sketch) -> Vec<Pair> {
     let often = 1 + rng.below(6);
     let mut changes = Vec::new();
@@ -151,6 +157,11 @@ pub fn slip_changes(rng: &mut Rng, sketch: &Sketch) -> Vec<Pair> {
             };
             changes.push((slot as u8, value));
         }
+    }
+    if rng.chance(1, 5) && !changes.is_empty() {
+        let unmade = |change: &Pair| sketch.rules.iter().all(|rule| !rule.assignments.contains(change));
+        let outside: Vec<Pair> = changes.iter().copied().filter(unmade).collect();
+        changes = vec![*rng.pick(if outside.is_empty() { &changes } else { &outside })];
     }
     changes
 }

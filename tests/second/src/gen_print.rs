@@ -1,13 +1,14 @@
 //! Generated rule files whose print comes up to its limit or passes it, from texts that do not.
 
 use crate::gen::{File, Rng};
-use crate::gen_text::{join, sketch, sketch_tokens, Shape, Sketch};
+use crate::gen_rules::{sketch, Ranks, Shape};
+use crate::gen_text::{join, sketch_tokens, Sketch};
 use crate::print::styled;
 use crate::raw::PRINT_BYTES;
 use crate::table::{Literal, Rule, LITERALS, RULES, SLOTS, VALUES};
 
 /// The shape that the slots and rules are taken from.
-const SHAPE: Shape = Shape { slots: 8, values: 4, rules: 40, literals: 8, assignments: 4, ranked: true };
+const SHAPE: Shape = Shape { slots: 8, values: 4, rules: 40, literals: 8, assignments: 4, ranks: Ranks::Below };
 
 /// The fewest bytes and the most that a slot line prints as where the slot's name has one byte.
 const LEAST: usize = 14;

@@ -1,9 +1,10 @@
-//! Generated tables: one that was read, changed at one place.
+//! Generated tables: one that was read, changed at one place or in its strata, and ones of rules with a circle through a NOT.
 
 use crate::gen::Rng;
-use crate::table::{
-    AssignmentPlace, LiteralPlace, Name, RulePlace, Table, ASSIGNMENTS, LITERALS, RULES, SLOTS, VALUES,
-};
+use crate::other_strata::falling;
+use crate::strata::{asked, raised, waits};
+use crate::table::{program_in, table_of, AssignmentPlace, LiteralPlace, Name, Rule, RulePlace, SlotLine, Table};
+use crate::table::{ASSIGNMENTS, LITERALS, RULES, SLOTS, VALUES};
 
 /// A count about a limit or about what it was.
 fn any_count(rng: &mut Rng, count: usize, limit: usize) -> usize {
@@ -57,17 +58,47 @@ fn damage_rule(rng: &mut Rng, rule: &mut RulePlace) {
     }
 }
 
-/// A table changed at one place; a text of a length is what its names stand in.
+/// Changes the strata of a table: all one higher, all 1, all 0, a rule and what must follow it higher, all of one stratum lower, or the least that fall at plain tests too.
+fn damage_strata(rng: &mut Rng, table: &mut Table) {
+    let program = program_in(table);
+    let waits = waits(&program.rules);
+    let numbers: Vec<usize> = program.strata.iter().map(|number| usize::from(*number)).collect();
+    let at = rng.below(numbers.len().max(1));
+    let changed = match rng.below(7) {
+        0 => numbers.iter().map(|number| (number + 1).min(255)).collect(),
+        1 => vec![1; numbers.len()],
+        2 => vec![0; numbers.len()],
+        3 => raised(&falling(&waits), vec![1; numbers.len()], numbers.len()).unwrap_or(numbers),
+        4 => numbers.iter().map(|number| number - usize::from(*number == numbers[at] && *number > 0)).collect(),
+        _ => {
+            let mut lifted = numbers.clone();
+            lifted.iter_mut().skip(at).take(1).for_each(|number| *number += 1 + rng.below(2));
+            raised(&waits, lifted, 255).unwrap_or(numbers)
+        }
+    };
+    table.rules.iter_mut().zip(changed).for_each(|(rule, number)| rule.stratum = number as u8);
+}
+
+/// A table changed at one place or in its strata; a text of a length is what its names stand in.
 pub fn damaged(rng: &mut Rng, table: &Table, length: usize) -> Box<Table> {
     let mut changed = Box::new(*table);
     let rule = rng.below(RULES.min(table.count + 1));
-    match rng.below(10) {
+    match rng.below(12) {
         0 => changed.width = any_count(rng, table.width, SLOTS),
         1 => changed.count = any_count(rng, table.count, RULES),
         2 | 3 => damage_slot(rng, &mut changed, length),
-        4 => changed.rules[..table.count].iter_mut().for_each(|rule| rule.stratum = rule.stratum.saturating_add(1)),
-        5 => changed.rules[..table.count].iter_mut().for_each(|rule| rule.stratum = 1),
+        4..=6 => damage_strata(rng, &mut changed),
         _ => damage_rule(rng, &mut changed.rules[rule]),
     }
     changed
+}
+
+/// A table of rules with a circle through a NOT, its numbers all alike or raised a few times.
+pub fn circled_table(rng: &mut Rng, lines: &[SlotLine], rules: &[Rule]) -> Box<Table> {
+    let waits = waits(rules);
+    let mut numbers = vec![rng.below(2); rules.len()];
+    for _ in 0..rng.below(4) {
+        (0..rules.len()).for_each(|at| numbers[at] = asked(&waits[at], &numbers).min(255));
+    }
+    table_of(lines, rules, &numbers.iter().map(|number| *number as u8).collect::<Vec<u8>>())
 }

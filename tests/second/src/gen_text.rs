@@ -1,28 +1,8 @@
-//! Generated rule files: of every shape up to the limits, beyond them, and damaged.
+//! Generated rule texts: the tokens of sketches within the limits and beyond them, and what damages them.
 
 use crate::gen::Rng;
 use crate::read::{refusals, walk, GRAMMAR};
 use crate::table::{Literal, Pair, Rule};
-
-/// The most slots, values, rules, literals and assignments of a generated file, and whether its pairs have ranks, so that no circle can come.
-#[derive(Clone, Copy, Debug)]
-pub struct Shape {
-    pub slots: usize,
-    pub values: usize,
-    pub rules: usize,
-    pub literals: usize,
-    pub assignments: usize,
-    pub ranked: bool,
-}
-
-/// Shapes from the smallest to the limits.
-pub const SHAPES: [Shape; 5] = [
-    Shape { slots: 2, values: 2, rules: 3, literals: 2, assignments: 2, ranked: false },
-    Shape { slots: 4, values: 2, rules: 6, literals: 2, assignments: 2, ranked: true },
-    Shape { slots: 6, values: 3, rules: 12, literals: 4, assignments: 3, ranked: true },
-    Shape { slots: 12, values: 6, rules: 40, literals: 8, assignments: 4, ranked: true },
-    Shape { slots: 32, values: 15, rules: 255, literals: 8, assignments: 4, ranked: true },
-];
 
 /// What a file is to say: names of slots and values, rules by their pairs, and a card that fits many of its conditions.
 #[derive(Clone, Debug)]
@@ -64,121 +44,13 @@ pub fn fresh_name(rng: &mut Rng, taken: &[String]) -> String {
 }
 
 /// Distinct names, as many as asked for.
-fn names(rng: &mut Rng, count: usize) -> Vec<String> {
+pub fn names(rng: &mut Rng, count: usize) -> Vec<String> {
     let mut names = Vec::new();
     for _ in 0..count {
         let name = fresh_name(rng, &names);
         names.push(name);
     }
     names
-}
-
-/// All pairs of slots and values, shuffled: a pair's rank is its place.
-fn ranked_pairs(rng: &mut Rng, lasts: &[u8]) -> Vec<Pair> {
-    let mut pairs: Vec<Pair> = Vec::new();
-    for (slot, last) in lasts.iter().enumerate() {
-        pairs.extend((1..=*last).map(|value| (slot as u8, value)));
-    }
-    rng.shuffle(&mut pairs);
-    pairs
-}
-
-/// A few of the pairs, in their ranks, for many rules to meet at.
-fn busy_pairs(rng: &mut Rng, pairs: &[Pair]) -> Vec<Pair> {
-    let count = pairs.len().min(2 + rng.below(8));
-    let mut kept: Vec<usize> = (0..pairs.len()).collect();
-    rng.shuffle(&mut kept);
-    kept.truncate(count);
-    kept.sort_unstable();
-    kept.into_iter().map(|at| pairs[at]).collect()
-}
-
-/// A pair to be tested by `*=`: often one that an earlier rule assigns.
-fn awaited(rng: &mut Rng, testable: &[Pair], assigned: &[Pair]) -> Pair {
-    if assigned.is_empty() || rng.chance(1, 2) {
-        *rng.pick(testable)
-    } else {
-        *rng.pick(assigned)
-    }
-}
-
-/// A literal over the pairs that may be tested by `*=`, mostly one that holds on the likely card.
-fn literal(rng: &mut Rng, testable: &[Pair], all: &[Pair], likely: &[u8], assigned: &[Pair]) -> Literal {
-    if rng.chance(1, 2) {
-        return Literal { becomes: true, negated: rng.chance(3, 4), pair: awaited(rng, testable, assigned) };
-    }
-    let pair = *rng.pick(all);
-    let had = likely[pair.0 as usize] == pair.1;
-    Literal { becomes: false, negated: if rng.chance(3, 4) { !had } else { had }, pair }
-}
-
-/// Assignments to distinct slots.
-fn assignments(rng: &mut Rng, assignable: &[Pair], most: usize) -> Vec<Pair> {
-    let mut found: Vec<Pair> = Vec::new();
-    let wanted = if rng.chance(1, 4) { most } else { 1 + rng.below(most.min(2)) };
-    for _ in 0..8 * wanted {
-        let pair = *rng.pick(assignable);
-        if found.len() < wanted && found.iter().all(|other| other.0 != pair.0) {
-            found.push(pair);
-        }
-    }
-    found
-}
-
-/// A rule; where pairs are ranked it tests lower ranks than it assigns.
-fn rule(rng: &mut Rng, shape: &Shape, pairs: &[Pair], likely: &[u8], before: &[Rule]) -> Rule {
-    let cut = 1 + rng.below(pairs.len().max(2) - 1);
-    let ranked = shape.ranked && pairs.len() > 1;
-    let (testable, assignable) = if ranked { pairs.split_at(cut) } else { (pairs, pairs) };
-    let few = if rng.chance(1, 6) { shape.literals } else { shape.literals.min(2) };
-    let count = if rng.chance(1, 12) { shape.literals } else { rng.below(few + 1) };
-    let earlier = before.iter().flat_map(|rule| rule.assignments.iter().copied());
-    let assigned: Vec<Pair> = earlier.filter(|pair| testable.contains(pair)).collect();
-    Rule {
-        trigger: awaited(rng, testable, &assigned),
-        literals: (0..count).map(|_| literal(rng, testable, pairs, likely, &assigned)).collect(),
-        assignments: assignments(rng, assignable, shape.assignments),
-    }
-}
-
-/// A rule with an earlier rule's trigger that asks under NOT for what that rule assigns, and assigns pairs of higher rank.
-fn rival(rng: &mut Rng, shape: &Shape, pairs: &[Pair], before: &[Rule]) -> Option<Rule> {
-    let other = before.get(rng.below(before.len().max(1)))?;
-    let rank = |pair: &Pair| pairs.iter().position(|ranked| ranked == pair);
-    let highest = other.assignments.iter().filter_map(rank).max()?;
-    let above = pairs.get(highest + 1..).filter(|above| !above.is_empty() && shape.literals > 0)?;
-    Some(Rule {
-        trigger: other.trigger,
-        literals: vec![Literal { becomes: true, negated: true, pair: pairs[highest] }],
-        assignments: assignments(rng, above, shape.assignments),
-    })
-}
-
-/// A sketch of a shape.
-pub fn sketch(rng: &mut Rng, shape: &Shape) -> Sketch {
-    let count = |rng: &mut Rng, most: usize| if rng.chance(1, 4) { most } else { 1 + rng.below(most) };
-    let slots = count(rng, shape.slots);
-    let slot_names = names(rng, slots);
-    let named = slot_names.into_iter().map(|name| {
-        let values = count(rng, shape.values);
-        (name, names(rng, values))
-    });
-    let names: Vec<(String, Vec<String>)> = named.collect();
-    let lasts: Vec<u8> = names.iter().map(|slot| slot.1.len() as u8).collect();
-    let likely: Vec<u8> = lasts.iter().map(|last| rng.below(*last as usize + 1) as u8).collect();
-    let pairs = ranked_pairs(rng, &lasts);
-    let changing: Vec<Pair> = pairs.iter().copied().filter(|pair| likely[pair.0 as usize] != pair.1).collect();
-    let busy = busy_pairs(rng, if changing.len() > 1 { &changing } else { &pairs });
-    let mut rules = Vec::new();
-    let wanted = if rng.chance(1, 20) { 0 } else { count(rng, shape.rules) };
-    for _ in 0..wanted {
-        let pairs = if rng.chance(4, 5) { &busy } else { &pairs };
-        let rival = if rng.chance(1, 5) { rival(rng, shape, pairs, &rules) } else { None };
-        let made = rival.unwrap_or_else(|| rule(rng, shape, pairs, &likely, &rules));
-        rules.push(made);
-    }
-    rng.shuffle(&mut rules);
-    Sketch { names, rules, likely }
 }
 
 /// Breaks one limit of a sketch, or comes up to it.

@@ -1,8 +1,10 @@
 //! A second engine for RL, made from the papers apart from the proved one, and its comparison with other engines.
 
 pub mod broken;
+pub mod broken_firing;
 pub mod broken_print;
 pub mod broken_reading;
+pub mod broken_strata;
 pub mod cards;
 pub mod compare;
 pub mod engine;
@@ -10,10 +12,13 @@ pub mod fault;
 pub mod firing_checks;
 pub mod gen;
 pub mod gen_print;
+pub mod gen_rules;
 pub mod gen_tables;
 pub mod gen_text;
+pub mod kinds;
 pub mod listing;
 pub mod orders;
+pub mod other_strata;
 pub mod print;
 pub mod print_lines;
 pub mod program_cases;

@@ -12,10 +12,15 @@ pub const D: &str = "WHEN y *= 1 IF NOT x *= 1 THEN z := 1;";
 pub const E: &str = "WHEN y *= 1 IF x |= 0 THEN x := 1;";
 pub const H: &str = "WHEN x *= 1 IF TRUE THEN x := 0;";
 
-/// The card on which the three slots are 0, and the slips that change x or y to 1.
+/// Rules of which the first waits for the second, the second for the first and under NOT for the third, the third for the second.
+pub const MIXED: [&str; 3] =
+    ["WHEN x *= 1 IF TRUE THEN y := 1;", "WHEN y *= 1 IF NOT z *= 1 THEN x := 1;", "WHEN x *= 1 IF TRUE THEN z := 1;"];
+
+/// The card on which the three slots are 0, and the slips that change x, y or z to 1.
 pub const ZEROS: [u8; 3] = [0x0C, 0x44, 0x40];
 pub const X_TO_1: [u8; 2] = [0x04, 0x04];
 pub const Y_TO_1: [u8; 2] = [0x04, 0x24];
+pub const Z_TO_1: [u8; 2] = [0x04, 0x44];
 
 /// The files of a case, in the order in which the program opens them; none for a file that is not there.
 pub struct Case {
@@ -41,7 +46,7 @@ fn lettered() -> Vec<Case> {
         rules(&[A], &ZEROS, &X_TO_1),
         rules(&[B], &ZEROS, &X_TO_1),
         rules(&[A, B], &ZEROS, &X_TO_1),
-        rules(&[A, C], &ZEROS, &X_TO_1),
+        rules(&[A, C], &ZEROS, &Y_TO_1),
         rules(&[D, E], &ZEROS, &Y_TO_1),
         rules(&[A, B], &[0x0C, 0, 0], &X_TO_1),
         rules(&[A], &ZEROS, &slip_bytes(&[(0, 1)])),
@@ -98,6 +103,28 @@ fn dialect() -> Case {
     Case { files: NAMES.map(|name| std::fs::read(folder.join(name)).ok()) }
 }
 
+/// Circles: case D with a cause, from the slip or from a rule; a rule that tests what it assigns, plainly and under NOT, with a cause and without; circles through a NOT, one of which meets a rule twice; a plain circle above a NOT and one kept plain by cancelled NOTs.
+fn circles() -> Vec<Case> {
+    let own = |nots: &str| format!("WHEN x *= 1 IF {nots}y *= 1 THEN y := 1;");
+    let back = "WHEN y *= 1 IF NOT NOT z *= 1 THEN x := 1;";
+    let above = ["WHEN x *= 1 IF NOT y *= 1 THEN z := 1;", C, "WHEN y *= 0 IF TRUE THEN y := 1;"];
+    vec![
+        rules(&[A, C], &ZEROS, &X_TO_1),
+        rules(&[C, A], &ZEROS, &Z_TO_1),
+        rules(&[A, C, "WHEN y *= 1 IF TRUE THEN z := 1;"], &ZEROS, &Y_TO_1),
+        rules(&["WHEN x *= 1 IF TRUE THEN x := 1;"], &ZEROS, &X_TO_1),
+        rules(&["WHEN x *= 1 IF TRUE THEN x := 1;"], &ZEROS, &Y_TO_1),
+        rules(&[&own("")], &ZEROS, &X_TO_1),
+        rules(&[&own("NOT ")], &ZEROS, &X_TO_1),
+        rules(&[&own("NOT NOT ")], &ZEROS, &slip_bytes(&[(0, 2), (1, 2)])),
+        rules(&MIXED, &ZEROS, &X_TO_1),
+        rules(&[E, D, "WHEN x *= 1 IF NOT z *= 0 THEN y := 0;", "WHEN z *= 1 IF TRUE THEN x := 1;"], &ZEROS, &X_TO_1),
+        rules(&["WHEN x *= 1 IF TRUE THEN z := 1;", back], &ZEROS, &slip_bytes(&[(0, 2), (1, 2)])),
+        rules(&above, &ZEROS, &X_TO_1),
+        rules(&above, &ZEROS, &slip_bytes(&[(0, 2), (1, 2)])),
+    ]
+}
+
 /// All stored cases.
 pub fn cases() -> Vec<Case> {
     let mut cases = lettered();
@@ -105,6 +132,7 @@ pub fn cases() -> Vec<Case> {
     cases.extend(entries());
     cases.extend(missing());
     cases.push(dialect());
+    cases.extend(circles());
     cases
 }
 

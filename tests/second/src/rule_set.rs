@@ -20,9 +20,14 @@ impl RuleSet {
         RuleSet(std::array::from_fn(|at| self.0[at] | other.0[at]))
     }
 
-    /// Whether every position of this set is in the other.
-    pub fn within(&self, other: &RuleSet) -> bool {
-        self.with(other) == *other
+    /// The positions of the set, rising.
+    pub fn positions(&self) -> impl Iterator<Item = usize> + '_ {
+        let positive = |bits: u64| (bits != 0).then_some(bits);
+        (0..4).flat_map(move |word| {
+            let lowest_off = move |bits: &u64| positive(bits & (bits - 1));
+            let left = std::iter::successors(positive(self.0[word]), lowest_off);
+            left.map(move |bits| 64 * word + bits.trailing_zeros() as usize)
+        })
     }
 }
 

@@ -1,7 +1,7 @@
 //! Tables and their tests in the form of the project's program `strata_cases`: packed tables, a line for each.
 
 use crate::gen::{any_sketch, Rng};
-use crate::gen_tables::damaged;
+use crate::gen_tables::{circled_table, damaged};
 use crate::gen_text::fill_up;
 use crate::strata::strata;
 use crate::table::{table_of, AssignmentPlace, LiteralPlace, Name, RulePlace, SlotLine, Table};
@@ -82,7 +82,7 @@ fn table_bytes(table: &Table, fill: u8) -> Vec<u8> {
     bytes
 }
 
-/// The table of a sketch, filled up to a limit now and then, its strata the least or none, often changed at one place.
+/// The table of a sketch, filled up to a limit now and then, its strata the least or other numbers, often changed.
 fn generated_table(rng: &mut Rng) -> Box<Table> {
     let mut sketch = any_sketch(rng);
     if rng.chance(1, 12) {
@@ -90,8 +90,10 @@ fn generated_table(rng: &mut Rng) -> Box<Table> {
     }
     let unnamed = |count: usize| SlotLine { name: Name::default(), values: vec![Name::default(); count] };
     let lines: Vec<SlotLine> = sketch.names.iter().map(|slot| unnamed(slot.1.len())).collect();
-    let none = vec![0; sketch.rules.len()];
-    let table = table_of(&lines, &sketch.rules, &strata(&sketch.rules).unwrap_or(none));
+    let table = match strata(&sketch.rules) {
+        Ok(numbers) => table_of(&lines, &sketch.rules, &numbers),
+        Err(_) => circled_table(rng, &lines, &sketch.rules),
+    };
     if rng.chance(1, 2) {
         damaged(rng, &table, 0)
     } else {
@@ -132,9 +134,9 @@ fn line(table: &Table) -> String {
     }
 }
 
-/// The lines of the chains that the program makes itself: n rules, each waiting for the one before or the one after it.
+/// The lines of the chains that the program makes itself: n rules, each waiting plainly for the one before or the one after it, all in stratum 1.
 fn chain_lines() -> String {
-    (1..=RULES).map(|rules| format!("forward {rules} 1 {rules} 1\nbackward {rules} {rules} 1 1\n")).collect()
+    (1..=RULES).map(|rules| format!("forward {rules} 1 1 1\nbackward {rules} 1 1 1\n")).collect()
 }
 
 /// What the program should write for an input.

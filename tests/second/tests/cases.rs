@@ -4,7 +4,7 @@ use second::cards::{unpack_card, unpack_slip};
 use second::engine::{Engine, Second};
 use second::firing_checks::{given, Given};
 use second::listing::listing;
-use second::program_cases::{A, B, C, D, E, SLOTS, X_TO_1, Y_TO_1, ZEROS};
+use second::program_cases::{A, B, C, D, E, MIXED, SLOTS, X_TO_1, Y_TO_1, ZEROS, Z_TO_1};
 use second::read::read;
 use second::response::fired_count;
 use second::table31::tested;
@@ -52,14 +52,19 @@ fn c_prints_as_listed() {
     assert_eq!((given.fired[0], fired_count(&given.fired)), (0xC0, 2));
     let printed = listing(&text(&[A, B]), &ZEROS, &X_TO_1);
     let wanted =
-        "rule 1 stratum 1 fired\nrule 2 stratum 2 fired\nchange x 1\nchange y 1\nchange z 1\ncard 0C8880\ntally 1 0\n";
+        "rule 1 stratum 1 fired\nrule 2 stratum 1 fired\nchange x 1\nchange y 1\nchange z 1\ncard 0C8880\ntally 1 0\n";
     assert_eq!(printed, wanted);
 }
 
 #[test]
-fn d_has_no_strata() {
-    assert_eq!(refused(&text(&[A, C])), Some(refusal(18, 1)));
-    assert_eq!(listing(&text(&[A, C]), &ZEROS, &X_TO_1), "refused 18 1\n");
+fn d_fires_neither_rule_without_an_outside_cause() {
+    let idle = "rule 1 stratum 1 idle\nrule 2 stratum 1 idle\nchange y 1\ncard 0C4840\ntally 1 0\n";
+    assert_eq!(listing(&text(&[A, C]), &ZEROS, &Y_TO_1), idle);
+    let fired = "rule 1 stratum 1 fired\nrule 2 stratum 1 fired\nchange x 1\nchange z 1\ncard 0C8480\ntally 1 0\n";
+    for slip in [X_TO_1, Z_TO_1] {
+        assert_eq!(listing(&text(&[A, C]), &ZEROS, &slip), fired);
+        assert_eq!(listing(&text(&[C, A]), &ZEROS, &slip), fired);
+    }
 }
 
 #[test]
@@ -220,16 +225,69 @@ fn declared_once_and_used_as_declared() {
 }
 
 #[test]
-fn length_of_text_and_circles() {
+fn length_of_text() {
     let mut long = text(&[A]);
     long.resize(65_535, b' ');
     assert_eq!(refused(&long), None);
     long.push(b'(');
     assert_eq!(refused(&long), Some(refusal(10, 0)));
-    assert_eq!(refused(&text(&["WHEN x *= 1 IF TRUE THEN x := 1;"])), Some(refusal(18, 1)));
-    assert_eq!(refused(&text(&["WHEN x *= 1 IF NOT y *= 1 THEN y := 1;"])), Some(refusal(18, 1)));
-    assert_eq!(refused(&text(&[E, A, C])), Some(refusal(18, 2)));
-    assert_eq!(refused(&text(&[A, C, "WHEN x"])), Some(refusal(12, 2)));
+}
+
+/// The strata of some rules, or the rule that 18 names.
+fn layered(rules: &[&str]) -> Result<Vec<u8>, usize> {
+    let table = read(&text(rules)).map_err(|why| {
+        assert_eq!(why.number, 18);
+        why.second
+    })?;
+    Ok(table.rules[..table.count].iter().map(|rule| rule.stratum).collect())
+}
+
+#[test]
+fn a_plain_test_stays_level_and_one_under_not_falls() {
+    assert_eq!(layered(&[A, B]), Ok(vec![1, 1]));
+    assert_eq!(layered(&[B, A]), Ok(vec![1, 1]));
+    assert_eq!(layered(&[D, E]), Ok(vec![2, 1]));
+    assert_eq!(layered(&[A, C, E]), Ok(vec![1, 1, 1]));
+    assert_eq!(layered(&["WHEN z *= 1 IF x *= 1 THEN y := 1;", A]), Ok(vec![1, 1]));
+    assert_eq!(layered(&["WHEN z *= 1 IF NOT x *= 1 THEN y := 1;", C, A]), Ok(vec![2, 1, 1]));
+    assert_eq!(layered(&["WHEN z *= 1 IF NOT x |= 1 THEN y := 1;", C, A]), Ok(vec![1, 1, 1]));
+}
+
+#[test]
+fn a_rule_that_tests_what_it_assigns() {
+    assert_eq!(layered(&["WHEN x *= 1 IF TRUE THEN x := 1;"]), Ok(vec![1]));
+    assert_eq!(layered(&["WHEN x *= 1 IF y *= 1 THEN y := 1;"]), Ok(vec![1]));
+    assert_eq!(layered(&["WHEN x *= 1 IF NOT y *= 1 THEN y := 1;"]), Err(1));
+    assert_eq!(layered(&["WHEN x *= 1 IF NOT NOT y *= 1 THEN y := 1;"]), Ok(vec![1]));
+    assert_eq!(layered(&["WHEN x *= 1 IF NOT NOT NOT y *= 1 THEN y := 1;"]), Err(1));
+    let own = "WHEN x *= 1 IF TRUE THEN x := 1;";
+    assert_eq!(response(&[own], &ZEROS, &Y_TO_1).fired[0], 0);
+    assert_eq!(response(&[own], &ZEROS, &X_TO_1).fired[0], 0x80);
+}
+
+#[test]
+fn circles_through_a_not_name_their_lowest_rule() {
+    let [up, back] = ["WHEN y *= 1 IF NOT z *= 1 THEN x := 1;", "WHEN x *= 1 IF TRUE THEN z := 1;"];
+    let [before, behind] = ["WHEN y *= 0 IF TRUE THEN y := 1;", "WHEN z *= 1 IF TRUE THEN z := 0;"];
+    assert_eq!(layered(&[up, back]), Err(1));
+    assert_eq!(layered(&[behind, up, back]), Err(2));
+    assert_eq!(layered(&[before, behind, back, up]), Err(3));
+    assert_eq!(layered(&["WHEN y *= 0 IF TRUE THEN y := 0;", back, up]), Err(2));
+    assert_eq!(layered(&["WHEN y *= 1 IF NOT NOT z *= 1 THEN x := 1;", back]), Ok(vec![1, 1]));
+    assert_eq!(refused(&text(&[up, back, "WHEN x"])), Some(refusal(12, 2)));
+}
+
+#[test]
+fn a_circle_may_meet_a_rule_more_than_once() {
+    assert_eq!(layered(&MIXED), Err(1));
+    let [first, second, third] = MIXED;
+    for rules in [[third, second, first], [second, first, third], [third, first, second]] {
+        assert_eq!(layered(&rules), Err(1));
+    }
+    assert_eq!(layered(&["WHEN z *= 1 IF TRUE THEN z := 0;", first, second, third]), Err(2));
+    assert_eq!(layered(&[first, second]), Ok(vec![1, 1]));
+    assert_eq!(layered(&[first, third]), Ok(vec![1, 1]));
+    assert_eq!(layered(&[second, third]), Err(1));
 }
 
 #[test]

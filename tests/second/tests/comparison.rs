@@ -1,23 +1,24 @@
 //! The comparison finds each fault, strata and firing orders are what they are defined to be, and the program opens before it reads.
 
+use std::collections::BTreeSet;
 use std::process::Command;
 
 use second::broken::Broken;
-use second::cards::{card_bytes, slip_bytes};
 use second::compare::{compare_seeds, refusals_met, shrunk, store};
 use second::engine::{Engine, Second};
 use second::fault::{Fault, FAULTS};
-use second::firing_checks::{check_orders, check_rearranged, Counts};
-use second::gen::{card_values, plain_file, slip_changes, Rng};
-use second::gen_text::{sketch, Shape};
+use second::firing_checks::{check_small, Counts};
+use second::gen::{card_values, slip_changes, Rng};
+use second::gen_rules::{sketch, Ranks, Shape};
 use second::orders::{complete_orders, complete_sets, consistent_ends};
-use second::strata::{strata, tested_pairs};
+use second::strata::strata;
+use second::table::{Literal, Rule};
 
 /// The seeds in which each fault must be found.
 const BUDGET: u64 = 8_000;
 
 /// A small shape.
-const SMALL: Shape = Shape { slots: 4, values: 2, rules: 5, literals: 2, assignments: 2, ranked: false };
+const SMALL: Shape = Shape { slots: 4, values: 2, rules: 5, literals: 2, assignments: 2, ranks: Ranks::Free };
 
 #[test]
 fn each_fault_is_found() {
@@ -62,26 +63,55 @@ fn numberings(count: usize, highest: u8) -> Vec<Vec<u8>> {
     numberings(count - 1, highest).into_iter().flat_map(longer).collect()
 }
 
+/// Whether a rule waits for another by a plain `*=`, or by one under NOT.
+fn waits(rule: &Rule, other: &Rule, negated: bool) -> bool {
+    let by_trigger = !negated && other.assignments.contains(&rule.trigger);
+    let tests = |literal: &Literal| literal.becomes && literal.negated == negated;
+    by_trigger || rule.literals.iter().any(|literal| tests(literal) && other.assignments.contains(&literal.pair))
+}
+
+/// Whether a walk of dependence comes from a rule back to it and passes a NOT: a search over rules, each met before a NOT or after one.
+fn walks_round(rules: &[Rule], start: usize) -> bool {
+    let mut met = BTreeSet::new();
+    let mut waiting = vec![(start, false)];
+    while let Some((at, passed)) = waiting.pop() {
+        for next in 0..rules.len() {
+            let plain = waits(&rules[at], &rules[next], false).then_some((next, passed));
+            let negated = waits(&rules[at], &rules[next], true).then_some((next, true));
+            waiting.extend([plain, negated].into_iter().flatten().filter(|step| met.insert(*step)));
+        }
+    }
+    met.contains(&(start, true))
+}
+
 #[test]
 fn strata_are_the_least_numbers_that_hold() {
-    for seed in 1..400 {
-        let rules = sketch(&mut Rng::new(seed), &SMALL).rules;
-        let waits = |at: usize, other: usize| {
-            let tested = tested_pairs(&rules[at]);
-            rules[other].assignments.iter().any(|pair| tested.contains(pair))
+    let (mut layered, mut circled) = (0, 0);
+    for seed in 1..600 {
+        let ranks = [Ranks::Free, Ranks::Level, Ranks::Below][seed as usize % 3];
+        let rules = sketch(&mut Rng::new(seed), &Shape { ranks, ..SMALL }).rules;
+        let holds = |numbers: &Vec<u8>, at: usize, other: usize| {
+            (numbers[other] <= numbers[at] || !waits(&rules[at], &rules[other], false))
+                && (numbers[other] < numbers[at] || !waits(&rules[at], &rules[other], true))
         };
-        let holds = |numbers: &Vec<u8>| {
-            (0..rules.len()).all(|at| (0..rules.len()).all(|other| !waits(at, other) || numbers[other] < numbers[at]))
-        };
-        let good: Vec<Vec<u8>> = numberings(rules.len(), rules.len() as u8).into_iter().filter(holds).collect();
+        let all = |numbers: &Vec<u8>| (0..rules.len()).all(|at| (0..rules.len()).all(|to| holds(numbers, at, to)));
+        let good: Vec<Vec<u8>> = numberings(rules.len(), rules.len() as u8).into_iter().filter(all).collect();
+        let lowest = (0..rules.len()).find(|at| walks_round(&rules, *at));
         match strata(&rules) {
-            Err(_) => assert!(good.is_empty()),
+            Err(rule) => {
+                assert!(good.is_empty());
+                assert_eq!(Some(rule - 1), lowest);
+                circled += 1;
+            }
             Ok(least) => {
                 assert!(good.contains(&least));
                 assert!(good.iter().all(|numbers| numbers.iter().zip(&least).all(|(number, least)| number >= least)));
+                assert_eq!(lowest, None);
+                layered += 1;
             }
         }
     }
+    assert!(layered > 200 && circled > 50, "{layered} {circled}");
 }
 
 #[test]
@@ -100,41 +130,13 @@ fn orders_and_sets_of_fired_rules_have_the_same_ends() {
 #[test]
 fn firing_orders_agree_with_the_response() {
     let mut counts = Counts::default();
-    for seed in 1..600 {
-        let mut rng = Rng::new(seed);
-        let sketch = sketch(&mut rng, &Shape { ranked: true, ..SMALL });
-        let file = plain_file(&mut rng, sketch);
-        let table = match Second.read(&file.text) {
-            (None, table) => table,
-            _ => {
-                continue;
-            }
-        };
-        let card = card_bytes(&card_values(&mut rng, &file.sketch));
-        let slip = slip_bytes(&slip_changes(&mut rng, &file.sketch));
-        check_orders(&mut Second, &table, &card, &slip, &mut counts).unwrap();
-        check_rearranged(&mut Second, &file.text, &table, (&card, &slip), &mut rng).unwrap();
-    }
-    assert!(counts.answered > 100 && counts.conflicts > 20 && counts.inconsistent > 0);
+    (1..600).for_each(|seed| check_small(&mut Second, seed, &mut counts).unwrap());
+    assert!(counts.answered > 1_000 && counts.conflicts > 100 && counts.inconsistent > 0);
 }
 
 /// Whether some small file shows that an engine's response is not what the firing orders come to, or that rearranged files differ.
 fn fails_demand_3(engine: &mut dyn Engine) -> bool {
-    (1..3_000).any(|seed| {
-        let mut rng = Rng::new(seed);
-        let sketch = sketch(&mut rng, &Shape { ranked: true, ..SMALL });
-        let file = plain_file(&mut rng, sketch);
-        let table = match Second.read(&file.text) {
-            (None, table) => table,
-            _ => {
-                return false;
-            }
-        };
-        let card = card_bytes(&card_values(&mut rng, &file.sketch));
-        let slip = slip_bytes(&slip_changes(&mut rng, &file.sketch));
-        let orders = check_orders(engine, &table, &card, &slip, &mut Counts::default());
-        orders.is_err() || check_rearranged(engine, &file.text, &table, (&card, &slip), &mut rng).is_err()
-    })
+    (1..1_000).any(|seed| check_small(engine, seed, &mut Counts::default()).is_err())
 }
 
 #[test]
@@ -143,6 +145,9 @@ fn broken_responses_are_not_what_the_firing_orders_come_to() {
     let faults = [
         Fault::NothingFires,
         Fault::NumberOrder,
+        Fault::OnePass,
+        Fault::OwnCause,
+        Fault::SharedCause,
         Fault::NothingNew,
         Fault::ConflictByOrder,
         Fault::StopsAtConflict,

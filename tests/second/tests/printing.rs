@@ -132,7 +132,7 @@ fn the_reading_s_refusals_come_first_with_both_numbers() {
         (after(&[A, B, A, &nine]), (15, 3)),
         (after(&[A, "WHEN q *= 1"]), (16, 1)),
         (after(&[A, A, "WHEN x *= 1 IF TRUE THEN {y := 1, y := 1};"]), (17, 2)),
-        (after(&[E, A, C]), (18, 2)),
+        (after(&[E, A, "WHEN y *= 1 IF NOT z *= 1 THEN x := 1;"]), (18, 2)),
     ];
     for (text, (number, second)) in refused {
         for room in [0, 400] {

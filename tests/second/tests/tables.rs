@@ -2,15 +2,17 @@
 
 use second::engine::{Engine, Second};
 use second::fault::Fault;
+use second::program_cases::{A, B, C, D, E, SLOTS};
 use second::read::read;
 use second::response::{Outputs, Tally};
 use second::strata::strata;
 use second::table::{LiteralPlace, Name, Table};
 use second::table31::{slot_name, tested, unlayered, value_name};
 use second::table_lines::{generated, tables};
-use second::{broken_reading, refusal, Refusal};
+use second::{broken_strata, refusal, Refusal};
 
-const TEXT: &[u8] = b"SLOT x {0,1}; SLOT y {0,1}; WHEN x *= 1 IF y |= 0 THEN y := 1; WHEN y *= 1 IF TRUE THEN x := 0;";
+const TEXT: &[u8] =
+    b"SLOT x {0,1}; SLOT y {0,1}; WHEN x *= 1 IF y |= 1 THEN y := 1; WHEN x *= 1 IF NOT y *= 1 THEN x := 0;";
 
 /// The table of the text, changed.
 fn changed(change: impl FnOnce(&mut Table)) -> Box<Table> {
@@ -60,6 +62,33 @@ fn tables_that_are_not_31() {
     assert!(!is_31(|table| table.rules[1].assigned = 0));
     assert!(!is_31(|table| table.count = 1));
     assert!(!is_31(|table| *table = *Table::empty()));
+}
+
+/// Of some strata for the rules of a text, those that are not 31.
+fn passing(rules: &[&str], strata: &[&[u8]]) -> Vec<Vec<u8>> {
+    let mut table = read(format!("{SLOTS}{}", rules.concat()).as_bytes()).unwrap();
+    let mut passes = |numbers: &&&[u8]| {
+        table.rules.iter_mut().zip(numbers.iter()).for_each(|(rule, number)| rule.stratum = *number);
+        tested(&table).is_ok()
+    };
+    strata.iter().filter(|numbers| passes(numbers)).map(|numbers| numbers.to_vec()).collect()
+}
+
+#[test]
+fn a_table_carries_the_least_strata() {
+    let pairs: [&[u8]; 7] = [&[1, 1], &[2, 2], &[1, 2], &[2, 1], &[0, 0], &[0, 1], &[255, 255]];
+    assert_eq!(passing(&[A, C], &pairs), [[1, 1]]);
+    assert_eq!(passing(&[A, B], &pairs), [[1, 1]]);
+    assert_eq!(passing(&[D, E], &pairs), [[2, 1]]);
+    assert_eq!(passing(&[E, D], &pairs), [[1, 2]]);
+    let own = "WHEN x *= 1 IF TRUE THEN x := 1;";
+    assert_eq!(passing(&[own], &[&[0], &[1], &[2]]), [[1]]);
+    let [first, second] = ["WHEN x *= 1 IF NOT y *= 1 THEN z := 1;", "WHEN z *= 1 IF TRUE THEN x := 1;"];
+    let lowest = "WHEN y *= 0 IF TRUE THEN y := 1;";
+    let threes: [&[u8]; 6] = [&[2, 2, 1], &[3, 3, 1], &[1, 1, 1], &[2, 1, 1], &[1, 2, 1], &[3, 3, 2]];
+    assert_eq!(passing(&[first, second, lowest], &threes), [[2, 2, 1]]);
+    let chain: [&[u8]; 6] = [&[1, 1, 1], &[1, 2, 3], &[1, 1, 2], &[2, 2, 2], &[1, 1, 0], &[3, 2, 1]];
+    assert_eq!(passing(&[A, B, "WHEN y *= 1 IF TRUE THEN x := 0;"], &chain), [[1, 1, 1]]);
 }
 
 #[test]
@@ -114,23 +143,36 @@ fn refusals_come_in_their_order() {
 /// Whether a fault changes a table's strata, or whether the table passes 31.
 fn shows(fault: Fault, table: &Table) -> bool {
     let rules = unlayered(table).map_or(Vec::new(), |program| program.rules);
-    broken_reading::strata(fault, &rules) != strata(&rules)
-        || broken_reading::program(fault, table).is_ok() != tested(table).is_ok()
+    broken_strata::strata(fault, &rules) != strata(&rules)
+        || broken_strata::program(fault, table).is_ok() != tested(table).is_ok()
 }
 
 #[test]
-fn two_inputs_of_tables_show_each_fault_of_strata_and_31() {
-    let tables: Vec<Box<Table>> = (1..=2).flat_map(|seed| tables(&generated(seed))).collect();
+fn five_inputs_of_tables_show_each_fault_of_strata_and_31() {
+    let tables: Vec<Box<Table>> = (1..=5).flat_map(|seed| tables(&generated(seed))).collect();
     let faults = [
         Fault::HighestOnCircle,
         Fault::BehindCircle,
+        Fault::BeforeCircle,
+        Fault::LowestOnAnyCircle,
+        Fault::SimpleCircles,
+        Fault::OwnNotOnly,
+        Fault::PlainCircleRefused,
+        Fault::OwnTestRefused,
+        Fault::OwnNotFree,
         Fault::NoStrata,
         Fault::WasBinds,
-        Fault::NegatedFree,
+        Fault::PlainFalls,
+        Fault::TriggerFalls,
+        Fault::NegatedLevel,
         Fault::TriggerFree,
         Fault::SlotsBind,
         Fault::StrataTooHigh,
         Fault::StrataUntested,
+        Fault::AnyStrata,
+        Fault::EachAsAsked,
+        Fault::FallingStrata,
+        Fault::ZeroStratum,
         Fault::UnusedTested,
         Fault::NoAssignments,
     ];

@@ -1,0 +1,243 @@
+//! The kinds of rules, responses and tables that strata and circles tell apart, for the tests to hold the generator to.
+
+use std::collections::BTreeSet;
+
+use crate::broken_firing::{one_pass, together};
+use crate::cards::{unpack_card, unpack_slip};
+use crate::fault::Fault;
+use crate::other_strata::{each_number, falling, on_any_circle, on_simple_circle};
+use crate::read::read_rules;
+use crate::response::{enabled, fire, Changes, Firing};
+use crate::rule_set::RuleSet;
+use crate::strata::{least, on_circle, reached, waits, Waits};
+use crate::table::{Pair, Program, Rule, Table};
+use crate::table31::{tested, unlayered};
+use crate::{broken_firing, broken_reading};
+
+/// Makes the enum of kinds and the lists of those of rules, responses and tables.
+macro_rules! kinds {
+    ($($(#[$about:meta])* $list:ident { $($(#[$sentence:meta])* $name:ident,)* })*) => {
+        /// A kind of rules, of a response or of a table.
+        #[derive(Clone, Copy, PartialEq, Eq, PartialOrd, Ord, Debug)]
+        pub enum Kind {
+            $($($(#[$sentence])* $name,)*)*
+        }
+
+        $($(#[$about])* pub const $list: &[Kind] = &[$(Kind::$name,)*];)*
+    };
+}
+
+kinds! {
+    /// The kinds of a file's rules.
+    RULE_KINDS {
+        /// Accepted: a rule plainly tests what it assigns.
+        OwnTest,
+        /// Accepted: rules wait plainly for each other.
+        PlainCircle,
+        /// Accepted: four rules or more wait plainly for each other.
+        WidePlainCircle,
+        /// Accepted: rules that wait plainly for each other lie above stratum 1.
+        CircleAbove,
+        /// Accepted, without a circle: a rule waits plainly for one that waits plainly for a third.
+        PlainChain,
+        /// Accepted: a stratum is 100 or above.
+        DeepStrata,
+        /// 18: a rule tests under NOT what it assigns.
+        OwnNot,
+        /// 18: a circle through a NOT has two rules or more.
+        CircleThroughNot,
+        /// 18: the rule named is on no circle through a NOT that meets no rule twice.
+        Mixed,
+        /// 18: such a rule among five or more that come to each other.
+        WideMixed,
+        /// 18: a plain circle has a lower rule than the one named.
+        PlainCircleLower,
+    }
+
+    /// The kinds of a text besides those of its rules.
+    TEXT_KINDS {
+        /// Accepted, but 18 if an even number of NOTs did not cancel.
+        CancelledNots,
+    }
+
+    /// The kinds of a response.
+    RESPONSE_KINDS {
+        /// All rules of a plain circle fire, and the slip has a pair that they assign.
+        CircleBySlip,
+        /// All rules of a plain circle fire, and only rules outside it brought a pair that they assign.
+        CircleByRule,
+        /// Rules stay idle that would be enabled by each other's assignments.
+        Uncaused,
+        /// A rule stays idle that would be enabled by its own assignment.
+        OwnUncaused,
+        /// Other rules fire where strata are not looked at.
+        StrataMatter,
+        /// One pass over each stratum is too few.
+        SecondPass,
+        /// One pass over each stratum leaves out 15 rules or more.
+        ManyPasses,
+    }
+
+    /// The kinds of a table by its strata.
+    TABLE_KINDS {
+        /// The least, of a plain chain.
+        ChainLeast,
+        /// Strata, but not the least, of a plain chain.
+        ChainHigher,
+        /// Strata in which two rules that wait plainly for each other alone are both in 2 and not in 1.
+        BothTwo,
+        /// Each number what its rule needs by the others, and yet not the least: a plain circle is lifted.
+        CircleLifted,
+        /// The same of a plain circle whose least stratum is above 1.
+        CircleLiftedAbove,
+        /// Strata with a number above what its rule needs by the others.
+        Gap,
+        /// The least that fall at plain tests too, where they are not the least.
+        Falling,
+        /// One number one too low, but not 0.
+        OneTooLow,
+        /// A number 0.
+        Zero,
+        /// Rules with a circle through a NOT, no number 0.
+        Circled,
+    }
+}
+
+/// The kinds that hold.
+fn holding(kinds: &[(Kind, bool)]) -> Vec<Kind> {
+    kinds.iter().filter(|(_, holds)| *holds).map(|(kind, _)| *kind).collect()
+}
+
+/// For each rule the rules that it comes to and that come back to it, itself among them.
+fn rounds(waits: &[Waits]) -> Vec<RuleSet> {
+    let reached = reached(waits);
+    let round = |at: usize| reached[at].positions().filter(|other| reached[*other].has(at)).collect();
+    (0..waits.len()).map(round).collect()
+}
+
+/// The number of rules in a set.
+fn size(set: &RuleSet) -> usize {
+    set.positions().count()
+}
+
+/// Whether rules have no circle, and one waits plainly for another that waits plainly for a third.
+fn is_chained(waits: &[Waits]) -> bool {
+    let second = |at: usize| waits[at].plain.positions().any(|next| waits[next].plain != RuleSet::default());
+    on_any_circle(waits).is_empty() && (0..waits.len()).any(second)
+}
+
+/// The kinds of rules.
+pub fn rule_kinds(rules: &[Rule]) -> Vec<Kind> {
+    let waits = waits(rules);
+    let rounds = rounds(&waits);
+    let all = || 0..rules.len();
+    match (least(&waits), on_circle(&waits).first()) {
+        (Some(numbers), _) => holding(&[
+            (Kind::OwnTest, all().any(|at| waits[at].plain.has(at))),
+            (Kind::PlainCircle, all().any(|at| size(&rounds[at]) > 1)),
+            (Kind::WidePlainCircle, all().any(|at| size(&rounds[at]) > 3)),
+            (Kind::CircleAbove, all().any(|at| size(&rounds[at]) > 1 && numbers[at] > 1)),
+            (Kind::PlainChain, is_chained(&waits)),
+            (Kind::DeepStrata, numbers.iter().any(|number| *number >= 100)),
+        ]),
+        (None, Some(named)) => {
+            let mixed = !on_simple_circle(&waits).contains(named);
+            holding(&[
+                (Kind::OwnNot, all().any(|at| waits[at].negated.has(at))),
+                (Kind::CircleThroughNot, size(&rounds[*named]) > 1),
+                (Kind::Mixed, mixed),
+                (Kind::WideMixed, mixed && size(&rounds[*named]) > 4),
+                (Kind::PlainCircleLower, on_any_circle(&waits)[0] < *named),
+            ])
+        }
+        (None, None) => Vec::new(),
+    }
+}
+
+/// The kinds of a text and of its rules; none where 10 to 17 refuse it.
+pub fn text_kinds(text: &[u8]) -> Vec<Kind> {
+    let rules = match read_rules(text) {
+        Ok((_, rules)) => rules,
+        Err(_) => return Vec::new(),
+    };
+    let accepted = least(&waits(&rules)).is_some();
+    let refused = |fault| broken_reading::read(fault, text).0.is_some();
+    let cancelled = holding(&[(Kind::CancelledNots, accepted && refused(Fault::NotsStay))]);
+    [rule_kinds(&rules), cancelled].concat()
+}
+
+/// Whether all rules of a circle have fired, and whether the slip has a pair that they assign.
+fn whole_circle(program: &Program, slip: &[Pair], fired: &RuleSet, round: &RuleSet) -> Option<bool> {
+    let assigned = |at: usize| program.rules[at].assignments.iter().any(|pair| slip.contains(pair));
+    let whole = size(round) > 1 && round.positions().all(|at| fired.has(at));
+    whole.then(|| round.positions().any(assigned))
+}
+
+/// The rules that have fired.
+fn fired(firing: &Firing) -> RuleSet {
+    firing.fired.iter().copied().collect()
+}
+
+/// The kinds of a response, where it comes to the firing of rules.
+pub fn response_kinds(table: &Table, card: &[u8], slip: &[u8]) -> Vec<Kind> {
+    let unpacked = tested(table).and_then(|program| {
+        let (card, slip) = (unpack_card(&program, card)?, unpack_slip(&program, slip)?);
+        Ok((program, card, slip))
+    });
+    let (program, card, slip) = match unpacked {
+        Ok(unpacked) => unpacked,
+        Err(_) => return Vec::new(),
+    };
+    let firing = fire(&program, &slip, |changes, rule| enabled(&card, changes, rule));
+    let waits = waits(&program.rules);
+    let set = fired(&firing);
+    let circles: BTreeSet<bool> =
+        rounds(&waits).iter().filter_map(|round| whole_circle(&program, &slip, &set, round)).collect();
+    let once = fired(&one_pass(&program, &card, &slip));
+    let unordered = fired(&broken_firing::fire(Fault::NumberOrder, &program, &card, &slip));
+    let own_caused = |at: usize| {
+        let own: Changes = firing.changes.iter().chain(&program.rules[at].assignments).copied().collect();
+        !set.has(at) && enabled(&card, &own, &program.rules[at])
+    };
+    holding(&[
+        (Kind::CircleBySlip, circles.contains(&true)),
+        (Kind::CircleByRule, circles.contains(&false)),
+        (Kind::Uncaused, fired(&together(&program, &card, &slip)) != set),
+        (Kind::OwnUncaused, (0..program.rules.len()).any(own_caused)),
+        (Kind::StrataMatter, unordered != set),
+        (Kind::SecondPass, once != set),
+        (Kind::ManyPasses, size(&once) + 15 <= size(&set)),
+    ])
+}
+
+/// The kinds of a table by its strata, where nothing else is 31.
+pub fn table_kinds(table: &Table) -> Vec<Kind> {
+    let program = match unlayered(table) {
+        Ok(program) => program,
+        Err(_) => return Vec::new(),
+    };
+    let (waits, given) = (waits(&program.rules), &program.strata);
+    let rounds = rounds(&waits);
+    let zero = given.contains(&0);
+    let wanted = match least(&waits) {
+        Some(numbers) => numbers,
+        None => return holding(&[(Kind::Zero, zero), (Kind::Circled, !zero)]),
+    };
+    let (right, chained) = (*given == wanted, is_chained(&waits));
+    let strata = each_number(&program, |number, asked| number >= asked);
+    let exact = each_number(&program, |number, asked| number == asked);
+    let wrong: Vec<usize> = (0..given.len()).filter(|at| given[*at] != wanted[*at]).collect();
+    let one_lower = |at: &usize| given[*at] > 0 && wanted[*at].checked_sub(given[*at]) == Some(1);
+    let both_two = |at: &usize| size(&rounds[*at]) == 2 && (wanted[*at], given[*at]) == (1, 2);
+    holding(&[
+        (Kind::ChainLeast, right && chained),
+        (Kind::ChainHigher, strata && !right && chained),
+        (Kind::BothTwo, strata && wrong.len() == 2 && wrong.iter().all(both_two)),
+        (Kind::CircleLifted, exact && !right),
+        (Kind::CircleLiftedAbove, exact && wrong.iter().any(|at| wanted[*at] > 1)),
+        (Kind::Gap, strata && !exact),
+        (Kind::Falling, !right && least(&falling(&waits)).as_ref() == Some(given)),
+        (Kind::OneTooLow, wrong.len() == 1 && wrong.iter().all(one_lower)),
+        (Kind::Zero, zero),
+    ])
+}

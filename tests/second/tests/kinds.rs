@@ -1,0 +1,122 @@
+//! The generator reaches every kind of rules, responses and tables that strata and circles tell apart.
+
+use std::collections::BTreeMap;
+
+use second::compare::compare_seeds;
+use second::engine::{Engine, Second};
+use second::firing_checks::{check_small, Counts};
+use second::kinds::{response_kinds, rule_kinds, table_kinds, text_kinds, Kind};
+use second::kinds::{RESPONSE_KINDS, RULE_KINDS, TABLE_KINDS, TEXT_KINDS};
+use second::response::{Outputs, Tally};
+use second::table::{Name, Pair, Table};
+use second::table31::unlayered;
+use second::table_lines::{generated, tables};
+use second::Refusal;
+
+/// How often each kind was met.
+type Met = BTreeMap<Kind, usize>;
+
+/// Counts kinds.
+fn meet(met: &mut Met, kinds: Vec<Kind>) {
+    kinds.into_iter().for_each(|kind| *met.entry(kind).or_default() += 1);
+}
+
+/// Fails where one of some kinds was met less often than wanted.
+fn demand(met: &Met, kinds: &[&[Kind]], wanted: usize) {
+    let seldom = |kind: &Kind| met.get(kind).map_or(true, |count| *count < wanted);
+    let missing: Vec<Kind> = kinds.concat().into_iter().filter(seldom).collect();
+    assert!(missing.is_empty(), "{missing:?} of {met:?}");
+}
+
+/// The second engine, and the kinds of what it is asked about.
+#[derive(Default)]
+struct Watching {
+    met: Met,
+}
+
+impl Engine for Watching {
+    fn read(&mut self, text: &[u8]) -> (Option<Refusal>, Box<Table>) {
+        meet(&mut self.met, text_kinds(text));
+        Second.read(text)
+    }
+
+    fn print(&mut self, text: &[u8], output: &mut [u8]) -> Result<usize, Refusal> {
+        Second.print(text, output)
+    }
+
+    fn strata(&mut self, table: &Table) -> Result<Vec<u8>, Refusal> {
+        Second.strata(table)
+    }
+
+    fn slot_name(&mut self, text: &[u8], table: &Table, slot: u8) -> Result<Name, Refusal> {
+        Second.slot_name(text, table, slot)
+    }
+
+    fn value_name(&mut self, text: &[u8], table: &Table, slot: u8, value: u8) -> Result<Name, Refusal> {
+        Second.value_name(text, table, slot, value)
+    }
+
+    fn unpack_card(&mut self, table: &Table, card: &[u8]) -> Result<Vec<u8>, Refusal> {
+        Second.unpack_card(table, card)
+    }
+
+    fn unpack_slip(&mut self, table: &Table, slip: &[u8]) -> Result<Vec<Pair>, Refusal> {
+        Second.unpack_slip(table, slip)
+    }
+
+    fn pack_card(&mut self, table: &Table, values: &[u8], output: &mut [u8]) -> Result<usize, Refusal> {
+        Second.pack_card(table, values, output)
+    }
+
+    fn pack_slip(&mut self, table: &Table, changes: &[Pair], output: &mut [u8]) -> Result<usize, Refusal> {
+        Second.pack_slip(table, changes, output)
+    }
+
+    fn respond(
+        &mut self,
+        table: &Table,
+        tally: Tally,
+        card: &[u8],
+        slip: &[u8],
+        outputs: Outputs,
+    ) -> (Tally, Result<usize, Refusal>) {
+        meet(&mut self.met, table_kinds(table));
+        let (after, result) = Second.respond(table, tally, card, slip, outputs);
+        if result.map_or_else(|why| why.number == 40, |_| true) {
+            meet(&mut self.met, response_kinds(table, card, slip));
+        }
+        (after, result)
+    }
+
+    fn fired_count(&mut self, record: &[u8]) -> usize {
+        Second.fired_count(record)
+    }
+}
+
+#[test]
+fn the_comparison_meets_every_kind() {
+    let mut watching = Watching::default();
+    assert!(compare_seeds(&mut watching, 1, 3_000).0.is_none());
+    let kinds = [RULE_KINDS, TEXT_KINDS, RESPONSE_KINDS, TABLE_KINDS];
+    demand(&watching.met, &kinds, 3);
+}
+
+#[test]
+fn ten_inputs_of_tables_meet_every_kind() {
+    let mut met = Met::new();
+    for table in (1..=10).flat_map(|seed| tables(&generated(seed))) {
+        meet(&mut met, table_kinds(&table));
+        meet(&mut met, unlayered(&table).map_or(Vec::new(), |program| rule_kinds(&program.rules)));
+    }
+    demand(&met, &[RULE_KINDS, TABLE_KINDS], 1);
+}
+
+#[test]
+fn firing_orders_are_tried_in_every_kind_of_plain_circle() {
+    let mut counts = Counts::default();
+    (1..1_200).for_each(|seed| check_small(&mut Second, seed, &mut counts).unwrap());
+    let rules = [Kind::OwnTest, Kind::PlainCircle, Kind::WidePlainCircle, Kind::CircleAbove, Kind::PlainChain];
+    let many = |kind: &Kind| *kind != Kind::ManyPasses;
+    let responses: Vec<Kind> = RESPONSE_KINDS.iter().copied().filter(many).collect();
+    demand(&counts.kinds, &[&rules, TEXT_KINDS, &responses], 5);
+}
