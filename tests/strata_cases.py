@@ -357,6 +357,8 @@ def stored():
     for n in range(1, 256):
         lines.append(chain_line('forward', [rule(P[i], P[i + 1]) for i in range(n)]))
         lines.append(chain_line('backward', [rule(P[i + 1], P[i]) for i in range(n)]))
+        lines.append(chain_line('forward-not', [rule(P[479], P[i + 1], under=[P[i]]) for i in range(n)]))
+        lines.append(chain_line('backward-not', [rule(P[479], P[i], under=[P[i + 1]]) for i in range(n)]))
     yield 'crates/strata_cases/stdin', stdin
     yield 'crates/strata_cases/stdout', ''.join(line + '\n' for line in lines).encode()
 

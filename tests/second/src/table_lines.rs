@@ -134,9 +134,15 @@ fn line(table: &Table) -> String {
     }
 }
 
-/// The lines of the chains that the program makes itself: n rules, each waiting plainly for the one before or the one after it, all in stratum 1.
+/// The lines of the chains that the program makes itself: n rules, each testing what the one before or the one after it assigns; plainly, all in stratum 1, or under NOT, each a stratum above the next.
 fn chain_lines() -> String {
-    (1..=RULES).map(|rules| format!("forward {rules} 1 1 1\nbackward {rules} 1 1 1\n")).collect()
+    (1..=RULES)
+        .map(|rules| {
+            let plain = format!("forward {rules} 1 1 1\nbackward {rules} 1 1 1\n");
+            let under_not = format!("forward-not {rules} 1 {rules} 1\nbackward-not {rules} {rules} 1 1\n");
+            plain + &under_not
+        })
+        .collect()
 }
 
 /// What the program should write for an input.
