@@ -1,6 +1,7 @@
--- Arrays of flags: one flag set, none set, how many are set.
+-- Arrays of flags: one flag set, none set, how many are set, all set.
 -- Assumes nothing.
 use Prim.Native.Nat.{ℕ, zero, suc, _+_, _≤_, _<_}
+use native.Mathlib.Nat.{eq-or-lt-of-le}
 use native.Mathlib.Omega.{arith}
 use mathlib.Core.Path.{_≡_, refl}
 use mathlib.Core.Bool.{Bool, true, false, cond}
@@ -10,8 +11,8 @@ use lib.Dec.{T, eqb}
 use lib.ListN.{length, getD, set, replicate, length-replicate, getD-replicate, List·getD-eq-default}
 use lib.Seq.{getD-set-same, getD-set-other}
 use borrow.Author.Tests.{eqb-true, eqb-false}
-use Rattle.laws.specs.Flags.{flags-set}
-use Rattle.laws.proofs.Truth.{le-or-lt}
+use Rattle.laws.specs.Flags.{flags-set, all-set}
+use Rattle.laws.proofs.Truth.{and-l, and-r, and-i, le-or-lt}
 
 pub flag-here : (bs : List Bool) (i : ℕ) → i < length bs → T (getD (set bs i true) i false)
 flag-here bs i h = rw (getD-set-same bs i true false h) tt
@@ -50,3 +51,16 @@ pub flags-top : (bs : List Bool) → flags-set bs ≤ length bs
 unfolding flags-set
 flags-top [] = omega arith
 flags-top (b ∷ bs) = omega (arith, one-top b, flags-top bs)
+
+-- The first n flags are set where each of them is.
+pub all-set-i : (bs : List Bool) (n : ℕ) → ((k : ℕ) → k < n → T (getD bs k false)) → T (all-set bs n)
+unfolding all-set
+all-set-i bs zero h = tt
+all-set-i bs (suc n) h = and-i _ _ (all-set-i bs n (λ k l. h k (omega arith))) (h n (omega arith))
+
+-- And only there.
+pub all-set-e : (bs : List Bool) (n : ℕ) → T (all-set bs n) → (k : ℕ) → k < n → T (getD bs k false)
+unfolding all-set
+all-set-e bs zero t k l = absurd (omega arith)
+all-set-e bs (suc n) t k l =
+    ⊎-elim (λ (e : k ≡ n). rw e (and-r (all-set bs n) _ t)) (λ m. all-set-e bs n (and-l (all-set bs n) _ t) k m) (eq-or-lt-of-le (let w : k ≤ n = omega arith in w))

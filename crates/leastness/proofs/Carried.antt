@@ -1,7 +1,7 @@
 -- What the test of the carried strata comes to: the numbers are strata, and each is justified.
 -- Assumes nothing.
 use mathlib.Core.Path.{_≡_, sym, _∙_}
-use mathlib.Core.Bool.{true, false}
+use mathlib.Core.Bool.{false}
 use mathlib.Core.List.{List}
 use mathlib.Core.Logic.{_⊎_, inl, inr, ⊎-elim, _↔_}
 use Prim.Native.Nat.{ℕ, zero, suc, _+_, _≤_, _<_}
@@ -175,14 +175,13 @@ module _ (t : Table) (fits : TableFits t) (sh : Shaped t) where
       let x = rw (rule-at-is t k l, stratum-at-is t k l) at (strata-valid hs g (carries-iff t .0 u .strata) (suc k) (number t fits sh k l)) in
       omega (arith, e, d, x, w))
 
-  -- A rule that is not justified.
-  pub not-held : (k : ℕ) → k < t .count → (¬ Justified weak (rules-of t) (stratum-at t) (suc k)) → false ≡ carries-least t
-  not-held k l h = bool-ext false (carries-least t) (λ u. absurd u)
-      (λ u. h (least-justified weak (rules-of t) (stratum-at t) (carries-iff t .0 u .strata) (carries-e t u .1) (suc k) (number t fits sh k l)))
+  -- Where the least are carried, each is justified.
+  pub carries-justified : T (carries-least t) → (k : ℕ) → k < t .count → Justified weak (rules-of t) (stratum-at t) (suc k)
+  carries-justified u k l = least-justified weak (rules-of t) (stratum-at t) (carries-iff t .0 u .strata) (carries-e t u .1) (suc k) (number t fits sh k l)
 
-  -- All rules are justified.
-  pub all-held : (hs : List ℕ) → Carried t (t .count) hs → Valid t (t .count) hs → ((k : ℕ) → k < t .count → Justified weak (rules-of t) (stratum-at t) (suc k)) → true ≡ carries-least t
-  all-held hs g q h = bool-ext true (carries-least t) (λ u. carries-i t (no-circle weak (rules-of t) (stratum-at t) L) (justified-least weak (rules-of t) (stratum-at t) L each)) (λ u. tt)
+  -- Where each is as high as it is asked and justified, they are the least.
+  pub justified-carries : (hs : List ℕ) → Carried t (t .count) hs → Valid t (t .count) hs → ((k : ℕ) → k < t .count → Justified weak (rules-of t) (stratum-at t) (suc k)) → T (carries-least t)
+  justified-carries hs g q h = carries-i t (no-circle weak (rules-of t) (stratum-at t) L) (justified-least weak (rules-of t) (stratum-at t) L each)
     where
       L : Strata weak (rules-of t) (stratum-at t)
       L = valid-strata hs g q

@@ -10,8 +10,9 @@ use native.Mathlib.Omega.{arith}
 use lib.Dec.{T}
 use lib.ListN.{length, getD, set}
 use Rattle.laws.specs.Numbers.{Numbered}
-use Rattle.laws.proofs.Truth.{le-or-lt}
-use Rattle.laws.proofs.Flags.{flag-here, flag-kept}
+use Rattle.laws.specs.Flags.{all-set}
+use Rattle.laws.proofs.Truth.{bool-ext, le-or-lt}
+use Rattle.laws.proofs.Flags.{flag-here, flag-kept, all-set-i, all-set-e}
 use Rattle.model.specs.Rules.{Pair, among}
 use Rattle.model.specs.Rules as model
 use Rattle.model.specs.Orders.{rule-at}
@@ -31,9 +32,10 @@ use Rattle.strata.proofs.Heights.{highest-ge}
 use Rattle.leastness.proofs.OneBelow.{below-i}
 use Rattle.leastness.specs.Chains.{needs-places}
 use Rattle.leastness.specs.Flagging.{Flagging, flagging, flag-all}
+use Rattle.leastness.specs.CarriesLeast.{carries-least}
 use Rattle.leastness.proofs.Flagging.{FlaggedAll}
 use Rattle.leastness.proofs.Chains.{On, first, later, Falls, on-none, on-split}
-use Rattle.leastness.proofs.Carried.{Carried, Valid, tested-in, assigned-in, level-pair, last}
+use Rattle.leastness.proofs.Carried.{Carried, Valid, tested-in, assigned-in, level-pair, last, carries-justified, justified-carries}
 use Rattle.leastness.proofs.Closing.{Waits, Stands, Closing, held-more, flagging-of, as-flagging, waits-held}
 
 module _ (t : Table) (hs : List ℕ) where
@@ -153,6 +155,13 @@ module _ (t : Table) (fits : TableFits t) (sh : Shaped t) (hs : List ℕ) (g : C
           let u = c .queued .listed (place-of (x .0)) (c .assigned-flagged m (x .0) h (omega (arith, lt, e)) (x .2) y) in
           d (u .0) n (x .0) (u .1) (inside n i) (x .1) (sym (u .2)) (e ∙ y))
           (le-or-lt (stratum-at t (suc n)) 1)
+
+  -- So all rules are held exactly where the least are carried.
+  pub held-least : (held fl : List Bool) (q : List ℕ) (top : ℕ) (heads nexts : List ℕ) → Closing t hs (t .count) held fl q top heads nexts → Done t hs top q held → Valid t (t .count) hs
+      → all-set held (t .count) ≡ carries-least t
+  held-least held fl q top heads nexts c d v = bool-ext _ _
+      (λ u. justified-carries t fits sh hs g v (λ k l. c .held-right k (all-set-e held (t .count) u k l)))
+      (λ u. all-set-i held (t .count) (λ k l. all-closed held fl q top heads nexts c d v k l (carries-justified t fits sh u k l)))
 
   pub chaining-start : (at : ℕ) (held fl : List Bool) (q : List ℕ) (top : ℕ) (heads nexts : List ℕ) → at < top → Closing t hs (t .count) held fl q top heads nexts → Done t hs at q held
       → Chaining t hs (at + 1) (getD q at 0) (getD heads (getD q at 0) 0) held fl q top heads nexts

@@ -2,7 +2,8 @@
 // it is the first, or one more than that of a rule whose pair it tests under NOT, or level with that of a justified rule whose pair it needs.
 // In time that grows with the rules and their literals: a pair is flagged once, and a place where a pair is needed is looked at once.
 ghost use mathlib.Core.Path.{_≡_};
-ghost use Prim.Native.Nat.{_*_, _<_};
+ghost use Prim.Native.Nat.{_*_, _≤_, _<_};
+ghost use Rattle.laws.specs.Flags.{all-set};
 ghost use Rattle.model.specs.Strata.{needed, barred};
 ghost use Rattle.table.specs.Limits.{rule-limit, pair-places};
 ghost use Rattle.table.specs.Link.{rule-of, assignments-of};
@@ -12,6 +13,7 @@ ghost use Rattle.leastness.specs.OneBelow.{one-below};
 ghost use Rattle.leastness.specs.Chains.{needs-places, head-at, next-at, heads-with, nexts-with};
 ghost use Rattle.leastness.specs.Flagging.{flagging, Room, flag-all};
 use table::PAIRS;
+use table::RULES;
 use table::Rule;
 
 // The places where a rule can need a pair: its trigger and eight literals.
@@ -131,4 +133,19 @@ pub fn flag_assigned(
         n += 1;
     }
     n
+}
+
+// Whether the first n rules are held.
+pub fn all_held(held: &[bool; RULES], n: usize) -> bool
+    requires { ⌜ n ≤ rule-limit ⌝ }
+    ensures { λ b. ⌜ b ≡ all-set (now (held .entry)) n ⌝ }
+{
+    let mut j: usize = 0;
+    while j < n {
+        if !held[j] {
+            return false;
+        }
+        j += 1;
+    }
+    true
 }

@@ -113,12 +113,5 @@ pub fn is_sound(t: Table) -> bool
             top = leastness::flag_assigned(r, s, &high, &mut flags, &mut queue, top);
         }
     }
-    let mut j: usize = 0;
-    'all: while j < n {
-        if !held[j] {
-            return false;
-        }
-        j += 1;
-    }
-    true
+    leastness::all_held(&held, n)
 }
