@@ -4,7 +4,7 @@ use mathlib.Core.Path.{_≡_, sym, _∙_}
 use mathlib.Core.Bool.{true, false}
 use mathlib.Core.List.{List}
 use mathlib.Core.Logic.{⊎-elim}
-use Prim.Native.Nat.{ℕ, _+_, _-_, _≤_, max}
+use Prim.Native.Nat.{ℕ, _+_, _-_, _≤_, _<_, max}
 use native.Mathlib.Omega.{arith}
 use lib.ListN.{getD}
 use borrow.Author.Tests.{not-true, not-false}
@@ -23,6 +23,22 @@ use Rattle.strata.proofs.least.asked.Tie as tie
 -- What the literals from a place on ask.
 abbrev ask-from : List ℕ → Rule → ℕ → ℕ
 ask-from high r j = max (highest-at high (picked-from r is-plain j)) (highest-at high (picked-from r is-under-not j) + 1)
+
+-- The highest of several numbers, one looked at after the other.
+highest-first : (h x a b : ℕ) → h ≡ max 1 x → max h (max a (b + 1)) ≡ max (max x a) (b + 1)
+highest-first h x a b e = omega arith
+
+highest-plain : (h x a b e : ℕ) → max h (max (max x a) (b + 1)) ≡ e → max h (max x (max a (b + 1))) ≡ e
+highest-plain h x a b e z = omega arith
+
+highest-under-not : (h x a b e : ℕ) → max h (max a (max x b + 1)) ≡ e → max h (max (x + 1) (max a (b + 1))) ≡ e
+highest-under-not h x a b e z = omega arith
+
+highest-new : (h y a e : ℕ) → h < y → max h (max y a) ≡ e → max y a ≡ e
+highest-new h y a e l z = omega arith
+
+highest-old : (h y a e : ℕ) → y ≤ h → max h (max y a) ≡ e → max h a ≡ e
+highest-old h y a e l z = omega arith
 
 abbrev Inv-literals : tie.InvT-literals
 Inv-literals high r slot value at w h₀ m j₀ h j = (j ≤ m) × ((1 ≤ h) × (max h (ask-from high r j) ≡ asked-at high (rule-of r)))
@@ -47,7 +63,7 @@ next-plain c n =
     let w = when-plain (literal-of (getD (s .args .t1 .literals) (a .literals .j) no-literal)) (sym (b .is-becomes .ensures) ∙ not-false (b .is-becomes .result) (c .before .if2 .left)) n in
     let p = picked-next (s .args .t1) (shape s) is-plain (a .literals .j) (search needs) (s .pre .0 .literals-fit) (w .0) in
     let q = picked-over (s .args .t1) (shape s) is-under-not (a .literals .j) (search needs) (s .pre .0 .literals-fit) (w .1) in
-    omega (arith, rw (← (c .place2 .ensures .is)) at (rw (p, q) at (a .literals .inv .1 .1)))
+    highest-plain (a .literals .h) _ _ _ _ (rw (← (c .place2 .ensures .is)) at (rw (p, q) at (a .literals .inv .1 .1)))
 
 -- A literal under NOT asks one more.
 next-under-not : (c : tie.After-place2 Inv-literals μ-literals) →
@@ -63,7 +79,7 @@ next-under-not c n =
     let w = when-under-not (literal-of (getD (s .args .t1 .literals) (a .literals .j) no-literal)) (sym (b .is-becomes .ensures) ∙ not-false (b .is-becomes .result) (c .before .if2 .left)) n in
     let p = picked-over (s .args .t1) (shape s) is-plain (a .literals .j) (search needs) (s .pre .0 .literals-fit) (w .0) in
     let q = picked-next (s .args .t1) (shape s) is-under-not (a .literals .j) (search needs) (s .pre .0 .literals-fit) (w .1) in
-    omega (arith, rw (← (c .place2 .ensures .is)) at (rw (p, q) at (a .literals .inv .1 .1)))
+    highest-under-not (a .literals .h) _ _ _ _ (rw (← (c .place2 .ensures .is)) at (rw (p, q) at (a .literals .inv .1 .1)))
 
 -- Either way it asks what the code has then.
 next : (c : tie.Joined3 Inv-literals μ-literals) →
@@ -92,7 +108,7 @@ literals-holds : tie.Need-literals-holds Inv-literals μ-literals
 unfolding asked-at highest-at
 literals-holds c = let s = c .before .before .before in
     let h : c .if1 .h ≡ max 1 (getD (s .args .high .now) (c .before .before .place .result) 0) = ⊎-elim (λ w. omega (arith, w)) (λ w. omega (arith, w)) (c .if1 .came) in
-    (search needs, (omega (arith, h), rw (needed-start (s .args .t1), barred-start (s .args .t1)) (omega (arith, rw (c .before .before .place .ensures .is) at h))))
+    (search needs, (omega (arith, h), rw (needed-start (s .args .t1), barred-start (s .args .t1)) (highest-first (c .if1 .h) _ _ _ (rw (c .before .before .place .ensures .is) at h))))
 
 mul-l : tie.Need-mul-l Inv-literals μ-literals
 mul-l c = search needs
@@ -135,13 +151,17 @@ literals-less-2 : tie.Need-literals-less-2 Inv-literals μ-literals
 literals-less-2 c = search needs
 
 literals-again-2 : tie.Need-literals-again-2 Inv-literals μ-literals
-literals-again-2 c = (search needs, (search needs, omega (arith, next (c .before))))
+literals-again-2 c =
+    let g = c .before in
+    (search needs, (search needs, highest-new (g .before .before .before .before .before .before .before .literals .h) (g .if3 .y) _ _ (c .if4 .taken) (next g)))
 
 literals-less-3 : tie.Need-literals-less-3 Inv-literals μ-literals
 literals-less-3 c = search needs
 
 literals-again-3 : tie.Need-literals-again-3 Inv-literals μ-literals
-literals-again-3 c = (search needs, (search needs, omega (arith, next (c .before))))
+literals-again-3 c =
+    let g = c .before in
+    (search needs, (search needs, highest-old (g .before .before .before .before .before .before .before .literals .h) (g .if3 .y) _ _ (c .if4 .left) (next g)))
 
 returns : tie.Need-returns Inv-literals μ-literals
 unfolding highest-at
