@@ -50,38 +50,38 @@ some-leads-e ws bs (p ∷ ps) qs t = ⊎-elim
     (λ x. let w = some-leads-e ws bs ps qs x in (w .0, or-r _ _ (w .1), w .2, w .3)) (or-e _ _ t)
 
 -- Flags at the pairs of a list that lead to one of another.
-pub flag-one : (bs : List Bool) (k j : ℕ) (b : Bool) → T (getD (cond b (set bs k true) bs) j false) → (T b × (j ≡ k)) ⊎ T (getD bs j false)
-flag-one bs k j true t = ⊎-elim (λ e. inl (tt, e)) (λ e. inr e) (flag-from bs k j t)
-flag-one bs k j false t = inr t
+set-if-from : (bs : List Bool) (k j : ℕ) (b : Bool) → T (getD (cond b (set bs k true) bs) j false) → (T b × (j ≡ k)) ⊎ T (getD bs j false)
+set-if-from bs k j true t = ⊎-elim (λ e. inl (tt, e)) (λ e. inr e) (flag-from bs k j t)
+set-if-from bs k j false t = inr t
 
-pub flag-still : (bs : List Bool) (k j : ℕ) (b : Bool) → T (getD bs j false) → T (getD (cond b (set bs k true) bs) j false)
-flag-still bs k j true t = flag-kept bs k j t
-flag-still bs k j false t = t
+set-if-kept : (bs : List Bool) (k j : ℕ) (b : Bool) → T (getD bs j false) → T (getD (cond b (set bs k true) bs) j false)
+set-if-kept bs k j true t = flag-kept bs k j t
+set-if-kept bs k j false t = t
 
-pub flag-set : (bs : List Bool) (k : ℕ) (b : Bool) → k < length bs → T b → T (getD (cond b (set bs k true) bs) k false)
-flag-set bs k true h t = flag-here bs k h
-flag-set bs k false h t = absurd t
+set-if-here : (bs : List Bool) (k : ℕ) (b : Bool) → k < length bs → T b → T (getD (cond b (set bs k true) bs) k false)
+set-if-here bs k true h t = flag-here bs k h
+set-if-here bs k false h t = absurd t
 
-pub flag-length : (bs : List Bool) (k : ℕ) (b : Bool) → length (cond b (set bs k true) bs) ≡ length bs
-flag-length bs k true = length-set bs k true
-flag-length bs k false = refl
+set-if-length : (bs : List Bool) (k : ℕ) (b : Bool) → length (cond b (set bs k true) bs) ≡ length bs
+set-if-length bs k true = length-set bs k true
+set-if-length bs k false = refl
 
 pub leading-length : (ws : List ℕ) (ps qs : List Pair) (bs : List Bool) → length (flag-leading ws ps qs bs) ≡ length bs
 unfolding flag-leading
 leading-length ws [] qs bs = refl
-leading-length ws (p ∷ ps) qs bs = leading-length ws ps qs _ ∙ flag-length bs (place-of p) (leads-to ws (place-of p) qs)
+leading-length ws (p ∷ ps) qs bs = leading-length ws ps qs _ ∙ set-if-length bs (place-of p) (leads-to ws (place-of p) qs)
 
 pub leading-kept : (ws : List ℕ) (ps qs : List Pair) (bs : List Bool) (j : ℕ) → T (getD bs j false) → T (getD (flag-leading ws ps qs bs) j false)
 unfolding flag-leading
 leading-kept ws [] qs bs j t = t
-leading-kept ws (p ∷ ps) qs bs j t = leading-kept ws ps qs _ j (flag-still bs (place-of p) j (leads-to ws (place-of p) qs) t)
+leading-kept ws (p ∷ ps) qs bs j t = leading-kept ws ps qs _ j (set-if-kept bs (place-of p) j (leads-to ws (place-of p) qs) t)
 
 pub leading-here : (ws : List ℕ) (ps qs : List Pair) (bs : List Bool) (p : Pair) → place-of p < length bs → T (among p ps) → T (leads-to ws (place-of p) qs) → T (getD (flag-leading ws ps qs bs) (place-of p) false)
 unfolding flag-leading among
 leading-here ws [] qs bs p h a t = absurd a
 leading-here ws (q ∷ ps) qs bs p h a t = ⊎-elim
-    (λ e. let z = same-eq p q e in rw z (leading-kept ws ps qs _ (place-of q) (flag-set bs (place-of q) (leads-to ws (place-of q) qs) (rw z at h) (rw z at t))))
-    (λ e. leading-here ws ps qs _ p (omega (arith, h, flag-length bs (place-of q) (leads-to ws (place-of q) qs))) e t)
+    (λ e. let z = same-eq p q e in rw z (leading-kept ws ps qs _ (place-of q) (set-if-here bs (place-of q) (leads-to ws (place-of q) qs) (rw z at h) (rw z at t))))
+    (λ e. leading-here ws ps qs _ p (omega (arith, h, set-if-length bs (place-of q) (leads-to ws (place-of q) qs))) e t)
     (or-e _ _ a)
 
 pub leading-from : (ws : List ℕ) (ps qs : List Pair) (bs : List Bool) (j : ℕ) → T (getD (flag-leading ws ps qs bs) j false)
@@ -90,7 +90,7 @@ unfolding flag-leading among
 leading-from ws [] qs bs j t = inr t
 leading-from ws (p ∷ ps) qs bs j t = ⊎-elim
     (λ w. inl (w .0, or-r _ _ (w .1), w .2, w .3))
-    (λ w. ⊎-elim (λ x. inl (p, or-l _ _ (same-refl p), x .1, x .0)) (λ x. inr x) (flag-one bs (place-of p) j (leads-to ws (place-of p) qs) w))
+    (λ w. ⊎-elim (λ x. inl (p, or-l _ _ (same-refl p), x .1, x .0)) (λ x. inr x) (set-if-from bs (place-of p) j (leads-to ws (place-of p) qs) w))
     (leading-from ws ps qs _ j t)
 
 -- A place connected with a flagged one.

@@ -8,13 +8,14 @@ use native.Mathlib.Nat.{eq-or-lt-of-le}
 use native.Mathlib.Omega.{arith}
 use lib.Bits.{bitOr}
 use lib.Dec.{T}
-use lib.ListN.{length, getD, length-set, replicate, length-replicate, getD-replicate, List·getD-eq-default}
+use lib.ListN.{length, getD, length-set, length-replicate}
 use lib.Seq.{getD-set-same, getD-set-other}
 use Rattle.laws.specs.Truth.{_∨ᵇ_}
 use Rattle.laws.specs.Words.{bit}
-use Rattle.laws.proofs.Truth.{or-l, or-r, or-e, le-or-lt}
+use Rattle.laws.proofs.Truth.{or-l, or-r, or-e}
 use Rattle.laws.proofs.Equations.{from-true, either}
 use Rattle.laws.proofs.Words.{bit-or, bit-none, bit-own, bit-other}
+use Rattle.laws.proofs.Filled.{replicate-at}
 use Rattle.table.specs.Limits.{pair-places}
 use Rattle.circles.specs.Links.{row-words, all-words, word-at, linked, no-links, add-link, join-words}
 
@@ -24,7 +25,7 @@ no-links-length = length-replicate {A = ℕ} all-words 0
 
 zero-word : (x : ℕ) → _≡_ {A = ℕ} (getD no-links x 0) 0
 unfolding no-links
-zero-word x = ⊎-elim (λ le. List·getD-eq-default (replicate all-words 0) 0 {n = x} (rw length-replicate le)) (λ lt. getD-replicate all-words x 0 0 lt) (le-or-lt all-words x)
+zero-word x = replicate-at {A = ℕ} all-words 0 x
 
 pub no-link : (a b : ℕ) → ¬ T (linked no-links a b)
 unfolding linked

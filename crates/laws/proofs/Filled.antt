@@ -5,9 +5,15 @@ use native.Mathlib.Omega.{arith}
 use native.Mathlib.Numerals.{add-one}
 use mathlib.Core.Path.{_≡_, refl, sym, ap, _∙_}
 use mathlib.Core.List.{List, [], _∷_, _++_, append-assoc}
-use lib.ListN.{length, getD, length-append, take, drop, set, replicate, length-set, length-replicate, take-append-drop, List·getD-append}
+use mathlib.Core.Logic.{⊎-elim}
+use lib.ListN.{length, getD, length-append, take, drop, set, replicate, length-set, length-replicate, take-append-drop, getD-replicate, List·getD-append, List·getD-eq-default}
 use lib.Seq.{length-take-le, take-suc-set, take-append-seam}
 use Rattle.laws.specs.Filled.{filled, Filled}
+use Rattle.laws.proofs.Truth.{le-or-lt}
+
+-- An array of one value has it at every place, as reading past the end gives.
+pub replicate-at : {A : Type 0} (n : ℕ) (u : A) (i : ℕ) → getD (replicate n u) i u ≡ u
+replicate-at n u i = ⊎-elim (λ le. List·getD-eq-default (replicate n u) u {n = i} (rw length-replicate le)) (λ lt. getD-replicate n i u u lt) (le-or-lt n i)
 
 -- No place is used.
 pub filled-none : {A : Type 0} (n : ℕ) (unused : A) → Filled n unused (replicate n unused) 0

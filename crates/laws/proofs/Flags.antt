@@ -1,4 +1,4 @@
--- Arrays of flags: one flag set, none set, how many are set, all set.
+-- Arrays of flags: one flag set, how many are set, all set.
 -- Assumes nothing.
 use Prim.Native.Nat.{ℕ, zero, suc, _+_, _≤_, _<_}
 use native.Mathlib.Nat.{eq-or-lt-of-le}
@@ -8,7 +8,7 @@ use mathlib.Core.Bool.{Bool, true, false, cond}
 use mathlib.Core.List.{List, [], _∷_}
 use mathlib.Core.Logic.{_⊎_, inl, inr, ⊎-elim}
 use lib.Dec.{T, eqb}
-use lib.ListN.{length, getD, set, replicate, length-replicate, getD-replicate, List·getD-eq-default}
+use lib.ListN.{length, getD, set, List·getD-eq-default}
 use lib.Seq.{getD-set-same, getD-set-other}
 use borrow.Author.Tests.{eqb-true, eqb-false}
 use Rattle.laws.specs.Flags.{flags-set, all-set}
@@ -33,9 +33,6 @@ flag-from bs i j t = go (eqb j i) refl
     go : (b : Bool) → eqb j i ≡ b → (j ≡ i) ⊎ T (getD bs j false)
     go true e = inl (eqb-true j i e)
     go false e = inr (rw (getD-set-other bs i j true false (eqb-false j i e)) at t)
-
-pub no-flag : (n i : ℕ) → getD (replicate n false) i false ≡ false
-no-flag n i = ⊎-elim (λ le. List·getD-eq-default (replicate n false) false {n = i} (rw length-replicate le)) (λ lt. getD-replicate n i false false lt) (le-or-lt n i)
 
 pub flags-more : (bs : List Bool) (i : ℕ) → i < length bs → getD bs i false ≡ false → flags-set (set bs i true) ≡ flags-set bs + 1
 unfolding flags-set

@@ -5,13 +5,12 @@ use native.Mathlib.Numerals.{add-one}
 use native.Mathlib.Omega.{arith}
 use mathlib.Core.Path.{_≡_, refl, ap}
 use mathlib.Core.List.{List, [], _∷_, _++_, append-assoc}
-use mathlib.Core.Logic.{⊎-elim}
-use lib.ListN.{length, getD, drop, set, replicate, length-append, length-drop, length-replicate, getD-replicate, List·getD-eq-default}
+use lib.ListN.{length, getD, drop, set, replicate, length-append, length-drop}
 use lib.Seq.{drop-cons, set-at}
 use Rattle.laws.specs.Tabulated.{tabulate}
 use Rattle.laws.specs.Filled.{filled}
-use Rattle.laws.proofs.Truth.{le-or-lt}
 use Rattle.laws.proofs.Tabulated.{tabulate-length}
+use Rattle.laws.proofs.Filled.{replicate-at}
 
 -- One element more.
 pub tabulate-next : {A : Type 0} (f : ℕ → A) (k : ℕ) → tabulate f (suc k) ≡ tabulate f k ++ f k ∷ []
@@ -29,15 +28,12 @@ front-next f k out d h = rw (add-one k, tabulate-next f k, drop-cons out k d h, 
 pub front-length : {A : Type 0} (f : ℕ → A) (k : ℕ) (out : List A) → k ≤ length out → length (tabulate f k ++ drop k out) ≡ length out
 front-length f k out h = simp (length-append, length-drop) (omega (arith, tabulate-length f k))
 
-rest-at : {A : Type 0} (n : ℕ) (u : A) (i : ℕ) → getD (replicate n u) i u ≡ u
-rest-at n u i = ⊎-elim (λ le. List·getD-eq-default (replicate n u) u {n = i} (rw length-replicate le)) (λ lt. getD-replicate n i u u lt) (le-or-lt n i)
-
 -- A list filled up has the same elements, and `unused` beyond them, as reading past the end gives.
 pub filled-at : {A : Type 0} (n : ℕ) (unused : A) (xs : List A) (i : ℕ) → getD (filled n unused xs) i unused ≡ getD xs i unused
 unfolding filled
 filled-at n unused xs i = go xs (n - length xs) i
   where
     go : (xs : List _) (m i : ℕ) → getD (xs ++ replicate m unused) i unused ≡ getD xs i unused
-    go [] m i = rest-at m unused i
+    go [] m i = replicate-at m unused i
     go (x ∷ xs) m zero = refl
     go (x ∷ xs) m (suc i) = go xs m i

@@ -15,7 +15,7 @@ use Rattle.laws.specs.Words.{bit}
 use Rattle.laws.specs.Tabulated.{tabulate}
 use Rattle.laws.specs.Packed.{bits, number-of, byte-bits, byte-count, byte-at, pack}
 use Rattle.laws.proofs.Truth.{le-or-lt}
-use Rattle.laws.proofs.Flags.{no-flag}
+use Rattle.laws.proofs.Filled.{replicate-at}
 use Rattle.laws.proofs.Words.{bit-none}
 use Rattle.laws.proofs.Tabulated.{tabulate-length, tabulate-at, is-tabulate}
 
@@ -182,7 +182,7 @@ pack-bit bs i = ⊎-elim outside inside (le-or-lt (8 * byte-count (length bs)) i
 
 -- Zero bits after the end change no place.
 pub pad-bit : (bs : List Bool) (n i : ℕ) → getD (bs ++ replicate n false) i false ≡ getD bs i false
-pad-bit [] n i = no-flag n i
+pad-bit [] n i = replicate-at n false i
 pad-bit (b ∷ bs) n zero = refl
 pad-bit (b ∷ bs) n (suc i) = pad-bit bs n i
 

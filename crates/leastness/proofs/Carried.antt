@@ -8,16 +8,17 @@ use Prim.Native.Nat.{ℕ, zero, suc, _+_, _≤_, _<_}
 use native.Mathlib.Nat.{eq-or-lt-of-le}
 use native.Mathlib.Omega.{arith}
 use lib.Dec.{T, eqb, eqb→eq}
-use lib.ListN.{length, getD, replicate, length-replicate, getD-replicate, List·getD-eq-default}
+use lib.ListN.{length, getD, replicate, length-replicate}
 use borrow.Author.Tests.{eq-eqb}
 use Rattle.laws.specs.Truth.{notᵇ}
 use Rattle.laws.specs.Numbers.{Numbered}
-use Rattle.laws.proofs.Truth.{and-l, and-r, and-i, not-e, not-i, stable, bool-ext, le-or-lt}
+use Rattle.laws.proofs.Truth.{and-l, and-r, and-i, not-e, not-i, stable, bool-ext}
 use Rattle.laws.proofs.Equations.{from-true}
 use Rattle.laws.proofs.Numbers.{some-i, some-e}
+use Rattle.laws.proofs.Filled.{replicate-at}
 use Rattle.model.specs.Rules.{Pair, among}
 use Rattle.model.specs.Orders.{rule-at}
-use Rattle.model.specs.Strata.{weak, tested, needed, barred, depends-plainly, depends-under-not, may-stay-level, must-fall, Strata}
+use Rattle.model.specs.Strata.{weak, needed, barred, depends-plainly, depends-under-not, may-stay-level, must-fall, Strata}
 use Rattle.model.specs.Justified.{Justified}
 use Rattle.model.specs.Circles.{circle-of}
 use Rattle.model.specs.Least.{LeastStrata, strata-of}
@@ -30,11 +31,11 @@ use Rattle.table.specs.declared.Table.{Table}
 use Rattle.table.specs.Limits.{row, pair-places}
 use Rattle.table.specs.Shape.{no-rule, Shaped}
 use Rattle.table.specs.Link.{assignments-of, rule-of, rules-of, stratum-at}
-use Rattle.table.specs.Flat.{Placed, place-of}
+use Rattle.table.specs.Flat.{place-of}
 use Rattle.table.specs.Fits.{RuleFits, TableFits}
 use Rattle.table.proofs.Link.{rule-at-is, stratum-at-is}
 use Rattle.table.proofs.Flat.{same-place, placed-inside}
-use Rattle.table.proofs.Fits.{assigned-placed, tested-placed, count-of, number, fits-at}
+use Rattle.table.proofs.Fits.{assigned-placed, count-of, number, tested-in}
 use Rattle.strata.specs.Heights.{asked-at, Small, raise-all}
 use Rattle.leastness.specs.CarriesLeast.{carries-least}
 use Rattle.strata.proofs.Heights.{highest-ge, highest-lt, raise-ge, raise-hit, raise-from, raise-length}
@@ -77,13 +78,10 @@ module _ (t : Table) (fits : TableFits t) (sh : Shaped t) where
   pub carried-start : Carried t 0 (replicate pair-places 0)
   carried-start = record {
     covers = λ m p i le a. absurd (omega (arith, i .first));
-    attained = λ p h. inl (zeros (place-of p));
-    all-small = λ k. rw zeros (omega arith);
+    attained = λ p h. inl (replicate-at {A = ℕ} pair-places 0 (place-of p));
+    all-small = λ k. rw (replicate-at {A = ℕ} pair-places 0 k) (omega arith);
     places = length-replicate {A = ℕ} pair-places 0;
   }
-    where
-      zeros : (i : ℕ) → _≡_ {A = ℕ} (getD (replicate pair-places 0) i 0) 0
-      zeros i = ⊎-elim (λ le. List·getD-eq-default (replicate pair-places 0) 0 {n = i} (rw length-replicate le)) (λ lt. getD-replicate pair-places i 0 0 lt) (le-or-lt pair-places i)
 
   carried : (i : ℕ) (hs : List ℕ) (r : Rule) (s : ℕ) → i < t .count → rule-at (rules-of t) (suc i) ≡ rule-of r → RuleFits r → s ≡ stratum-at t (suc i) → s < 256
       → Carried t i hs → Carried t (i + 1) (raise-all (assignments-of r) s hs)
@@ -108,13 +106,6 @@ module _ (t : Table) (fits : TableFits t) (sh : Shaped t) where
 
   pub carried-small : (i : ℕ) (hs : List ℕ) → Carried t i hs → Small hs
   carried-small i hs g = record { below = λ k. omega (arith, g .all-small k) }
-
-  -- Pairs that a rule tests have a place.
-  pub tested-in : (n : ℕ) (p : Pair) → Numbered (length (rules-of t)) n → T (among p (tested (rule-at (rules-of t) n))) → Placed (p .slot) (p .value)
-  tested-in n p i a = let x = fits-at t fits sh n i in tested-placed (x .0) p (x .1) (rw (x .2) at a)
-
-  pub assigned-in : (n : ℕ) (p : Pair) → Numbered (length (rules-of t)) n → T (among p (rule-at (rules-of t) n .assignments)) → Placed (p .slot) (p .value)
-  assigned-in n p i a = let x = fits-at t fits sh n i in assigned-placed (x .0) p (x .1) (rw (x .2) at a)
 
   module _ (hs : List ℕ) (g : Carried t (t .count) hs) where
     pub last : (m : ℕ) → Numbered (length (rules-of t)) m → m ≤ t .count
@@ -142,12 +133,12 @@ module _ (t : Table) (fits : TableFits t) (sh : Shaped t) where
           (λ p a. ⊎-elim
           (λ z. omega (arith, z))
           (λ w. omega (arith, w .3, plain-no-higher weak (rules-of t) (stratum-at t) L n (w .0) p i (w .1) a (w .2)))
-          (g .attained p (tested-in n p i (needed-tested (rule-at (rules-of t) n) p a) .in-row))),
+          (g .attained p (tested-in t fits sh n p i (needed-tested (rule-at (rules-of t) n) p a) .in-row))),
       highest-lt hs (barred (rule-at (rules-of t) n)) (stratum-at t n) (L .from-one n i)
           (λ p a. ⊎-elim
           (λ z. omega (arith, z, L .from-one n i))
           (λ w. omega (arith, w .3, under-not-smaller weak (rules-of t) (stratum-at t) L n (w .0) p i (w .1) a (w .2)))
-          (g .attained p (tested-in n p i (barred-tested (rule-at (rules-of t) n) p a) .in-row))),
+          (g .attained p (tested-in t fits sh n p i (barred-tested (rule-at (rules-of t) n) p a) .in-row))),
     )
 
     -- Where rules depend plainly on each other within a stratum, the pair between them has its highest number there.

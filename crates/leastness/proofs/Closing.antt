@@ -8,11 +8,11 @@ use Prim.Native.Nat.{ℕ, suc, _+_, _*_, _-_, _/_, _≤_, _<_}
 use native.Mathlib.Nat.{eq-or-lt-of-le}
 use native.Mathlib.Omega.{arith}
 use lib.Dec.{T}
-use lib.ListN.{length, getD, set, take, replicate, length-set, length-replicate, length-map, length-take, getD-replicate, List·getD-eq-default}
+use lib.ListN.{length, getD, set, take, replicate, length-set, length-replicate, length-map, length-take}
 use Rattle.laws.specs.Numbers.{Numbered}
-use Rattle.laws.proofs.Truth.{le-or-lt}
 use Rattle.laws.specs.Flags.{flags-set}
-use Rattle.laws.proofs.Flags.{flag-here, flag-kept, flag-from, no-flag}
+use Rattle.laws.proofs.Flags.{flag-here, flag-kept, flag-from}
+use Rattle.laws.proofs.Filled.{replicate-at}
 use Rattle.model.specs.Rules.{Pair, Literal, among}
 use Rattle.model.specs.Rules as model
 use Rattle.model.specs.Orders.{rule-at}
@@ -27,14 +27,14 @@ use Rattle.table.specs.Link.{assignments-of, rule-of, rules-of, stratum-at, lit
 use Rattle.table.specs.Flat.{place-of}
 use Rattle.table.specs.Fits.{RuleFits, TableFits}
 use Rattle.table.proofs.Link.{rule-at-is, stratum-at-is}
-use Rattle.table.proofs.Fits.{number}
+use Rattle.table.proofs.Fits.{number, tested-in, assigned-in}
 use Rattle.leastness.specs.OneBelow.{one-below}
 use Rattle.leastness.proofs.OneBelow.{below-e}
 use Rattle.leastness.specs.Chains.{needs-places, heads-with, nexts-with}
 use Rattle.leastness.specs.Flagging.{Flagging, flagging, flag-all}
 use Rattle.leastness.proofs.Flagging.{Queued, FlaggedAll, flagged-all}
 use Rattle.leastness.proofs.Chains.{On, first, Falls, Linked, LinkedAll, Kept, linked-all, on-none}
-use Rattle.leastness.proofs.Carried.{Carried, tested-in, assigned-in}
+use Rattle.leastness.proofs.Carried.{Carried}
 
 picked-few : (f : Literal → Bool) (ls : List Literal) → length (pairs-where f ls) ≤ length ls
 unfolding pairs-where
@@ -80,30 +80,27 @@ module _ (t : Table) (fits : TableFits t) (sh : Shaped t) (hs : List ℕ) (g : C
   unfolding Waits Falls flags-set
   closing-start = record {
     linked = record {
-      falls = λ o. rw (zeros needs-places o) (omega arith);
-      low = λ k. rw (zeros pair-places k) (omega arith);
-      right = λ k y w. absurd (on-none (replicate needs-places 0) (rw (zeros pair-places k) at w));
+      falls = λ o. rw (replicate-at {A = ℕ} needs-places 0 o) (omega arith);
+      low = λ k. rw (replicate-at {A = ℕ} pair-places 0 k) (omega arith);
+      right = λ k y w. absurd (on-none (replicate needs-places 0) (rw (replicate-at {A = ℕ} pair-places 0 k) at w));
       head-places = length-replicate {A = ℕ} pair-places 0;
       next-places = length-replicate {A = ℕ} needs-places 0;
     };
     queued = record {
       room = record { flag-places = length-replicate {A = Bool} pair-places false; counted = refl };
-      listed = λ k w. absurd (rw (no-flag pair-places k) at w);
+      listed = λ k w. absurd (rw (replicate-at pair-places false k) at w);
       inside = λ x h. absurd (omega arith);
       flagged = λ x h. absurd (omega arith);
       queue-places = length-replicate {A = ℕ} pair-places 0;
     };
     held-places = length-replicate {A = Bool} rule-limit false;
-    held-right = λ k w. absurd (rw (no-flag rule-limit k) at w);
-    flags-right = λ k w. absurd (rw (no-flag pair-places k) at w);
+    held-right = λ k w. absurd (rw (replicate-at rule-limit false k) at w);
+    flags-right = λ k w. absurd (rw (replicate-at pair-places false k) at w);
     first-held = λ k h. absurd (omega arith);
     ground-held = λ k h. absurd (omega arith);
-    assigned-flagged = λ k p w. absurd (rw (no-flag rule-limit k) at w);
+    assigned-flagged = λ k p w. absurd (rw (replicate-at rule-limit false k) at w);
     waits = λ k p h. absurd (omega arith);
   }
-    where
-      zeros : (n i : ℕ) → _≡_ {A = ℕ} (getD (replicate n 0) i 0) 0
-      zeros n i = ⊎-elim (λ le. List·getD-eq-default (replicate n 0) 0 {n = i} (rw length-replicate le)) (λ lt. getD-replicate n i 0 0 lt) (le-or-lt n i)
 
   -- Chains do not look at how far the rules went.
   linked-more : (o o′ : ℕ) (heads nexts : List ℕ) → o ≤ o′ → Linked (Stands t hs) o heads nexts → Linked (Stands t hs) o′ heads nexts

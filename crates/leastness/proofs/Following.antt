@@ -26,7 +26,7 @@ use Rattle.table.specs.Link.{assignments-of, rules-of, stratum-at}
 use Rattle.table.specs.Flat.{place-of}
 use Rattle.table.specs.Fits.{TableFits}
 use Rattle.table.proofs.Flat.{same-place}
-use Rattle.table.proofs.Fits.{count-of, number}
+use Rattle.table.proofs.Fits.{count-of, number, tested-in, assigned-in}
 use Rattle.strata.specs.Heights.{asked-at}
 use Rattle.strata.proofs.Heights.{highest-ge}
 use Rattle.leastness.proofs.OneBelow.{below-i}
@@ -35,7 +35,7 @@ use Rattle.leastness.specs.Flagging.{Flagging, flagging, flag-all}
 use Rattle.leastness.specs.CarriesLeast.{carries-least}
 use Rattle.leastness.proofs.Flagging.{FlaggedAll}
 use Rattle.leastness.proofs.Chains.{On, first, later, Falls, on-none, on-split}
-use Rattle.leastness.proofs.Carried.{Carried, Valid, tested-in, assigned-in, level-pair, last, carries-justified, justified-carries}
+use Rattle.leastness.proofs.Carried.{Carried, Valid, level-pair, last, carries-justified, justified-carries}
 use Rattle.leastness.proofs.Closing.{Waits, Stands, Closing, held-more, flagging-of, as-flagging, waits-held}
 
 module _ (t : Table) (hs : List ℕ) where

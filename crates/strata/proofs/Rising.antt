@@ -8,13 +8,14 @@ use Prim.Native.Nat.{ℕ, zero, suc, _+_, _*_, _-_, _≤_, _<_}
 use native.Mathlib.Omega.{arith}
 use native.Mathlib.Nat.{eq-or-lt-of-le}
 use lib.Dec.{T, ltb}
-use lib.ListN.{length, getD, set, replicate, length-set, length-replicate, getD-replicate, List·getD-eq-default}
+use lib.ListN.{length, getD, set, replicate, length-set, length-replicate}
 use lib.Seq.{getD-set-same, getD-set-other}
 use borrow.Author.Tests.{eq-eqb, ne-eqb, lt-ltb, le-ltb}
 use Rattle.laws.specs.Numbers.{Numbered}
 use Rattle.laws.proofs.Truth.{le-or-lt}
 use Rattle.laws.proofs.Equations.{either}
 use Rattle.laws.proofs.Tabulated.{is-tabulate}
+use Rattle.laws.proofs.Filled.{replicate-at}
 use Rattle.model.specs.Rules.{Pair, among}
 use Rattle.model.specs.Orders.{rule-at}
 use Rattle.model.specs.Strata.{weak, tested, needed, barred, depends-plainly, depends-under-not, may-stay-level, must-fall, Strata}
@@ -32,7 +33,7 @@ use Rattle.table.specs.Flat.{place-of}
 use Rattle.table.specs.Fits.{RuleFits, TableFits}
 use Rattle.table.proofs.Link.{rule-at-is}
 use Rattle.table.proofs.Flat.{same-place, placed-inside}
-use Rattle.table.proofs.Fits.{assigned-placed, tested-placed, count-of, number, fits-at}
+use Rattle.table.proofs.Fits.{assigned-placed, count-of, number, tested-in}
 use Rattle.strata.specs.declared.least.Found.{Found}
 use Rattle.strata.specs.Heights.{asked-at, Small, raise-all, least-numbers, circled, found}
 use Rattle.strata.proofs.Heights.{highest-ge, highest-lt, raise-ge, raise-hit, raise-below, raise-length}
@@ -57,13 +58,10 @@ sum-top (x ∷ xs) b h = omega (arith, h 0, sum-top xs b (λ i. h (suc i)))
 pub number-of : List ℕ → ℕ → ℕ
 number-of ns n = getD (0 ∷ ns) n 0
 
-zeros : (n i : ℕ) → _≡_ {A = ℕ} (getD (replicate n 0) i 0) 0
-zeros n i = ⊎-elim (λ le. List·getD-eq-default (replicate n 0) 0 {n = i} (rw length-replicate le)) (λ lt. getD-replicate n i 0 0 lt) (le-or-lt n i)
-
 number-zeros : (n m : ℕ) → number-of (replicate n 0) m ≡ 0
 unfolding number-of
 number-zeros n zero = refl
-number-zeros n (suc m) = zeros n m
+number-zeros n (suc m) = replicate-at {A = ℕ} n 0 m
 
 number-same : (ns : List ℕ) (i s : ℕ) → i < length ns → number-of (set ns i s) (suc i) ≡ s
 unfolding number-of
@@ -103,24 +101,14 @@ module _ (t : Table) (fits : TableFits t) (sh : Shaped t) where
   rising-start = record {
     covers = λ m p i a. rw number-zeros (omega arith);
     below = λ u L m i. rw number-zeros (omega arith);
-    at-needed = λ u L n p i a. rw zeros (omega arith);
-    at-barred = λ u L n p i a. rw zeros (omega (arith, L .from-one n i));
-    low = λ k. rw zeros (omega arith);
-    small = λ i. rw zeros (omega arith);
-    beyond = λ i h. zeros rule-limit i;
+    at-needed = λ u L n p i a. rw (replicate-at {A = ℕ} pair-places 0 (place-of p)) (omega arith);
+    at-barred = λ u L n p i a. rw (replicate-at {A = ℕ} pair-places 0 (place-of p)) (omega (arith, L .from-one n i));
+    low = λ k. rw (replicate-at {A = ℕ} pair-places 0 k) (omega arith);
+    small = λ i. rw (replicate-at {A = ℕ} rule-limit 0 i) (omega arith);
+    beyond = λ i h. replicate-at {A = ℕ} rule-limit 0 i;
     numbers-length = length-replicate {A = ℕ} rule-limit 0;
     high-length = length-replicate {A = ℕ} pair-places 0;
   }
-
-  -- Rule m assigns a pair that rule n needs, so it stands no higher.
-  not-above : (u : ℕ → ℕ) → Strata weak (rules-of t) u → (n m : ℕ) (p : Pair) → Numbered (length (rules-of t)) n → Numbered (length (rules-of t)) m
-      → T (among p (needed (rule-at (rules-of t) n))) → T (among p (rule-at (rules-of t) m .assignments)) → u m ≤ u n
-  not-above u L n m p i j a b = plain-no-higher weak (rules-of t) u L n m p i j a b
-
-  -- Rule m assigns a pair that rule n bars, so it must stand below.
-  below-it : (u : ℕ → ℕ) → Strata weak (rules-of t) u → (n m : ℕ) (p : Pair) → Numbered (length (rules-of t)) n → Numbered (length (rules-of t)) m
-      → T (among p (barred (rule-at (rules-of t) n))) → T (among p (rule-at (rules-of t) m .assignments)) → u m < u n
-  below-it u L n m p i j a b = under-not-smaller weak (rules-of t) u L n m p i j a b
 
   -- What is asked of a rule is asked by any strata.
   asked-top : (ns hs : List ℕ) → Rising t ns hs → (u : ℕ → ℕ) → Strata weak (rules-of t) u → (n : ℕ) → Numbered (length (rules-of t)) n → asked-at hs (rule-at (rules-of t) n) ≤ u n
@@ -144,9 +132,9 @@ module _ (t : Table) (fits : TableFits t) (sh : Shaped t) where
         (λ q. rw (number-other ns i s m q) (g .below u L m im))
         (either m (suc i));
     at-needed = λ u L n p jn a. let z = raise-below (assignments-of r) s hs (place-of p) (suc (u n)) (omega (arith, g .at-needed u L n p jn a))
-        (λ q b w. omega (arith, top-of u L, not-above u L n (suc i) p jn (number t fits sh i h) a (rw is (rw (one-pair n p q jn (needed-tested (rule-at (rules-of t) n) p a) b w) at b)))) in omega (arith, z);
+        (λ q b w. omega (arith, top-of u L, plain-no-higher weak (rules-of t) u L n (suc i) p jn (number t fits sh i h) a (rw is (rw (one-pair n p q jn (needed-tested (rule-at (rules-of t) n) p a) b w) at b)))) in omega (arith, z);
     at-barred = λ u L n p jn a. raise-below (assignments-of r) s hs (place-of p) (u n) (g .at-barred u L n p jn a)
-        (λ q b w. omega (arith, top-of u L, below-it u L n (suc i) p jn (number t fits sh i h) a (rw is (rw (one-pair n p q jn (barred-tested (rule-at (rules-of t) n) p a) b w) at b))));
+        (λ q b w. omega (arith, top-of u L, under-not-smaller weak (rules-of t) u L n (suc i) p jn (number t fits sh i h) a (rw is (rw (one-pair n p q jn (barred-tested (rule-at (rules-of t) n) p a) b w) at b))));
     low = λ k. let z = raise-below (assignments-of r) s hs k (suc (t .count)) (omega (arith, g .low k)) (λ q b w. omega (arith, top)) in omega (arith, z);
     small = λ k. ⊎-elim
         (λ (q : k ≡ i). rw (q, getD-set-same ns i s 0 l) (omega (arith, fits .rules-fit)))
@@ -168,8 +156,7 @@ module _ (t : Table) (fits : TableFits t) (sh : Shaped t) where
 
       one-pair : (n : ℕ) (p q : Pair) → Numbered (length (rules-of t)) n → T (among p (tested (rule-at (rules-of t) n))) → T (among q (assignments-of r)) → place-of q ≡ place-of p → q ≡ p
       one-pair n p q jn a b w =
-          let x = fits-at t fits sh n jn in
-          same-place q p (assigned-placed r q f b .in-row) (tested-placed (x .0) p (x .1) (rw (x .2) at a) .in-row) w
+          same-place q p (assigned-placed r q f b .in-row) (tested-in t fits sh n p jn a .in-row) w
 
   rising-step : (i : ℕ) (ns hs : List ℕ) (s : ℕ) → i < t .count → s ≡ asked-at hs (rule-of (getD (t .rules) i no-rule)) → s ≤ t .count
       → Rising t ns hs → Rising t (set ns i s) (raise-all (assignments-of (getD (t .rules) i no-rule)) s hs)

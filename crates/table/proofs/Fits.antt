@@ -69,3 +69,10 @@ module _ (t : Table) (fits : TableFits t) (sh : Shaped t) where
   pub fits-at : (n : ℕ) → Numbered (length (rules-of t)) n → (r : Rule) × RuleFits r × (rule-at (rules-of t) n ≡ rule-of r)
   fits-at zero i = absurd (omega (arith, i .first))
   fits-at (suc n) i = let h : n < t .count = omega (arith, i .last, count-of) in (getD (t .rules) n no-rule, fits .each-fits n h, rule-at-is t n h)
+
+  -- What they test and what they assign has a place in an array indexed by pair.
+  pub tested-in : (n : ℕ) (p : Pair) → Numbered (length (rules-of t)) n → T (among p (tested (rule-at (rules-of t) n))) → Placed (p .slot) (p .value)
+  tested-in n p i a = let x = fits-at n i in tested-placed (x .0) p (x .1) (rw (x .2) at a)
+
+  pub assigned-in : (n : ℕ) (p : Pair) → Numbered (length (rules-of t)) n → T (among p (rule-at (rules-of t) n .assignments)) → Placed (p .slot) (p .value)
+  assigned-in n p i a = let x = fits-at n i in assigned-placed (x .0) p (x .1) (rw (x .2) at a)

@@ -13,8 +13,9 @@ use borrow.Author.Tests.{lt-ltb}
 use Rattle.laws.specs.Truth.{_∧ᵇ_, _∨ᵇ_}
 use Rattle.laws.proofs.Truth.{and-l, and-r, and-i, or-l, or-r, or-e, bool-ext}
 use Rattle.laws.proofs.Equations.{and-false, or-swap}
-use Rattle.laws.proofs.Flags.{flag-here, flag-inside, flag-kept, flag-from, no-flag}
+use Rattle.laws.proofs.Flags.{flag-here, flag-inside, flag-kept, flag-from}
 use Rattle.laws.proofs.Tabulated.{is-tabulate}
+use Rattle.laws.proofs.Filled.{replicate-at}
 use Rattle.model.specs.Rules.{Pair, Pairs, same, among}
 use Rattle.model.proofs.Pairs.{same-refl, same-eq}
 use Rattle.table.specs.Limits.{row, pair-places}
@@ -44,7 +45,7 @@ set-i bs p h t = and-i (ltb (p .value) row) _ (lt→ltb (p .value) row h) t
 
 pub set-none : (n : ℕ) (p : Pair) → set-of (replicate n false) p ≡ false
 unfolding set-of
-set-none n p = rw (no-flag n (place-of p)) (and-false (ltb (p .value) row))
+set-none n p = rw (replicate-at n false (place-of p)) (and-false (ltb (p .value) row))
 
 -- One pair more.
 pub set-more : (bs : List Bool) (q p : Pair) → q .value < row → place-of q < length bs → set-of (set bs (place-of q) true) p ≡ (same p q ∨ᵇ set-of bs p)
