@@ -1,9 +1,11 @@
 -- The results of the boundary: the answers of the entry points with document 01's numbers in place of the enums.
 use Prim.Native.Nat.{ℕ}
+use lib.ListN.{length}
 use Rattle.reader.specs.declared.FileRead.{FileRead}
 use Rattle.reader.specs.Tables as reading
 use Rattle.printing.specs.declared.Printing.{Printing}
 use Rattle.printing.specs.Printing.{printing-refusal, printing-second, printing-length}
+use Rattle.names.specs.Names.{Showing}
 use Rattle.cards.specs.declared.CardRead.{CardRead}
 use Rattle.cards.specs.declared.SlipRead.{SlipRead}
 use Rattle.cards.specs.declared.Packing.{Packing}
@@ -15,6 +17,7 @@ use Rattle.response.specs.declared.Response.{Response}
 use Rattle.response.specs.Respond as responding
 use Rattle.library.specs.declared.RlRead.{RlRead}
 use Rattle.library.specs.declared.RlPrinted.{RlPrinted}
+use Rattle.library.specs.declared.RlName.{RlName}
 use Rattle.library.specs.declared.RlCard.{RlCard}
 use Rattle.library.specs.declared.RlSlip.{RlSlip}
 use Rattle.library.specs.declared.RlPacked.{RlPacked}
@@ -27,6 +30,10 @@ read-result r = record { number = reading.refusal-number (r .outcome); second = 
 -- A print.
 abbrev pub print-result : Printing → RlPrinted
 print-result p = record { number = printing-refusal p; second = printing-second p; length = printing-length p }
+
+-- A name: where it stands in the text, and how long it is.
+abbrev pub name-numbers : Showing → RlName
+name-numbers s = record { number = s .code; start = s .start; size = length (s .part) }
 
 -- An unpacked card.
 abbrev pub card-result : CardRead → RlCard

@@ -2,14 +2,13 @@
 ghost use mathlib.Core.Path.{_≡_};
 ghost use lib.ListN.{length};
 ghost use Rattle.laws.specs.Answers.{output-of};
-ghost use Rattle.names.specs.Names.{show-slot, show-value};
+ghost use Rattle.names.specs.Names.{show-name, show-slot, show-value};
 ghost use Rattle.soundness.specs.Sound.{sound};
 ghost use Rattle.rule_file.specs.Whole.{reading};
 ghost use Rattle.printing.specs.Printing.{printed, printing-of};
 ghost use Rattle.cards.specs.Cards.{unpacked-card, unpacked-slip, packed-card, packed-slip, card-read, slip-read, packing-of};
 ghost use Rattle.response.specs.Respond.{rooms-of, outputs, outputs-after, answer-to, response-to};
-ghost use Rattle.library.specs.Results.{read-result, print-result, card-result, slip-result, packing-result, numbered, response-result};
-ghost use Rattle.library.specs.Places.{name-place, slot-place, value-place, ShowsPart};
+ghost use Rattle.library.specs.Results.{read-result, print-result, name-numbers, card-result, slip-result, packing-result, numbered, response-result};
 use cards::Card;
 use cards::Packing;
 use cards::Slip;
@@ -143,12 +142,13 @@ pub extern "C" fn rl_is_sound(t: Table) -> bool
     soundness::is_sound(t)
 }
 
-// Where a name stands in a text of this length; 31 where it stands outside.
-fn place_of(length: usize, name: Name) -> RlName
-    ensures { λ r. ⌜ r ≡ name-place length name ⌝ }
+// Where a name stands in the text; 31 where it stands outside.
+fn name_place(text: &[u8], name: Name) -> RlName
+    ensures { λ r. ⌜ r ≡ name-numbers (show-name (now (text .entry)) name) ⌝ }
 {
     let start = name.start;
     let size = name.size;
+    let length = text.len();
     if start <= length {
         if size <= length - start {
             return RlName {
@@ -168,7 +168,7 @@ fn place_of(length: usize, name: Name) -> RlName
 // Where a slot's name stands in the text, or 31.
 #[no_mangle]
 pub extern "C" fn rl_slot_name(text: &[u8], t: Table, slot: usize) -> RlName
-    ensures { λ r. ⌜ (r ≡ slot-place (length (now (text .entry))) t slot) × ShowsPart (now (text .entry)) r (show-slot (now (text .entry)) t slot) ⌝ }
+    ensures { λ r. ⌜ r ≡ name-numbers (show-slot (now (text .entry)) t slot) ⌝ }
 {
     let width = t.width;
     if !names::has_slot(width, slot) {
@@ -180,13 +180,13 @@ pub extern "C" fn rl_slot_name(text: &[u8], t: Table, slot: usize) -> RlName
     }
     let named = t.slots[slot];
     let name = named.name;
-    place_of(text.len(), name)
+    name_place(text, name)
 }
 
 // Where the name of a value of a slot stands in the text, values counted from 1, or 31.
 #[no_mangle]
 pub extern "C" fn rl_value_name(text: &[u8], t: Table, slot: usize, value: usize) -> RlName
-    ensures { λ r. ⌜ (r ≡ value-place (length (now (text .entry))) t slot value) × ShowsPart (now (text .entry)) r (show-value (now (text .entry)) t slot value) ⌝ }
+    ensures { λ r. ⌜ r ≡ name-numbers (show-value (now (text .entry)) t slot value) ⌝ }
 {
     let width = t.width;
     if !names::has_slot(width, slot) {
@@ -207,7 +207,7 @@ pub extern "C" fn rl_value_name(text: &[u8], t: Table, slot: usize, value: usize
     }
     let k = value - 1;
     let name = s.values[k];
-    place_of(text.len(), name)
+    name_place(text, name)
 }
 
 // Unpacks bytes as a card: 31, 20 to 23.

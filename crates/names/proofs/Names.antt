@@ -1,9 +1,10 @@
 -- The tests by which a name is found.
 -- Assumes nothing.
-use mathlib.Core.Path.{_≡_}
+use mathlib.Core.Path.{_≡_, sym, ap}
 use mathlib.Core.Bool.{true, false}
 use mathlib.Core.List.{List}
 use Prim.Native.Nat.{ℕ, _+_, _-_, _≤_, _<_}
+use native.Mathlib.Nat.{add-comm, add-zero}
 use lib.Dec.{leb, ltb, leb→le, ltb→lt}
 use lib.ListN.{length, take, drop, getD}
 use borrow.Author.Tests.{le-leb, lt-leb}
@@ -15,7 +16,7 @@ use Rattle.table.specs.declared.Slot.{Slot}
 use Rattle.table.specs.declared.Table.{Table}
 use Rattle.table.specs.Limits.{slot-limit, value-limit}
 use Rattle.table.specs.Shape.{no-name, no-slot}
-use Rattle.names.specs.Names.{refused, has-slot, has-value, show-name, show-slot, show-value-of, show-value}
+use Rattle.names.specs.Names.{part-place, refused, has-slot, has-value, show-name, show-slot, show-value-of, show-value}
 
 pub slot-inside : (width slot : ℕ) → has-slot width slot ≡ true → (slot < slot-limit) × (slot < width)
 unfolding has-slot
@@ -30,7 +31,7 @@ value-inside count value e =
     let l = and-l (leb 1 value ∧ᵇ leb value value-limit) (leb value count) t in
     (leb→le 1 value (and-l (leb 1 value) (leb value value-limit) l), (leb→le value value-limit (and-r (leb 1 value) (leb value value-limit) l), leb→le value count (and-r (leb 1 value ∧ᵇ leb value value-limit) (leb value count) t)))
 
-pub name-inside : (text : List ℕ) (n : Name) → n .start + n .size ≤ length text → show-name text n ≡ record { code = 0; part = take (n .size) (drop (n .start) text) }
+pub name-inside : (text : List ℕ) (n : Name) → n .start + n .size ≤ length text → show-name text n ≡ record { code = 0; start = n .start; part = take (n .size) (drop (n .start) text) }
 unfolding show-name
 name-inside text n h = rw (le-leb (n .start + n .size) (length text) h)
 
@@ -61,3 +62,11 @@ value-shown text t slot value e = rw e
 pub value-lacking : (text : List ℕ) (t : Table) (slot value : ℕ) → has-slot (t .width) slot ≡ false → show-value text t slot value ≡ refused
 unfolding show-value
 value-lacking text t slot value e = rw e
+
+-- The empty part of a refusal lies at the beginning of the text,
+pub at-beginning : (text : ℕ × ℕ) → text ≡ part-place text refused
+at-beginning text = ap (λ (o : ℕ). (text .0, o)) (sym (add-zero (text .1)))
+
+-- and any other as far from it as it begins.
+pub begins-at : (text : ℕ × ℕ) (start : ℕ) → _≡_ {A = ℕ × ℕ} (text .0, start + text .1) (text .0, text .1 + start)
+begins-at text start = ap (λ (o : ℕ). (text .0, o)) (add-comm start (text .1))

@@ -12,18 +12,27 @@ use Rattle.table.specs.declared.Table.{Table}
 use Rattle.table.specs.Limits.{slot-limit, value-limit}
 use Rattle.table.specs.Shape.{no-name, no-slot}
 
--- An answer: 0 and a part of the text, or a refusal's number and no part.
+-- An answer: 0, where a part of the text begins, and that part; or a refusal's number and an empty part at the beginning.
 pub record Showing : Type 0 where
   pub code : ℕ
+  pub start : ℕ
   pub part : List ℕ
 
 -- Refusal 31.
 abbrev pub refused : Showing
-refused = record { code = 31; part = [] }
+refused = record { code = 31; start = 0; part = [] }
+
+-- A showing with the place of its part left aside.
+abbrev pub unplaced : Showing → Showing
+unplaced s = record { code = s .code; start = 0; part = s .part }
+
+-- A part lies in a text where its showing says: in the same block of memory, as far from the text's first byte as it begins.
+abbrev pub part-place : ℕ × ℕ → Showing → ℕ × ℕ
+part-place text s = (text .0, text .1 + s .start)
 
 -- A name: the stretch of text from its start, as long as its size.
 unfoldable pub show-name : List ℕ → Name → Showing
-show-name text n = cond (leb (n .start + n .size) (length text)) (record { code = 0; part = take (n .size) (drop (n .start) text) }) refused
+show-name text n = cond (leb (n .start + n .size) (length text)) (record { code = 0; start = n .start; part = take (n .size) (drop (n .start) text) }) refused
 
 -- A table with so many slots has this one.
 unfoldable pub has-slot : ℕ → ℕ → Bool

@@ -1,6 +1,7 @@
 // Names shown as parts of the caller's text: document 01, 'Rule text'.
 ghost use mathlib.Core.Path.{_≡_};
-ghost use Rattle.names.specs.Names.{has-slot, has-value, show-name, show-slot, show-value-of, show-value};
+ghost use denote.Ref.{ptr};
+ghost use Rattle.names.specs.Names.{part-place, has-slot, has-value, show-name, show-slot, show-value-of, show-value};
 use table::Name;
 use table::SLOTS;
 use table::Slot;
@@ -9,7 +10,7 @@ use table::VALUES;
 
 // The part of the text where a name stands; `code` gets 0, or 31 with an empty part where the name stands outside the text.
 fn stretch<'a>(text: &'a [u8], name: Name, code: &mut u8) -> &'a [u8]
-    ensures { λ r. ⌜ (now (code .exit) ≡ show-name (now (text .entry)) name .code) × (now r ≡ show-name (now (text .entry)) name .part) ⌝ }
+    ensures { λ r. ⌜ (now (code .exit) ≡ show-name (now (text .entry)) name .code) × (now r ≡ show-name (now (text .entry)) name .part) × (ptr r ≡ part-place (ptr (text .entry)) (show-name (now (text .entry)) name)) ⌝ }
 {
     let start = name.start;
     let size = name.size;
@@ -50,7 +51,7 @@ pub fn has_value(count: usize, value: usize) -> bool
 
 // A slot's name: the very stretch of the text where it was declared; `code` gets 0, or 31 with an empty part.
 pub fn slot_name<'a>(text: &'a [u8], t: Table, slot: usize, code: &mut u8) -> &'a [u8]
-    ensures { λ r. ⌜ (now (code .exit) ≡ show-slot (now (text .entry)) t slot .code) × (now r ≡ show-slot (now (text .entry)) t slot .part) ⌝ }
+    ensures { λ r. ⌜ (now (code .exit) ≡ show-slot (now (text .entry)) t slot .code) × (now r ≡ show-slot (now (text .entry)) t slot .part) × (ptr r ≡ part-place (ptr (text .entry)) (show-slot (now (text .entry)) t slot)) ⌝ }
 {
     let width = t.width;
     if !has_slot(width, slot) {
@@ -64,7 +65,7 @@ pub fn slot_name<'a>(text: &'a [u8], t: Table, slot: usize, code: &mut u8) -> &'
 
 // The name of a value of this slot, values counted from 1; `code` gets 0, or 31 with an empty part.
 fn value_of<'a>(text: &'a [u8], s: Slot, value: usize, code: &mut u8) -> &'a [u8]
-    ensures { λ r. ⌜ (now (code .exit) ≡ show-value-of (now (text .entry)) s value .code) × (now r ≡ show-value-of (now (text .entry)) s value .part) ⌝ }
+    ensures { λ r. ⌜ (now (code .exit) ≡ show-value-of (now (text .entry)) s value .code) × (now r ≡ show-value-of (now (text .entry)) s value .part) × (ptr r ≡ part-place (ptr (text .entry)) (show-value-of (now (text .entry)) s value)) ⌝ }
 {
     let count = s.count;
     if !has_value(count, value) {
@@ -84,7 +85,7 @@ pub fn value_name<'a>(
     value: usize,
     code: &mut u8,
 ) -> &'a [u8]
-    ensures { λ r. ⌜ (now (code .exit) ≡ show-value (now (text .entry)) t slot value .code) × (now r ≡ show-value (now (text .entry)) t slot value .part) ⌝ }
+    ensures { λ r. ⌜ (now (code .exit) ≡ show-value (now (text .entry)) t slot value .code) × (now r ≡ show-value (now (text .entry)) t slot value .part) × (ptr r ≡ part-place (ptr (text .entry)) (show-value (now (text .entry)) t slot value)) ⌝ }
 {
     let width = t.width;
     if !has_slot(width, slot) {

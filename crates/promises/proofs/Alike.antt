@@ -2,8 +2,8 @@
 -- Assumes nothing.
 use Prim.Native.Nat.{ℕ, suc, _-_, _≤_, _<_}
 use native.Mathlib.Omega.{arith}
-use mathlib.Core.Path.{_≡_, sym, ap, ap₂, _∙_}
-use mathlib.Core.Bool.{cond}
+use mathlib.Core.Path.{_≡_, refl, sym, ap, ap₂, _∙_}
+use mathlib.Core.Bool.{Bool, true, false, cond}
 use mathlib.Core.List.{List, [], _∷_, map, head-eq-of-cons-eq, tail-eq-of-cons-eq}
 use lib.ListN.{length, getD, length-map, List·getD-map}
 use lib.Seq.{ext-getD}
@@ -16,13 +16,13 @@ use Rattle.model.specs.Least.{strata-of}
 use Rattle.table.specs.declared.Table.{Table}
 use Rattle.table.specs.Limits.{slot-limit, value-limit}
 use Rattle.table.specs.Link.{used-rules, rules-of, carried-strata, stratum-at}
-use Rattle.names.specs.Names.{Showing, refused, has-slot, has-value}
+use Rattle.names.specs.Names.{Showing, refused, unplaced, has-slot, has-value}
 use Rattle.grammar.specs.Files.{Slot, File, spellings, no-slot, values-of, slot-counts}
 use Rattle.grammar.specs.Limits.{max-slots}
 use Rattle.style.specs.Printed.{lettered, Agree}
 use Rattle.style.proofs.Prints.{agree-counts}
 use Rattle.rule_file.specs.Whole.{reading}
-use Rattle.rule_file.specs.Carries.{declared-slot, declared-value, Carries}
+use Rattle.rule_file.specs.Carries.{declared, declared-slot, declared-value, Carries}
 use Rattle.grammar.proofs.Declared.{Declared-file, file-declared}
 use Rattle.promises.specs.HouseStyle.{Alike}
 use Rattle.promises.proofs.Bounds.{few-values}
@@ -34,6 +34,14 @@ letters-at ns i = List·getD-map (λ (m : Name). m .letters) ns i (no-slot .name
 spellings-length : (ns : List Name) → length (spellings ns) ≡ length ns
 spellings-length ns = length-map ns (λ (m : Name). m .letters)
 
+-- A name shown by its letters.
+abbrev lettering : List ℕ → Showing
+lettering l = record { code = 0; start = 0; part = l }
+
+unplaced-if : (b : Bool) (x : Showing) → unplaced (cond b x refused) ≡ cond b (unplaced x) refused
+unplaced-if true x = refl
+unplaced-if false x = refl
+
 module _ (ss ss′ : List Slot) (e : map lettered ss ≡ map lettered ss′) where
   as-many : length ss ≡ length ss′
   as-many = sym (length-map ss lettered) ∙ ap length e ∙ length-map ss′ lettered
@@ -42,27 +50,32 @@ module _ (ss ss′ : List Slot) (e : map lettered ss ≡ map lettered ss′) whe
   lettered-at s = sym (List·getD-map lettered ss s no-slot) ∙ ap (λ (ls : List (List (List ℕ))). getD ls s (lettered no-slot)) e ∙ List·getD-map lettered ss′ s no-slot
 
   -- Slots with the same letters are declared alike,
-  slots-alike : (s : ℕ) → declared-slot ss s ≡ declared-slot ss′ s
-  slots-alike s = ap₂ (λ (n : ℕ) (l : List ℕ). cond (has-slot n s) (record { code = 0; part = l }) refused) as-many (head-eq-of-cons-eq (lettered-at s))
+  slots-alike : (s : ℕ) → unplaced (declared-slot ss s) ≡ unplaced (declared-slot ss′ s)
+  slots-alike s =
+      unplaced-if (has-slot (length ss) s) _ ∙ ap₂ (λ (n : ℕ) (l : List ℕ). cond (has-slot n s) (lettering l) refused) as-many (head-eq-of-cons-eq (lettered-at s))
+      ∙ sym (unplaced-if (has-slot (length ss′) s) _)
 
   -- and so are their values.
-  values-alike : (s v : ℕ) → declared-value ss s v ≡ declared-value ss′ s v
-  values-alike s v = ap₂ (λ (n : ℕ) (x : Showing). cond (has-slot n s) x refused) as-many (by-letters (values-of ss s) ∙ ap shown (tail-eq-of-cons-eq (lettered-at s)) ∙ sym (by-letters (values-of ss′ s)))
+  values-alike : (s v : ℕ) → unplaced (declared-value ss s v) ≡ unplaced (declared-value ss′ s v)
+  values-alike s v =
+      unplaced-if (has-slot (length ss) s) _
+      ∙ ap₂ (λ (n : ℕ) (x : Showing). cond (has-slot n s) x refused) as-many (by-letters (values-of ss s) ∙ ap shown (tail-eq-of-cons-eq (lettered-at s)) ∙ sym (by-letters (values-of ss′ s)))
+      ∙ sym (unplaced-if (has-slot (length ss′) s) _)
     where
       shown : List (List ℕ) → Showing
-      shown ls = cond (has-value (length ls) v) (record { code = 0; part = getD ls (v - 1) [] }) refused
+      shown ls = cond (has-value (length ls) v) (lettering (getD ls (v - 1) [])) refused
 
-      by-letters : (ns : List Name) → cond (has-value (length ns) v) (record { code = 0; part = getD ns (v - 1) (no-slot .name) .letters }) refused ≡ shown (spellings ns)
-      by-letters ns = ap₂ (λ (n : ℕ) (l : List ℕ). cond (has-value n v) (record { code = 0; part = l }) refused) (sym (spellings-length ns)) (sym (letters-at ns (v - 1)))
+      by-letters : (ns : List Name) → unplaced (cond (has-value (length ns) v) (declared (getD ns (v - 1) (no-slot .name))) refused) ≡ shown (spellings ns)
+      by-letters ns = unplaced-if (has-value (length ns) v) _ ∙ ap₂ (λ (n : ℕ) (l : List ℕ). cond (has-value n v) (lettering l) refused) (sym (spellings-length ns)) (sym (letters-at ns (v - 1)))
 
 -- What a slot that is there is shown as,
-slot-told : (ss : List Slot) (s : ℕ) → length ss ≤ slot-limit → s < length ss → declared-slot ss s ≡ record { code = 0; part = getD ss s no-slot .name .letters }
+slot-told : (ss : List Slot) (s : ℕ) → length ss ≤ slot-limit → s < length ss → declared-slot ss s ≡ declared (getD ss s no-slot .name)
 unfolding has-slot _∧ᵇ_
 slot-told ss s few h = rw (lt-ltb s slot-limit (omega arith), lt-ltb s (length ss) h)
 
 -- and a value that is there.
 value-told : (ss : List Slot) (s i : ℕ) → length ss ≤ slot-limit → s < length ss → length (values-of ss s) ≤ value-limit → i < length (values-of ss s)
-    → declared-value ss s (suc i) ≡ record { code = 0; part = getD (values-of ss s) i (no-slot .name) .letters }
+    → declared-value ss s (suc i) ≡ declared (getD (values-of ss s) i (no-slot .name))
 unfolding has-slot has-value _∧ᵇ_
 value-told ss s i few h most l =
     let z : suc i - 1 ≡ i = omega arith in
@@ -88,8 +101,8 @@ module _ (text text′ : List ℕ) (c : Carries text (reading text .table)) (c�
   pub agree-alike : Agree f g → Alike text text′
   agree-alike a = record {
     same-counts = c .counts-are ∙ agree-counts f g a ∙ sym (c′ .counts-are);
-    same-slots = λ s. c .slots-shown s ∙ slots-alike (f .slots) (g .slots) (a .same-slots) s ∙ sym (c′ .slots-shown s);
-    same-values = λ s v. c .values-shown s v ∙ values-alike (f .slots) (g .slots) (a .same-slots) s v ∙ sym (c′ .values-shown s v);
+    same-slots = λ s. ap unplaced (c .slots-shown s) ∙ slots-alike (f .slots) (g .slots) (a .same-slots) s ∙ sym (ap unplaced (c′ .slots-shown s));
+    same-values = λ s v. ap unplaced (c .values-shown s v) ∙ values-alike (f .slots) (g .slots) (a .same-slots) s v ∙ sym (ap unplaced (c′ .values-shown s v));
     same-rules = c .rules-are ∙ a .same-rules ∙ sym (c′ .rules-are);
     same-strata = ext-getD 0 (carried-strata (reading text .table)) (carried-strata (reading text′ .table)) as-many-rules each;
   }
@@ -105,11 +118,11 @@ module _ (text text′ : List ℕ) (c : Carries text (reading text .table)) (c�
           let k : i < length (f .rules) = omega (arith, h, as-many-strata text _ c) in
           strata-at text _ c i k ∙ ap (λ (rs : List Rule). strata-of weak rs (suc i)) (a .same-rules) ∙ sym (strata-at text′ _ c′ i (omega (arith, k, counted)))
 
-  declared : Declared-file f
-  declared = file-declared text f (c .is-file)
+  file-is : Declared-file f
+  file-is = file-declared text f (c .is-file)
 
-  declared′ : Declared-file g
-  declared′ = file-declared text′ g (c′ .is-file)
+  file-is′ : Declared-file g
+  file-is′ = file-declared text′ g (c′ .is-file)
 
   -- A slot of a file has no more values than the limit.
   most : (h : File) → Declared-file h → (s : ℕ) → length (values-of (h .slots) s) ≤ value-limit
@@ -136,13 +149,13 @@ module _ (text text′ : List ℕ) (c : Carries text (reading text .table)) (c�
 
       name-same : (s : ℕ) → s < length (f .slots) → getD (f .slots) s no-slot .name .letters ≡ getD (g .slots) s no-slot .name .letters
       name-same s h = ap (λ (x : Showing). x .part)
-          (sym (slot-told (f .slots) s (declared .few-slots) h) ∙ sym (c .slots-shown s) ∙ a .same-slots s ∙ c′ .slots-shown s
-          ∙ slot-told (g .slots) s (declared′ .few-slots) (omega (arith, h, as-many-slots)))
+          (ap unplaced (sym (slot-told (f .slots) s (file-is .few-slots) h) ∙ sym (c .slots-shown s)) ∙ a .same-slots s
+          ∙ ap unplaced (c′ .slots-shown s ∙ slot-told (g .slots) s (file-is′ .few-slots) (omega (arith, h, as-many-slots))))
 
       value-same : (s i : ℕ) → s < length (f .slots) → i < length (values-of (f .slots) s) → getD (values-of (f .slots) s) i (no-slot .name) .letters ≡ getD (values-of (g .slots) s) i (no-slot .name) .letters
       value-same s i h l = ap (λ (x : Showing). x .part)
-          (sym (value-told (f .slots) s i (declared .few-slots) h (most f declared s) l) ∙ sym (c .values-shown s (suc i)) ∙ a .same-values s (suc i) ∙ c′ .values-shown s (suc i)
-          ∙ value-told (g .slots) s i (declared′ .few-slots) (omega (arith, h, as-many-slots)) (most g declared′ s) (omega (arith, l, as-many-values s)))
+          (ap unplaced (sym (value-told (f .slots) s i (file-is .few-slots) h (most f file-is s) l) ∙ sym (c .values-shown s (suc i))) ∙ a .same-values s (suc i)
+          ∙ ap unplaced (c′ .values-shown s (suc i) ∙ value-told (g .slots) s i (file-is′ .few-slots) (omega (arith, h, as-many-slots)) (most g file-is′ s) (omega (arith, l, as-many-values s))))
 
       values-same : (s : ℕ) → s < length (f .slots) → spellings (values-of (f .slots) s) ≡ spellings (values-of (g .slots) s)
       values-same s h =

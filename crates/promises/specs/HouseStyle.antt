@@ -13,7 +13,7 @@ use Rattle.grammar.specs.Grammar.{FileTree, spell}
 use Rattle.grammar.specs.Meaning.{Means, Is-file}
 use Rattle.grammar.specs.Reading.{read}
 use Rattle.table.specs.Link.{rules-of, carried-strata, value-counts}
-use Rattle.names.specs.Names.{show-slot, show-value}
+use Rattle.names.specs.Names.{unplaced, show-slot, show-value}
 use Rattle.style.specs.Layout.{layout, by-letters}
 use Rattle.style.specs.Printed.{canonical}
 use Rattle.style.specs.Tidy.{Tidy}
@@ -25,11 +25,11 @@ use Rattle.response.specs.Respond.{Rooms}
 use Rattle.promises.specs.Agreement.{responds}
 
 -- Two texts are alike: the tables that they are read to have as many slots and values, show the same names for them, and have the same rules and the same strata.
--- A name is shown as its letters: where in its text it stands is left aside.
+-- Where in its text a name stands is left aside.
 pub record Alike (text text′ : List ℕ) : Type 0 where
   pub same-counts : value-counts (reading text .table) ≡ value-counts (reading text′ .table)
-  pub same-slots : (s : ℕ) → show-slot text (reading text .table) s ≡ show-slot text′ (reading text′ .table) s
-  pub same-values : (s v : ℕ) → show-value text (reading text .table) s v ≡ show-value text′ (reading text′ .table) s v
+  pub same-slots : (s : ℕ) → unplaced (show-slot text (reading text .table) s) ≡ unplaced (show-slot text′ (reading text′ .table) s)
+  pub same-values : (s v : ℕ) → unplaced (show-value text (reading text .table) s v) ≡ unplaced (show-value text′ (reading text′ .table) s v)
   pub same-rules : rules-of (reading text .table) ≡ rules-of (reading text′ .table)
   pub same-strata : carried-strata (reading text .table) ≡ carried-strata (reading text′ .table)
 

@@ -21,12 +21,12 @@ use Rattle.names.specs.Names.{refused, has-slot, has-value, show-name, show-slo
 use Rattle.names.proofs.Names.{slot-inside, value-inside, name-inside}
 use Rattle.lines.specs.Index.{name-for, slot-for}
 use Rattle.reader.specs.Tables.{table-for}
-use Rattle.rule_file.specs.Carries.{declared-slot, declared-value}
+use Rattle.rule_file.specs.Carries.{declared, declared-slot, declared-value}
 use Rattle.rule_file.proofs.FileTable.{image-at}
 
 module _ (text : List ℕ) (f : File) (stands : Slots-stand text (f .slots)) where
-  name-shown : (n : Name) → Stands text n → show-name text (name-for n) ≡ record { code = 0; part = n .letters }
-  name-shown n h = name-inside text (name-for n) (h .inside) ∙ ap (λ (l : List ℕ). record { code = 0; part = l }) (h .there)
+  name-shown : (n : Name) → Stands text n → show-name text (name-for n) ≡ declared n
+  name-shown n h = name-inside text (name-for n) (h .inside) ∙ ap (λ (l : List ℕ). record { code = 0; start = n .start; part = l }) (h .there)
 
   slot-here : (s : ℕ) → s < length (f .slots) → getD (table-for f .slots) s no-slot ≡ slot-for (getD (f .slots) s files.no-slot)
   unfolding table-for
@@ -41,14 +41,14 @@ module _ (text : List ℕ) (f : File) (stands : Slots-stand text (f .slots)) whe
   slots-show s = go (has-slot (length (f .slots)) s) refl
     where
       go : (b : Bool) → has-slot (length (f .slots)) s ≡ b
-          → cond b (show-name text (getD (table-for f .slots) s no-slot .name)) refused ≡ cond b (record { code = 0; part = getD (f .slots) s files.no-slot .name .letters }) refused
+          → cond b (show-name text (getD (table-for f .slots) s no-slot .name)) refused ≡ cond b (declared (getD (f .slots) s files.no-slot .name)) refused
       go true e =
           let h = slot-inside (length (f .slots)) s e .1 in
           ap (λ (t : Slot). show-name text (t .name)) (slot-here s h) ∙ name-shown (getD (f .slots) s files.no-slot .name) (names-here s h .0)
       go false e = refl
 
   value-here : (ns : List Name) (v : ℕ) → Each (Stands text) ns → has-value (length ns) v ≡ true
-      → show-name text (getD (slot-for (record { name = files.no-slot .name; values = ns }) .values) (v - 1) no-name) ≡ record { code = 0; part = getD ns (v - 1) (files.no-slot .name) .letters }
+      → show-name text (getD (slot-for (record { name = files.no-slot .name; values = ns }) .values) (v - 1) no-name) ≡ declared (getD ns (v - 1) (files.no-slot .name))
   value-here ns v h e =
       let i = value-inside (length ns) v e in
       let l : v - 1 < length ns = omega (arith, i .0, i .1 .1) in
@@ -62,13 +62,13 @@ module _ (text : List ℕ) (f : File) (stands : Slots-stand text (f .slots)) whe
     where
       within : (ns : List Name) (b : Bool) → has-value (length ns) v ≡ b → Each (Stands text) ns
           → cond b (show-name text (getD (slot-for (record { name = files.no-slot .name; values = ns }) .values) (v - 1) no-name)) refused
-          ≡ cond b (record { code = 0; part = getD ns (v - 1) (files.no-slot .name) .letters }) refused
+          ≡ cond b (declared (getD ns (v - 1) (files.no-slot .name))) refused
       within ns true e h = value-here ns v h e
       within ns false e h = refl
 
       go : (b : Bool) → has-slot (length (f .slots)) s ≡ b
           → cond b (show-value-of text (getD (table-for f .slots) s no-slot) v) refused
-          ≡ cond b (cond (has-value (length (values-of (f .slots) s)) v) (record { code = 0; part = getD (values-of (f .slots) s) (v - 1) (files.no-slot .name) .letters }) refused) refused
+          ≡ cond b (cond (has-value (length (values-of (f .slots) s)) v) (declared (getD (values-of (f .slots) s) (v - 1) (files.no-slot .name))) refused) refused
       go true e =
           let h = slot-inside (length (f .slots)) s e .1 in
           ap (λ (t : Slot). show-value-of text t v) (slot-here s h)

@@ -8,21 +8,26 @@ use Rattle.laws.specs.Numbers.{Numbered}
 use Rattle.model.specs.Strata.{weak}
 use Rattle.model.specs.Circles.{circle-of}
 use Rattle.model.specs.Least.{strata-of}
+use Rattle.text.specs.Tokens.{Name}
 use Rattle.table.specs.declared.Table.{Table}
 use Rattle.table.specs.Link.{rules-of, stratum-at, value-counts}
 use Rattle.names.specs.Names.{Showing, refused, has-slot, has-value, show-slot, show-value}
 use Rattle.grammar.specs.Files.{Slot, File, no-slot, values-of, slot-counts}
 use Rattle.grammar.specs.Meaning.{Is-file}
 
--- The name of a slot as a file declares it, by its letters; 31 where the file lacks the slot.
+-- A name as it was declared: its letters, where they stand.
+abbrev pub declared : Name → Showing
+declared n = record { code = 0; start = n .start; part = n .letters }
+
+-- The name of a slot as a file declares it; 31 where the file lacks the slot.
 abbrev pub declared-slot : List Slot → ℕ → Showing
-declared-slot slots s = cond (has-slot (length slots) s) (record { code = 0; part = getD slots s no-slot .name .letters }) refused
+declared-slot slots s = cond (has-slot (length slots) s) (declared (getD slots s no-slot .name)) refused
 
 -- The same of a value of a slot.
 abbrev pub declared-value : List Slot → ℕ → ℕ → Showing
 declared-value slots s v =
     cond (has-slot (length slots) s)
-    (cond (has-value (length (values-of slots s)) v) (record { code = 0; part = getD (values-of slots s) (v - 1) (no-slot .name) .letters }) refused)
+    (cond (has-value (length (values-of slots s)) v) (declared (getD (values-of slots s) (v - 1) (no-slot .name))) refused)
     refused
 
 -- The table carries the rules and slots of the file that the text is, shows the names that it declares, and has the least strata.

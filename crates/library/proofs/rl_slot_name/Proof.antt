@@ -1,13 +1,13 @@
 -- `library::rl_slot_name` meets its contract.
 -- Assumes nothing.
-use mathlib.Core.Path.{_≡_, sym, _∙_}
+use mathlib.Core.Path.{_≡_, sym, ap, _∙_}
 use mathlib.Core.Bool.{true}
 use Prim.Native.Nat.{_<_}
 use borrow.Author.Tests.{not-true, not-false}
 use Rattle.table.specs.Limits.{slot-limit}
 use Rattle.names.specs.Names.{has-slot}
-use Rattle.names.proofs.Names.{slot-inside}
-use Rattle.library.proofs.Places.{slot-there, slot-lacking, slot-shown}
+use Rattle.names.proofs.Names.{slot-inside, slot-shown, slot-lacking}
+use Rattle.library.specs.Results.{name-numbers}
 use native.Mathlib.Omega.{arith}
 use borrow.Author.Needs.{needs}
 use Rattle.library.proofs.rl_slot_name.Statement.{statement}
@@ -27,7 +27,7 @@ returns : tie.Need-returns
 returns c =
     let g = c .before in
     let a = g .before .before .args in
-    slot-shown (a .text .now) (a .t2) (a .slot) _ (sym (slot-lacking _ (a .t2) (a .slot) (sym (g .has-slot .ensures) ∙ not-true (g .has-slot .result) (c .if1 .taken))))
+    ap name-numbers (sym (slot-lacking (a .text .now) (a .t2) (a .slot) (sym (g .has-slot .ensures) ∙ not-true (g .has-slot .result) (c .if1 .taken))))
 
 mul-named : tie.Need-mul-named
 mul-named c = omega (arith, inside c)
@@ -35,14 +35,14 @@ mul-named c = omega (arith, inside c)
 element-copy-out-named : tie.Need-element-copy-out-named
 element-copy-out-named c = inside c
 
-place-of-requires : tie.Need-place-of-requires
-place-of-requires c κs = search needs
+name-place-requires : tie.Need-name-place-requires
+name-place-requires c κs = search needs
 
 returns-2 : tie.Need-returns-2
 returns-2 c =
     let e = c .before .before .before in
     let a = e .before .before .before .args in
-    slot-shown (a .text .now) (a .t2) (a .slot) _ (c .place-of .ensures ∙ sym (slot-there _ (a .t2) (a .slot) (there e)))
+    c .name-place .ensures ∙ ap name-numbers (sym (slot-shown (a .text .now) (a .t2) (a .slot) (there e)))
 
 pub rl-slot-name-spec : {M : Type 1} → statement M
 rl-slot-name-spec =
@@ -52,5 +52,5 @@ rl-slot-name-spec =
     returns
     mul-named
     element-copy-out-named
-    place-of-requires
+    name-place-requires
     returns-2)

@@ -1,6 +1,6 @@
 -- `library::rl_value_name` meets its contract.
 -- Assumes nothing.
-use mathlib.Core.Path.{_≡_, sym, _∙_}
+use mathlib.Core.Path.{_≡_, sym, ap, _∙_}
 use mathlib.Core.Bool.{true}
 use Prim.Native.Nat.{_≤_, _<_}
 use lib.ListN.{getD}
@@ -8,8 +8,8 @@ use borrow.Author.Tests.{not-true, not-false}
 use Rattle.table.specs.Limits.{slot-limit, value-limit}
 use Rattle.table.specs.Shape.{no-slot}
 use Rattle.names.specs.Names.{has-slot, has-value}
-use Rattle.names.proofs.Names.{slot-inside, value-inside}
-use Rattle.library.proofs.Places.{value-slot-lacking, value-there, value-lacking, value-shown}
+use Rattle.names.proofs.Names.{slot-inside, value-inside, value-shown, value-lacking, value-of-shown, value-of-lacking}
+use Rattle.library.specs.Results.{name-numbers}
 use native.Mathlib.Omega.{arith}
 use borrow.Author.Needs.{needs}
 use Rattle.library.proofs.rl_value_name.Statement.{statement}
@@ -38,7 +38,7 @@ returns : tie.Need-returns
 returns c =
     let g = c .before in
     let a = g .before .before .args in
-    value-shown (a .text .now) (a .t2) (a .slot) (a .value) _ (sym (value-slot-lacking _ (a .t2) (a .slot) (a .value) (sym (g .has-slot .ensures) ∙ not-true (g .has-slot .result) (c .if1 .taken))))
+    ap name-numbers (sym (value-lacking (a .text .now) (a .t2) (a .slot) (a .value) (sym (g .has-slot .ensures) ∙ not-true (g .has-slot .result) (c .if1 .taken))))
 
 mul-s : tie.Need-mul-s
 mul-s c = omega (arith, inside c)
@@ -54,7 +54,7 @@ returns-2 c =
     let g = c .before in
     let e = g .before .before in
     let a = e .before .before .before .args in
-    value-shown (a .text .now) (a .t2) (a .slot) (a .value) _ (sym (value-lacking _ (a .t2) (a .slot) (a .value) (there e) (sym (g .has-value .ensures) ∙ not-true (g .has-value .result) (c .if2 .taken))))
+    ap name-numbers (sym (value-shown (a .text .now) (a .t2) (a .slot) (a .value) (there e) ∙ value-of-lacking (a .text .now) _ (a .value) (sym (g .has-value .ensures) ∙ not-true (g .has-value .result) (c .if2 .taken))))
 
 sub-k : tie.Need-sub-k
 sub-k c = within c .0
@@ -65,15 +65,15 @@ mul-name c = omega (arith, within c)
 element-copy-out-name : tie.Need-element-copy-out-name
 element-copy-out-name c = omega (arith, within c)
 
-place-of-requires : tie.Need-place-of-requires
-place-of-requires c κs = search needs
+name-place-requires : tie.Need-name-place-requires
+name-place-requires c κs = search needs
 
 returns-3 : tie.Need-returns-3
 returns-3 c =
     let f = c .before .before in
     let e = f .before .before .before in
     let a = e .before .before .before .args in
-    value-shown (a .text .now) (a .t2) (a .slot) (a .value) _ (c .place-of .ensures ∙ sym (value-there _ (a .t2) (a .slot) (a .value) (there e) (has f)))
+    c .name-place .ensures ∙ ap name-numbers (sym (value-shown (a .text .now) (a .t2) (a .slot) (a .value) (there e) ∙ value-of-shown (a .text .now) _ (a .value) (has f)))
 
 pub rl-value-name-spec : {M : Type 1} → statement M
 rl-value-name-spec =
@@ -88,5 +88,5 @@ rl-value-name-spec =
     sub-k
     mul-name
     element-copy-out-name
-    place-of-requires
+    name-place-requires
     returns-3)

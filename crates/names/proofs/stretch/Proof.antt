@@ -3,7 +3,7 @@
 use mathlib.Core.Path.{refl}
 use mathlib.Core.Logic.{⊎-elim}
 use native.Mathlib.Nat.{add-sub-cancel-left}
-use Rattle.names.proofs.Names.{name-inside, name-outside}
+use Rattle.names.proofs.Names.{name-inside, name-outside, at-beginning, begins-at}
 use native.Mathlib.Omega.{arith}
 use borrow.Author.Needs.{needs}
 use Rattle.names.proofs.stretch.Statement.{statement}
@@ -22,13 +22,13 @@ part-result-end : tie.Need-part-result-end
 part-result-end c = search needs
 
 returns : tie.Need-returns
-returns c = let s = c .before .before .before in rw (name-inside (s .args .text .now) (s .args .name) (omega arith), add-sub-cancel-left) (refl, refl)
+returns c = let s = c .before .before .before in rw (name-inside (s .args .text .now) (s .args .name) (omega arith), add-sub-cancel-left) (refl, refl, begins-at (s .args .text .ptr) (s .args .name .start))
 
 slice-aggregate-result : tie.Need-slice-aggregate-result
 slice-aggregate-result c = search needs
 
 returns-2 : tie.Need-returns-2
-returns-2 c = let s = c .before .before in rw (name-outside (s .args .text .now) (s .args .name) (⊎-elim (λ w. omega arith) (λ w. omega arith) (c .before .if1 .came))) (refl, refl)
+returns-2 c = let s = c .before .before in rw (name-outside (s .args .text .now) (s .args .name) (⊎-elim (λ w. omega arith) (λ w. omega arith) (c .before .if1 .came))) (refl, refl, at-beginning (s .args .text .ptr))
 
 pub stretch-spec : {M : Type 1} → statement M
 stretch-spec =

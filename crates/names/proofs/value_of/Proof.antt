@@ -6,7 +6,7 @@ use Prim.Native.Nat.{_≤_}
 use borrow.Author.Tests.{not-true, not-false}
 use Rattle.table.specs.Limits.{value-limit}
 use Rattle.names.specs.Names.{has-value}
-use Rattle.names.proofs.Names.{value-inside, value-of-shown, value-of-lacking}
+use Rattle.names.proofs.Names.{value-inside, value-of-shown, value-of-lacking, at-beginning}
 use native.Mathlib.Omega.{arith}
 use borrow.Author.Needs.{needs}
 use Rattle.names.proofs.value_of.Statement.{statement}
@@ -25,7 +25,7 @@ slice-aggregate-result : tie.Need-slice-aggregate-result
 slice-aggregate-result c = search needs
 
 returns : tie.Need-returns
-returns c = let s = c .before .before .before .before in rw (value-of-lacking (s .args .text .now) (s .args .t2) (s .args .value) (sym (c .before .before .has-value .ensures) ∙ not-true (c .before .before .has-value .result) (c .before .if1 .taken))) (refl, refl)
+returns c = let s = c .before .before .before .before in rw (value-of-lacking (s .args .text .now) (s .args .t2) (s .args .value) (sym (c .before .before .has-value .ensures) ∙ not-true (c .before .before .has-value .result) (c .before .if1 .taken))) (refl, refl, at-beginning (s .args .text .ptr))
 
 sub-k : tie.Need-sub-k
 sub-k c = inside c .0

@@ -1,0 +1,176 @@
+-- Why something is refused, by its number and its second number: document 01, 'Refusals by who can cause them'. A reason holds only where none that comes before it does.
+use Prim.Native.Nat.{ℕ, suc, _≤_, _<_}
+use mathlib.Core.Path.{_≡_}
+use mathlib.Core.Bool.{false}
+use mathlib.Core.List.{List}
+use mathlib.Core.Logic.{_⊎_}
+use lib.Dec.{T}
+use lib.ListN.{length, getD}
+use Rattle.laws.specs.Packed.{byte-count}
+use Rattle.text.specs.Tokens.{tokens}
+use Rattle.model.specs.Rules.{Pair, Rule}
+use Rattle.model.specs.Orders.{changes}
+use Rattle.model.specs.Result.{pair}
+use Rattle.model.specs.Strata.{weak}
+use Rattle.model.specs.Circles.{LowestThroughNot}
+use Rattle.model.specs.Response.{response}
+use Rattle.table.specs.declared.Table.{Table}
+use Rattle.table.specs.Link.{rules-of, value-counts}
+use Rattle.grammar.specs.Limits.{max-text}
+use Rattle.grammar.specs.Files.{File}
+use Rattle.grammar.specs.Meaning.{Is-file}
+use Rattle.grammar.specs.Reading.{read}
+use Rattle.grammar.specs.Refusals.{Stands-at}
+use Rattle.reader.specs.declared.Outcome.the-variants.{Accepted}
+use Rattle.rule_file.specs.Whole.{reading}
+use Rattle.printing.specs.Printing.{print-of}
+use Rattle.soundness.specs.Sound.{sound}
+use Rattle.cards.specs.Forms.{card-bits, slip-bits, count-in, values-in, changes-in, padding}
+use Rattle.tally.specs.declared.Tally.{Tally}
+use Rattle.tally.specs.Counting.{is-full}
+use Rattle.response.specs.Respond.{Rooms, changes-room}
+use Rattle.promises.specs.Agreement.{LowestConflict}
+
+-- A rule file. 10: its length. 11 to 17: what stands at a token or at the end, after so many completed rules. 18: the lowest rule on a circle through a NOT.
+pub data FileReason (text : List ℕ) : ℕ → ℕ → Type 0 where
+  over-long : max-text < length text → FileReason text 10 0
+  at-token : {k n : ℕ} → length text ≤ max-text → Stands-at (tokens text) k n → FileReason text k n
+  no-strata : {f : File} {n : ℕ} → Is-file text f → LowestThroughNot (f .rules) n → FileReason text 18 n
+
+-- A print: the reading's own; then 34, its length; 33, an output that is shorter.
+pub data PrintReason (text : List ℕ) (room : ℕ) : ℕ → ℕ → Type 0 where
+  own : {k n : ℕ} → FileReason text k n → PrintReason text room k n
+  print-over : reading text .outcome ≡ Accepted → max-text < length (print-of (read text)) → PrintReason text room 34 0
+  print-room : reading text .outcome ≡ Accepted → length (print-of (read text)) ≤ max-text → room < length (print-of (read text)) → PrintReason text room 33 0
+
+-- The first slot whose value is above its last.
+pub record FirstAbove (counts vs : List ℕ) (s : ℕ) : Type 0 where
+  pub slot : s < length counts
+  pub above : getD counts s 0 < getD vs s 0
+  pub first : (r : ℕ) → r < s → getD vs r 0 ≤ getD counts r 0
+
+-- The values of a card. 21: not as many as there are slots. 22: one above the slot's last; the first such slot.
+pub data ValuesReason (counts vs : List ℕ) : ℕ → ℕ → Type 0 where
+  other-count : ¬ (length vs ≡ length counts) → ValuesReason counts vs 21 0
+  value-above : {s : ℕ} → length vs ≡ length counts → FirstAbove counts vs s → ValuesReason counts vs 22 s
+
+-- None of these.
+pub record ValuesRight (counts vs : List ℕ) : Type 0 where
+  pub as-many : length vs ≡ length counts
+  pub within : (s : ℕ) → s < length counts → getD vs s 0 ≤ getD counts s 0
+
+-- Bytes are as long as a card of their own count; the padding is zero.
+abbrev pub CardLong : List ℕ → Type 0
+CardLong ys = length ys ≡ byte-count (card-bits (count-in ys))
+
+abbrev pub CardPadded : List ℕ → Type 0
+CardPadded ys = padding ys (card-bits (count-in ys)) ≡ 0
+
+-- The bytes of a card. 20: not of their own count's length (the empty among them). 21, 22. 23: padding not zero.
+pub data CardReason (counts ys : List ℕ) : ℕ → ℕ → Type 0 where
+  card-length : ¬ CardLong ys → CardReason counts ys 20 0
+  card-values : {k s : ℕ} → CardLong ys → ValuesReason counts (values-in ys) k s → CardReason counts ys k s
+  card-padding : CardLong ys → ValuesRight counts (values-in ys) → ¬ CardPadded ys → CardReason counts ys 23 0
+
+-- None of these.
+pub record CardRight (counts ys : List ℕ) : Type 0 where
+  pub long : CardLong ys
+  pub values-right : ValuesRight counts (values-in ys)
+  pub padded : CardPadded ys
+
+-- A card that is packed into so much room. 21, 22. 30 with 1: under the packed length.
+pub data PackedCardReason (counts vs : List ℕ) (room : ℕ) : ℕ → ℕ → Type 0 where
+  packed-values : {k s : ℕ} → ValuesReason counts vs k s → PackedCardReason counts vs room k s
+  packed-card-room : ValuesRight counts vs → room < byte-count (card-bits (length vs)) → PackedCardReason counts vs room 30 1
+
+-- What stands for a change that is not there.
+abbrev pub no-pair : Pair
+no-pair = pair 0 0
+
+-- The slot of a change by its position, and its value.
+abbrev pub slot-of : List Pair → ℕ → ℕ
+slot-of ps j = getD ps j no-pair .slot
+
+abbrev pub value-of : List Pair → ℕ → ℕ
+value-of ps j = getD ps j no-pair .value
+
+-- The slot of a change is above the one before it, where there is one.
+abbrev pub Rises : List Pair → ℕ → Type 0
+Rises ps j = (i : ℕ) → suc i ≡ j → slot-of ps i < slot-of ps j
+
+-- The fault of a change. 25: a slot not below the slot count. 26: a slot not above the one before. 27: value 0 or above the slot's last.
+pub data ChangeFault (counts : List ℕ) (ps : List Pair) (j : ℕ) : ℕ → Type 0 where
+  no-slot : length counts ≤ slot-of ps j → ChangeFault counts ps j 25
+  not-above : slot-of ps j < length counts → (i : ℕ) → suc i ≡ j → slot-of ps j ≤ slot-of ps i → ChangeFault counts ps j 26
+  no-value : slot-of ps j < length counts → Rises ps j → (value-of ps j ≡ 0) ⊎ (getD counts (slot-of ps j) 0 < value-of ps j) → ChangeFault counts ps j 27
+
+-- None of these.
+pub record ChangeRight (counts : List ℕ) (ps : List Pair) (j : ℕ) : Type 0 where
+  pub below : slot-of ps j < length counts
+  pub rises : Rises ps j
+  pub from-1 : 1 ≤ value-of ps j
+  pub to-last : value-of ps j ≤ getD counts (slot-of ps j) 0
+
+-- The first faulty change, with its position from 0.
+pub record FirstFaulty (counts : List ℕ) (ps : List Pair) (k j : ℕ) : Type 0 where
+  pub change : j < length ps
+  pub faulty : ChangeFault counts ps j k
+  pub first : (i : ℕ) → i < j → ChangeRight counts ps i
+
+abbrev pub ChangesRight : List ℕ → List Pair → Type 0
+ChangesRight counts ps = (j : ℕ) → j < length ps → ChangeRight counts ps j
+
+-- Bytes are as long as a slip of their own count; the padding is zero.
+abbrev pub SlipLong : List ℕ → Type 0
+SlipLong ys = length ys ≡ byte-count (slip-bits (count-in ys))
+
+abbrev pub SlipPadded : List ℕ → Type 0
+SlipPadded ys = padding ys (slip-bits (count-in ys)) ≡ 0
+
+-- The bytes of a slip. 24: not of their own count's length (the empty among them). 25 to 27: the first faulty change. 28: padding not zero.
+pub data SlipReason (counts ys : List ℕ) : ℕ → ℕ → Type 0 where
+  slip-length : ¬ SlipLong ys → SlipReason counts ys 24 0
+  slip-change : {k j : ℕ} → SlipLong ys → FirstFaulty counts (changes-in ys) k j → SlipReason counts ys k j
+  slip-padding : SlipLong ys → ChangesRight counts (changes-in ys) → ¬ SlipPadded ys → SlipReason counts ys 28 0
+
+-- None of these.
+pub record SlipRight (counts ys : List ℕ) : Type 0 where
+  pub long : SlipLong ys
+  pub changes-right : ChangesRight counts (changes-in ys)
+  pub padded : SlipPadded ys
+
+-- A slip that is packed into so much room. 24: over 32 changes. 25 to 27. 30 with 2: under the packed length.
+pub data PackedSlipReason (counts : List ℕ) (ps : List Pair) (room : ℕ) : ℕ → ℕ → Type 0 where
+  too-many : 32 < length ps → PackedSlipReason counts ps room 24 0
+  packed-change : {k j : ℕ} → length ps ≤ 32 → FirstFaulty counts ps k j → PackedSlipReason counts ps room k j
+  packed-slip-room : length ps ≤ 32 → ChangesRight counts ps → room < byte-count (slip-bits (length ps)) → PackedSlipReason counts ps room 30 2
+
+-- 31, a table that is not in order, before other reasons.
+pub data TableReason (t : Table) (Other : ℕ → ℕ → Type 0) : ℕ → ℕ → Type 0 where
+  not-sound : ¬ T (sound t) → TableReason t Other 31 0
+  of-others : {k s : ℕ} → T (sound t) → Other k s → TableReason t Other k s
+
+-- 30: the first output that is too short for so many slots and rules, 1 the card, 2 the changes, 3 the fired record.
+pub data RoomReason (width count : ℕ) (rooms : Rooms) : ℕ → Type 0 where
+  card-short : rooms .for-card < byte-count (card-bits width) → RoomReason width count rooms 1
+  changes-short : byte-count (card-bits width) ≤ rooms .for-card → rooms .for-changes < changes-room → RoomReason width count rooms 2
+  fired-short : byte-count (card-bits width) ≤ rooms .for-card → changes-room ≤ rooms .for-changes → rooms .for-fired < byte-count count → RoomReason width count rooms 3
+
+-- None is too short.
+pub record RoomRight (width count : ℕ) (rooms : Rooms) : Type 0 where
+  pub for-card : byte-count (card-bits width) ≤ rooms .for-card
+  pub for-changes : changes-room ≤ rooms .for-changes
+  pub for-fired : byte-count count ≤ rooms .for-fired
+
+-- A response by rules over slots of so many values each: the card's reasons, the slip's, 30, and 40 with the lowest slot that has two values in C.
+pub data RulesReason (counts : List ℕ) (rs : List Rule) (card slip : List ℕ) (rooms : Rooms) : ℕ → ℕ → Type 0 where
+  of-card : {k s : ℕ} → CardReason counts card k s → RulesReason counts rs card slip rooms k s
+  of-slip : {k s : ℕ} → CardRight counts card → SlipReason counts slip k s → RulesReason counts rs card slip rooms k s
+  of-room : {s : ℕ} → CardRight counts card → SlipRight counts slip → RoomReason (length counts) (length rs) rooms s → RulesReason counts rs card slip rooms 30 s
+  conflict : {s : ℕ} → CardRight counts card → SlipRight counts slip → RoomRight (length counts) (length rs) rooms
+      → LowestConflict (changes rs (changes-in slip) (response weak rs (values-in card) (changes-in slip))) s → RulesReason counts rs card slip rooms 40 s
+
+-- A response: 32, either tally at 9,999 or above; then the others.
+pub data ResponseReason (t : Table) (y : Tally) (card slip : List ℕ) (rooms : Rooms) : ℕ → ℕ → Type 0 where
+  full-tally : T (is-full y) → ResponseReason t y card slip rooms 32 0
+  of-table : {k s : ℕ} → is-full y ≡ false → TableReason t (RulesReason (value-counts t) (rules-of t) card slip rooms) k s → ResponseReason t y card slip rooms k s
