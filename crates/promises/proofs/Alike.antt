@@ -16,7 +16,7 @@ use Rattle.model.specs.Least.{strata-of}
 use Rattle.table.specs.declared.Table.{Table}
 use Rattle.table.specs.Limits.{slot-limit, value-limit}
 use Rattle.table.specs.Link.{used-rules, rules-of, carried-strata, stratum-at}
-use Rattle.names.specs.Names.{Showing, refused, unplaced, has-slot, has-value}
+use Rattle.names.specs.Names.{Showing, not-shown, unplaced, has-slot, has-value}
 use Rattle.grammar.specs.Files.{Slot, File, spellings, no-slot, values-of, slot-counts}
 use Rattle.grammar.specs.Limits.{max-slots}
 use Rattle.style.specs.Printed.{lettered, Agree}
@@ -38,7 +38,7 @@ spellings-length ns = length-map ns (λ (m : Name). m .letters)
 abbrev lettering : List ℕ → Showing
 lettering l = record { code = 0; start = 0; part = l }
 
-unplaced-if : (b : Bool) (x : Showing) → unplaced (cond b x refused) ≡ cond b (unplaced x) refused
+unplaced-if : (b : Bool) (x : Showing) → unplaced (cond b x not-shown) ≡ cond b (unplaced x) not-shown
 unplaced-if true x = refl
 unplaced-if false x = refl
 
@@ -52,21 +52,21 @@ module _ (ss ss′ : List Slot) (e : map lettered ss ≡ map lettered ss′) whe
   -- Slots with the same letters are declared alike,
   slots-alike : (s : ℕ) → unplaced (declared-slot ss s) ≡ unplaced (declared-slot ss′ s)
   slots-alike s =
-      unplaced-if (has-slot (length ss) s) _ ∙ ap₂ (λ (n : ℕ) (l : List ℕ). cond (has-slot n s) (lettering l) refused) as-many (head-eq-of-cons-eq (lettered-at s))
+      unplaced-if (has-slot (length ss) s) _ ∙ ap₂ (λ (n : ℕ) (l : List ℕ). cond (has-slot n s) (lettering l) not-shown) as-many (head-eq-of-cons-eq (lettered-at s))
       ∙ sym (unplaced-if (has-slot (length ss′) s) _)
 
   -- and so are their values.
   values-alike : (s v : ℕ) → unplaced (declared-value ss s v) ≡ unplaced (declared-value ss′ s v)
   values-alike s v =
       unplaced-if (has-slot (length ss) s) _
-      ∙ ap₂ (λ (n : ℕ) (x : Showing). cond (has-slot n s) x refused) as-many (by-letters (values-of ss s) ∙ ap shown (tail-eq-of-cons-eq (lettered-at s)) ∙ sym (by-letters (values-of ss′ s)))
+      ∙ ap₂ (λ (n : ℕ) (x : Showing). cond (has-slot n s) x not-shown) as-many (by-letters (values-of ss s) ∙ ap shown (tail-eq-of-cons-eq (lettered-at s)) ∙ sym (by-letters (values-of ss′ s)))
       ∙ sym (unplaced-if (has-slot (length ss′) s) _)
     where
       shown : List (List ℕ) → Showing
-      shown ls = cond (has-value (length ls) v) (lettering (getD ls (v - 1) [])) refused
+      shown ls = cond (has-value (length ls) v) (lettering (getD ls (v - 1) [])) not-shown
 
-      by-letters : (ns : List Name) → unplaced (cond (has-value (length ns) v) (declared (getD ns (v - 1) (no-slot .name))) refused) ≡ shown (spellings ns)
-      by-letters ns = unplaced-if (has-value (length ns) v) _ ∙ ap₂ (λ (n : ℕ) (l : List ℕ). cond (has-value n v) (lettering l) refused) (sym (spellings-length ns)) (sym (letters-at ns (v - 1)))
+      by-letters : (ns : List Name) → unplaced (cond (has-value (length ns) v) (declared (getD ns (v - 1) (no-slot .name))) not-shown) ≡ shown (spellings ns)
+      by-letters ns = unplaced-if (has-value (length ns) v) _ ∙ ap₂ (λ (n : ℕ) (l : List ℕ). cond (has-value n v) (lettering l) not-shown) (sym (spellings-length ns)) (sym (letters-at ns (v - 1)))
 
 -- What a slot that is there is shown as,
 slot-told : (ss : List Slot) (s : ℕ) → length ss ≤ slot-limit → s < length ss → declared-slot ss s ≡ declared (getD ss s no-slot .name)

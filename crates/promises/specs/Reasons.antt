@@ -19,7 +19,7 @@ use Rattle.table.specs.Link.{rules-of, value-counts}
 use Rattle.grammar.specs.Limits.{max-text}
 use Rattle.grammar.specs.Files.{File}
 use Rattle.grammar.specs.Meaning.{Is-file}
-use Rattle.grammar.specs.Reading.{read}
+use Rattle.grammar.specs.Reading.{parse}
 use Rattle.grammar.specs.Refusals.{Stands-at}
 use Rattle.reader.specs.declared.Outcome.the-variants.{Accepted}
 use Rattle.rule_file.specs.Whole.{reading}
@@ -40,8 +40,8 @@ pub data FileReason (text : List ℕ) : ℕ → ℕ → Type 0 where
 -- A print: the reading's own; then 34, its length; 33, an output that is shorter.
 pub data PrintReason (text : List ℕ) (room : ℕ) : ℕ → ℕ → Type 0 where
   own : {k n : ℕ} → FileReason text k n → PrintReason text room k n
-  print-over : reading text .outcome ≡ Accepted → max-text < length (print-of (read text)) → PrintReason text room 34 0
-  print-room : reading text .outcome ≡ Accepted → length (print-of (read text)) ≤ max-text → room < length (print-of (read text)) → PrintReason text room 33 0
+  print-over : reading text .outcome ≡ Accepted → max-text < length (print-of (parse text)) → PrintReason text room 34 0
+  print-room : reading text .outcome ≡ Accepted → length (print-of (parse text)) ≤ max-text → room < length (print-of (parse text)) → PrintReason text room 33 0
 
 -- The first slot whose value is above its last.
 pub record FirstAbove (counts vs : List ℕ) (s : ℕ) : Type 0 where

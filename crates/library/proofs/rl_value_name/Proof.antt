@@ -6,7 +6,7 @@ use Prim.Native.Nat.{_≤_, _<_}
 use lib.ListN.{getD}
 use borrow.Author.Tests.{not-true, not-false}
 use Rattle.table.specs.Limits.{slot-limit, value-limit}
-use Rattle.table.specs.Shape.{no-slot}
+use Rattle.table.specs.Shape.{zero-slot}
 use Rattle.names.specs.Names.{has-slot, has-value}
 use Rattle.names.proofs.Names.{slot-inside, value-inside, value-shown, value-lacking, value-of-shown, value-of-lacking}
 use Rattle.library.specs.Results.{name-numbers}
@@ -25,7 +25,7 @@ inside c = slot-inside _ _ (there c) .0
 -- The slot has the value.
 has : (c : tie.Else2) →
     let a = c .before .before .before .before .before .before .args in
-    has-value (getD (a .t2 .slots) (a .slot) no-slot .count) (a .value) ≡ true
+    has-value (getD (a .t2 .slots) (a .slot) zero-slot .count) (a .value) ≡ true
 has c = sym (c .before .has-value .ensures) ∙ not-false (c .before .has-value .result) (c .if2 .left)
 
 within : (c : tie.Else2) → let v = c .before .before .before .before .before .before .args .value in (1 ≤ v) × (v ≤ value-limit)
