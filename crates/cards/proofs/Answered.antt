@@ -15,7 +15,7 @@ use Rattle.cards.specs.declared.Slip.{Slip}
 use Rattle.cards.specs.declared.Packing.the-variants as packing
 use Rattle.laws.specs.Answers.{passed, fault, OrRefused, taken, refused, after, output-of}
 use Rattle.cards.specs.Forms.{card-bits, slip-bits, card-bytes, slip-bytes, card-test, slip-test, read-card, read-slip, write-card, write-slip}
-use Rattle.cards.specs.Cards.{values-of, changes-of, if-sound, unpacked-card, unpacked-slip, packed-card, packed-slip, packing-of}
+use Rattle.cards.specs.Cards.{card-values, changes-of, if-sound, unpacked-card, unpacked-slip, packed-card, packed-slip, packing-of}
 use Rattle.cards.proofs.Formed.{card-length, slip-length}
 
 -- What the code gives for a refusal, and for bytes that are written.
@@ -56,15 +56,15 @@ module _ (t : Table) (e : sound t ≡ true) where
 
   -- Packing a card: a fault, no room, or its bytes.
   module _ (c : Card) (room : ℕ) where
-    pub card-faulty : (k s : ℕ) → card-test (value-counts t) (values-of c) ≡ fault k s → packed-card t c room ≡ refused k s
+    pub card-faulty : (k s : ℕ) → card-test (value-counts t) (card-values c) ≡ fault k s → packed-card t c room ≡ refused k s
     unfolding packed-card if-sound write-card after
     card-faulty k s f = rw (e, f)
 
-    pub card-without-room : card-test (value-counts t) (values-of c) ≡ passed → room < byte-count (card-bits (c .count)) → packed-card t c room ≡ refused 30 1
+    pub card-without-room : card-test (value-counts t) (card-values c) ≡ passed → room < byte-count (card-bits (c .count)) → packed-card t c room ≡ refused 30 1
     unfolding packed-card if-sound write-card after
     card-without-room f h = rw (e, f, card-length c, lt-ltb room (byte-count (card-bits (c .count))) h)
 
-    pub card-with-room : card-test (value-counts t) (values-of c) ≡ passed → byte-count (card-bits (c .count)) ≤ room → packed-card t c room ≡ taken (card-bytes (values-of c))
+    pub card-with-room : card-test (value-counts t) (card-values c) ≡ passed → byte-count (card-bits (c .count)) ≤ room → packed-card t c room ≡ taken (card-bytes (card-values c))
     unfolding packed-card if-sound write-card after
     card-with-room f h = rw (e, f, card-length c, le-ltb room (byte-count (card-bits (c .count))) h)
 

@@ -21,7 +21,7 @@ use Rattle.cards.specs.declared.Card.{Card}
 use Rattle.cards.specs.declared.Slip.{Slip}
 use Rattle.laws.specs.Answers.{Verdict, passed, fault, OrRefused, taken, refused, after}
 use Rattle.cards.specs.Forms.{card-bits, slip-bits, card-bytes, slip-bytes, card-test, change-fault, changes-test, slip-test, read-card, read-slip, write-card, write-slip}
-use Rattle.cards.specs.Cards.{values-of, card-of, changes-of, slip-of, pair-of, change-of, no-change, if-sound, unpacked-card, unpacked-slip, packed-card, packed-slip}
+use Rattle.cards.specs.Cards.{card-values, card-of, changes-of, slip-of, pair-of, change-of, no-change, if-sound, unpacked-card, unpacked-slip, packed-card, packed-slip}
 use Rattle.cards.proofs.Formed.{card-length, card-at, slip-length, slip-at}
 use Rattle.cards.proofs.Tested.{no-pair, change-right}
 use Rattle.cards.proofs.Passed.{sound-slots}
@@ -30,10 +30,10 @@ use Rattle.cards.proofs.Answered.{card-with-room, slip-with-room, sound
 use Rattle.cards.proofs.RoundTrip.{card-accepted, slip-accepted, card-packs-back, slip-packs-back, card-reads-back, slip-reads-back}
 
 -- The form that the code hands out for some values has just those values, and so with changes.
-pub card-of-values : (vs : List ℕ) → values-of (card-of vs) ≡ vs
+pub card-of-values : (vs : List ℕ) → card-values (card-of vs) ≡ vs
 unfolding card-of filled
 card-of-values vs =
-    ext-getD 0 (values-of (card-of vs)) vs (card-length (card-of vs))
+    ext-getD 0 (card-values (card-of vs)) vs (card-length (card-of vs))
     (λ i h. let k : i < length vs = omega (arith, card-length (card-of vs)) in
     card-at (card-of vs) i k ∙ List·getD-append vs (replicate (slot-limit - length vs) 0) 0 i k)
 
@@ -89,7 +89,7 @@ slip-written counts ps room ys e = go (ltb 32 (length ps)) refl e
     go true d e = absurd (let z : _≡_ {A = ℕ} 0 1 = cc in omega arith)
     go false d e = let w = written (slip-test counts ps) (ltb room (byte-count (slip-bits (length ps)))) 30 2 (slip-bytes ps) ys e in (ltb-false 32 (length ps) d, w .0, w .1)
 
-packed-sound-card : (t : Table) (c : Card) (room : ℕ) (ys : List ℕ) → packed-card t c room ≡ taken ys → (sound t ≡ true) × (write-card (value-counts t) (values-of c) room ≡ taken ys)
+packed-sound-card : (t : Table) (c : Card) (room : ℕ) (ys : List ℕ) → packed-card t c room ≡ taken ys → (sound t ≡ true) × (write-card (value-counts t) (card-values c) room ≡ taken ys)
 unfolding packed-card if-sound
 packed-sound-card t c room ys e = let d = is-sound t _ ys e in (d, rw d at e)
 
@@ -113,7 +113,7 @@ module _ (t : Table) (sh : Shaped t) where
       let d = unpacked-sound-card t ys vs e in
       let r = sym (sound-card-read t d ys) ∙ e in
       let a = card-accepted (value-counts t) ys vs r in
-      let p : card-test (value-counts t) (values-of (card-of vs)) ≡ passed = rw (card-of-values vs, ← a .same-form) (a .passes) in
+      let p : card-test (value-counts t) (card-values (card-of vs)) ≡ passed = rw (card-of-values vs, ← a .same-form) (a .passes) in
       let k = card-packs-back (value-counts t) ys vs b r in
       card-with-room t d (card-of vs) room p (omega (arith, h, card-bytes-length vs, ap length k)) ∙ ap taken (ap card-bytes (card-of-values vs) ∙ k)
 
@@ -131,11 +131,11 @@ module _ (t : Table) (sh : Shaped t) where
       slip-with-room t d (slip-of ps) room f p (omega (arith, h, slip-bytes-length ps, ap length k)) ∙ ap taken (ap slip-bytes (slip-of-changes ps) ∙ k)
 
   -- A card that is packed is unpacked to itself,
-  pub pack-unpack-card : (c : Card) (room : ℕ) (ys : List ℕ) → packed-card t c room ≡ taken ys → unpacked-card t ys ≡ taken (values-of c)
+  pub pack-unpack-card : (c : Card) (room : ℕ) (ys : List ℕ) → packed-card t c room ≡ taken ys → unpacked-card t ys ≡ taken (card-values c)
   pack-unpack-card c room ys e =
       let d = packed-sound-card t c room ys e in
-      let w = card-written (value-counts t) (values-of c) room ys (d .1) in
-      sound-card-read t (d .0) ys ∙ ap (read-card (value-counts t)) (sym (w .1)) ∙ card-reads-back (value-counts t) (values-of c) (sound-slots t sh (d .0)) (w .0)
+      let w = card-written (value-counts t) (card-values c) room ys (d .1) in
+      sound-card-read t (d .0) ys ∙ ap (read-card (value-counts t)) (sym (w .1)) ∙ card-reads-back (value-counts t) (card-values c) (sound-slots t sh (d .0)) (w .0)
 
   -- and so is a slip.
   pub pack-unpack-slip : (s : Slip) (room : ℕ) (ys : List ℕ) → packed-slip t s room ≡ taken ys → unpacked-slip t ys ≡ taken (changes-of s)

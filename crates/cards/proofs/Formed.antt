@@ -6,15 +6,15 @@ use lib.ListN.{length, getD}
 use Rattle.laws.proofs.Tabulated.{tabulate-length, tabulate-at}
 use Rattle.cards.specs.declared.Card.{Card}
 use Rattle.cards.specs.declared.Slip.{Slip}
-use Rattle.cards.specs.Cards.{values-of, changes-of, pair-of, no-change}
+use Rattle.cards.specs.Cards.{card-values, changes-of, pair-of, no-change}
 use Rattle.cards.proofs.Tested.{no-pair}
 
-pub card-length : (c : Card) → length (values-of c) ≡ c .count
-unfolding values-of
+pub card-length : (c : Card) → length (card-values c) ≡ c .count
+unfolding card-values
 card-length c = tabulate-length (λ i. getD (c .values) i 0) (c .count)
 
-pub card-at : (c : Card) (i : ℕ) → i < c .count → getD (values-of c) i 0 ≡ getD (c .values) i 0
-unfolding values-of
+pub card-at : (c : Card) (i : ℕ) → i < c .count → getD (card-values c) i 0 ≡ getD (c .values) i 0
+unfolding card-values
 card-at c i h = tabulate-at (λ i. getD (c .values) i 0) (c .count) i 0 h
 
 pub slip-length : (s : Slip) → length (changes-of s) ≡ s .count

@@ -24,7 +24,7 @@ use Rattle.cards.specs.declared.Slip.{Slip}
 use Rattle.cards.specs.declared.Outcome.the-variants as outcome
 use Rattle.laws.specs.Answers.{Verdict, passed, fault}
 use Rattle.cards.specs.Forms.{values-test, card-test, change-fault, changes-test, slip-test}
-use Rattle.cards.specs.Cards.{counts-in, values-of, changes-of, outcome-of, CardFits, SlipFits}
+use Rattle.cards.specs.Cards.{counts-in, card-values, changes-of, verdict-outcome, CardFits, SlipFits}
 use Rattle.cards.proofs.Tested.{no-pair, change-right}
 use Rattle.cards.proofs.Formed.{card-length, card-at, slip-length, slip-at}
 
@@ -55,13 +55,13 @@ module _ (t : Table) (sh : Shaped t) (e : sound t ≡ true) where
       (λ i h. sym (List·getD-append (value-counts t) (replicate (slot-limit - length (value-counts t)) 0) 0 i (omega (arith, l)))))
 
 -- A verdict by its outcome.
-pub outcome-fault : (v : Verdict) (k s : ℕ) → outcome-of v ≡ outcome.Refused k s → v ≡ fault k s
-unfolding outcome-of
+pub outcome-fault : (v : Verdict) (k s : ℕ) → verdict-outcome v ≡ outcome.Refused k s → v ≡ fault k s
+unfolding verdict-outcome
 outcome-fault passed k s e = absurd (let z : _≡_ {A = ℕ} 0 1 = cc in omega arith)
 outcome-fault (fault j r) k s e = let y : j ≡ k = cc in let z : r ≡ s = cc in rw (y, z)
 
-pub outcome-passed : (v : Verdict) → outcome-of v ≡ outcome.Accepted → v ≡ passed
-unfolding outcome-of
+pub outcome-passed : (v : Verdict) → verdict-outcome v ≡ outcome.Accepted → v ≡ passed
+unfolding verdict-outcome
 outcome-passed passed e = refl
 outcome-passed (fault j r) e = absurd (let z : _≡_ {A = ℕ} 0 1 = cc in omega arith)
 
@@ -104,13 +104,13 @@ changes-pass counts low at (p ∷ ps) e j h = go (changes-pass counts (suc (p .s
     go rest false d e j h = absurd (clash (change-fault counts low p) at e)
 
 -- Forms that pass fit their fields.
-pub card-fits : (counts : List ℕ) (c : Card) → Slots counts → card-test counts (values-of c) ≡ passed → CardFits c
+pub card-fits : (counts : List ℕ) (c : Card) → Slots counts → card-test counts (card-values c) ≡ passed → CardFits c
 card-fits counts c S e =
-    let p = card-pass counts (values-of c) e in
+    let p = card-pass counts (card-values c) e in
     let l = card-length c in
     record {
       few = omega (arith, p .0, l, S .few);
-      values-fit = λ i h. (let k : i < length counts = omega (arith, p .0, l) in omega (arith, card-at c i h, values-pass 0 counts (values-of c) (p .1) i k (omega (arith, l)), S .small i k));
+      values-fit = λ i h. (let k : i < length counts = omega (arith, p .0, l) in omega (arith, card-at c i h, values-pass 0 counts (card-values c) (p .1) i k (omega (arith, l)), S .small i k));
     }
 
 pub slip-fits : (counts : List ℕ) (s : Slip) → Slots counts → s .count ≤ slot-limit → slip-test counts (changes-of s) ≡ passed → SlipFits s

@@ -28,8 +28,8 @@ unfoldable pub counts-in : ℕ → List ℕ → List ℕ
 counts-in n cs = tabulate (λ i. getD cs i 0) n
 
 -- The values of an unpacked card, as many as it counts; a place that the array lacks gives 0.
-unfoldable pub values-of : Card → List ℕ
-values-of c = tabulate (λ i. getD (c .values) i 0) (c .count)
+unfoldable pub card-values : Card → List ℕ
+card-values c = tabulate (λ i. getD (c .values) i 0) (c .count)
 
 -- The card of some values; the unused places are zero.
 unfoldable pub card-of : List ℕ → Card
@@ -85,7 +85,7 @@ unpacked-slip t ys = if-sound t (read-slip (value-counts t) ys)
 
 -- Packing a card and a slip into so much room.
 unfoldable pub packed-card : Table → Card → ℕ → OrRefused (List ℕ)
-packed-card t c room = if-sound t (write-card (value-counts t) (values-of c) room)
+packed-card t c room = if-sound t (write-card (value-counts t) (card-values c) room)
 
 unfoldable pub packed-slip : Table → Slip → ℕ → OrRefused (List ℕ)
 packed-slip t s room = if-sound t (write-slip (value-counts t) (changes-of s) room)
@@ -100,9 +100,9 @@ slip-read (taken ps) = record { outcome = outcome.Accepted; slip = slip-of ps }
 slip-read (refused k s) = record { outcome = outcome.Refused k s; slip = no-slip }
 
 -- What the code answers to a test of an unpacked form.
-unfoldable pub outcome-of : Verdict → Outcome
-outcome-of passed = outcome.Accepted
-outcome-of (fault k s) = outcome.Refused k s
+unfoldable pub verdict-outcome : Verdict → Outcome
+verdict-outcome passed = outcome.Accepted
+verdict-outcome (fault k s) = outcome.Refused k s
 
 -- What the code answers to a form that is packed: how many bytes it takes.
 unfoldable pub packing-of : OrRefused (List ℕ) → Packing
@@ -110,13 +110,13 @@ packing-of (taken ys) = packing.Packed (length ys)
 packing-of (refused k s) = packing.Refused k s
 
 -- The number of a refusal, 0 for none, and its second number.
-abbrev pub refusal-number : Outcome → ℕ
-refusal-number outcome.Accepted = 0
-refusal-number (outcome.Refused k s) = k
+abbrev pub unpacking-refusal : Outcome → ℕ
+unpacking-refusal outcome.Accepted = 0
+unpacking-refusal (outcome.Refused k s) = k
 
-abbrev pub second-number : Outcome → ℕ
-second-number outcome.Accepted = 0
-second-number (outcome.Refused k s) = s
+abbrev pub unpacking-second : Outcome → ℕ
+unpacking-second outcome.Accepted = 0
+unpacking-second (outcome.Refused k s) = s
 
 -- The same of a packing, and the length that it says.
 abbrev pub packing-refusal : Packing → ℕ

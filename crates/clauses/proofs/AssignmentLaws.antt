@@ -15,7 +15,7 @@ use Rattle.text.specs.Tokens.{Name, Token, GETS, OPEN, CLOSE, COMMA}
 use Rattle.model.proofs.Pairs.{assigns-none}
 use Rattle.model.specs.Rules.{Pair, assigns}
 use Rattle.table.specs.Limits.{assignment-limit}
-use Rattle.table.specs.Shape.{no-assignment}
+use Rattle.table.specs.Shape.{zero-assignment}
 use Rattle.table.specs.Link.{assignment-of}
 use Rattle.table.specs.declared.Assignment.{Assignment}
 use Rattle.grammar.specs.Limits.{max-assignments}
@@ -40,7 +40,7 @@ room-is = refl
 -- No assignments.
 pub none-zero : Unused-zero (assignment-list [])
 unfolding filled
-none-zero = filled-none assignment-limit no-assignment
+none-zero = filled-none assignment-limit zero-assignment
 
 pub none-pairs : (list : Assignments) → list ≡ assignment-list [] → pairs-in list ≡ []
 none-pairs list e = ap pairs-in e
@@ -48,7 +48,7 @@ none-pairs list e = ap pairs-in e
 -- One assignment more.
 pub pairs-add : (list : Assignments) (a : Assignment) → Unused-zero list → list .count < assignment-limit
     → map assignment-of (take (list .count + 1) (set (list .places) (list .count) a)) ≡ pairs-in list ++ assignment-of a ∷ []
-pairs-add list a F h = ap (map assignment-of) (filled-used assignment-limit no-assignment (list .places) (list .count) a F h) ∙ map-append assignment-of (take (list .count) (list .places)) (a ∷ [])
+pairs-add list a F h = ap (map assignment-of) (filled-used assignment-limit zero-assignment (list .places) (list .count) a F h) ∙ map-append assignment-of (take (list .count) (list .places)) (a ∷ [])
 
 -- No slot is assigned after the last pair.
 pub assigns-end : (ps : List Pair) (i s : ℕ) → length ps ≤ i → assigns (drop i ps) s ≡ false
@@ -59,12 +59,12 @@ pub pairs-length : (list : Assignments) → length (pairs-in list) ≡ min (list
 pairs-length list = rw (length-map, length-take)
 
 pub pairs-from : (list : Assignments) (i : ℕ) → i < list .count → i < length (list .places)
-    → drop i (pairs-in list) ≡ assignment-of (getD (list .places) i no-assignment) ∷ drop (i + 1) (pairs-in list)
+    → drop i (pairs-in list) ≡ assignment-of (getD (list .places) i zero-assignment) ∷ drop (i + 1) (pairs-in list)
 pairs-from list i h l =
     let used = take (list .count) (list .places) in
     let n = pairs-length list in
     let k : i < length (pairs-in list) = omega arith in
-    rw (add-one i) (drop-cons (pairs-in list) i (assignment-of no-assignment) k ∙ rw (List·getD-map assignment-of used i no-assignment, getD-take (list .count) (list .places) i no-assignment h))
+    rw (add-one i) (drop-cons (pairs-in list) i (assignment-of zero-assignment) k ∙ rw (List·getD-map assignment-of used i zero-assignment, getD-take (list .count) (list .places) i zero-assignment h))
 
 -- The slot of an assignment: not read, assigned already, not assigned.
 pub target-stop : (slots : List Slot) (sofar : List Pair) (ts : List Token) (k : ℕ) → read-slot slots ts ≡ stop k → read-target slots sofar ts ≡ stop k

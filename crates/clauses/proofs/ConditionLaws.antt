@@ -54,9 +54,9 @@ more-other rest base v.Long sofar ts h = refl
 more-other rest base v.Bad sofar ts h = refl
 
 -- The literals in the places used, with one more.
-pub literals-add : (places : List Literal) (count : ℕ) (l : Literal) → Filled 8 shape.no-literal places count → count < 8
+pub literals-add : (places : List Literal) (count : ℕ) (l : Literal) → Filled 8 shape.zero-literal places count → count < 8
     → map literal-of (take (count + 1) (set places count l)) ≡ map literal-of (take count places) ++ literal-of l ∷ []
-literals-add places count l F h = ap (map literal-of) (filled-used 8 shape.no-literal places count l F h) ∙ map-append literal-of (take count places) (l ∷ [])
+literals-add places count l F h = ap (map literal-of) (filled-used 8 shape.zero-literal places count l F h) ∙ map-append literal-of (take count places) (l ∷ [])
 
 -- Literals, one at a time; `room` more may come.
 pub literals-full : (slots : List Slot) (room : ℕ) (sofar : List model.Literal) (ts : List Token) → room ≡ 0 → read-literals slots room sofar ts ≡ no-literal sofar ts

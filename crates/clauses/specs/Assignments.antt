@@ -6,7 +6,7 @@ use Rattle.laws.specs.Filled.{filled, Filled}
 use Rattle.text.specs.Tokens.{Token, GETS}
 use Rattle.model.specs.Rules.{Pair}
 use Rattle.table.specs.Limits.{assignment-limit}
-use Rattle.table.specs.Shape.{no-assignment}
+use Rattle.table.specs.Shape.{zero-assignment}
 use Rattle.table.specs.Link.{assignment-of}
 use Rattle.table.specs.declared.Assignment.{Assignment}
 use Rattle.grammar.specs.Files.{Slot}
@@ -24,11 +24,11 @@ assignment-for p = record { slot = p .slot; value = p .value }
 
 -- The assignment places for these pairs; the places that are not used are zero.
 abbrev pub assignment-list : List Pair → Assignments
-assignment-list ps = record { places = filled assignment-limit no-assignment (map assignment-for ps); count = length ps }
+assignment-list ps = record { places = filled assignment-limit zero-assignment (map assignment-for ps); count = length ps }
 
 -- The assignment places that are not used are zero.
 abbrev pub Unused-zero : Assignments → Type 0
-Unused-zero list = Filled assignment-limit no-assignment (list .places) (list .count)
+Unused-zero list = Filled assignment-limit zero-assignment (list .places) (list .count)
 
 -- The pairs in the assignment places that are used.
 abbrev pub pairs-in : Assignments → List Pair

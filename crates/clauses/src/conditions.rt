@@ -5,7 +5,7 @@ ghost use Prim.Native.Nat.{ℕ, _<_};
 ghost use lib.ListN.{length, replicate};
 ghost use Rattle.laws.specs.Filled.{Filled};
 ghost use Rattle.model.specs.Rules as model;
-ghost use Rattle.table.specs.Shape.{no-literal};
+ghost use Rattle.table.specs.Shape.{zero-literal};
 ghost use Rattle.grammar.specs.Files.{Slot};
 ghost use Rattle.grammar.specs.Limits.{max-literals};
 ghost use Rattle.grammar.specs.Reading as reading;
@@ -56,7 +56,7 @@ fn no_more(rest: &[u8], at: usize) -> u8
 
 // No literals.
 fn no_literals() -> Literals
-    ensures { λ r. ⌜ r ≡ record { places = replicate 8 no-literal; count = 0 } ⌝ }
+    ensures { λ r. ⌜ r ≡ record { places = replicate 8 zero-literal; count = 0 } ⌝ }
 {
     let none = Literal {
         becomes: false,
@@ -81,7 +81,7 @@ fn literals_next(
     requires { ⌜ length (now valuespans) ≡ 512 ⌝ }
     ensures { λ r. ⌜ ((base : ℕ) (slots : List Slot) → Looked (now (text .entry)) slots (now (slotspans .entry)) (now (valuespans .entry))
         → read-literals slots max-literals [] (tokens-past (now (rest .entry)) base start) ≡ outcome-part (now (rest .entry)) base (literals-in (r .list)) (r .outcome))
-        × Step-lies (length (now (rest .entry))) start (r .outcome) × Filled 8 no-literal (r .list .places) (r .list .count) ⌝ }
+        × Step-lies (length (now (rest .entry))) start (r .outcome) × Filled 8 zero-literal (r .list .places) (r .list .count) ⌝ }
 {
     let mut list = no_literals();
     let mut at = start;
@@ -138,7 +138,7 @@ pub fn condition_next(
     requires { ⌜ length (now valuespans) ≡ 512 ⌝ }
     ensures { λ r. ⌜ ((base : ℕ) (slots : List Slot) → Looked (now (text .entry)) slots (now (slotspans .entry)) (now (valuespans .entry))
         → read-condition slots (tokens-past (now (rest .entry)) base at) ≡ outcome-part (now (rest .entry)) base (literals-in (r .list)) (r .outcome))
-        × Step-lies (length (now (rest .entry))) at (r .outcome) × Filled 8 no-literal (r .list .places) (r .list .count) ⌝ }
+        × Step-lies (length (now (rest .entry))) at (r .outcome) × Filled 8 zero-literal (r .list .places) (r .list .count) ⌝ }
 {
     let opening = word_next(rest, at, text::TRUE);
     match opening {

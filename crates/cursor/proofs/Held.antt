@@ -35,7 +35,7 @@ use denote.Triple.Spec.{tripleOf}
 use denote.Triple.Clauses.{ensured, lasts}
 use Rattle.text.specs.declared.Next.{Next}
 use Rattle.text.proofs.token_at as token-at
-use Rattle.cursor.specs.Readers.{next-of}
+use Rattle.cursor.specs.Readers.{peeked}
 use Rattle.cursor.specs.declared.Reader.{Reader}
 use Rattle.cursor.proofs.Reader as reader
 use Rattle.cursor.proofs.Reader.Laws as reader-laws
@@ -116,8 +116,8 @@ module _ {M : Type 1} (𝓤 : URA M) (H : Heap 𝓤) (A : Atoms 𝓤) (W : Given
       move ! (2 ∷ 0 ∷ []) $ use2 W (raw (Token-at 𝓤 H A mem run .pre to-token-at)) asked $ frame ! $ done !)
 
   -- What `token_at` says of its result.
-  pub token-at-said : (n : Next) → ent 𝓤 (ensured 𝓤 H A token-at.ended (token-at.clauses 𝓤 H A mem run) (κ, tt) (d .text, (d .at, tt)) tt n) (fact 𝓤 (n ≡ next-of d))
-  token-at-said n = exE 𝓤 _ (λ ws. snd∗ 𝓤 (sem 𝓤 H A (lasts token-at.ended (κ, tt) (d .text, (d .at, tt)) ws)) (fact 𝓤 (n ≡ next-of d)))
+  pub token-at-said : (n : Next) → ent 𝓤 (ensured 𝓤 H A token-at.ended (token-at.clauses 𝓤 H A mem run) (κ, tt) (d .text, (d .at, tt)) tt n) (fact 𝓤 (n ≡ peeked d))
+  token-at-said n = exE 𝓤 _ (λ ws. snd∗ 𝓤 (sem 𝓤 H A (lasts token-at.ended (κ, tt) (d .text, (d .at, tt)) ws)) (fact 𝓤 (n ≡ peeked d)))
 
   -- The call of `peek` at the reader, which has the machine value `u`.
   abbrev pub to-peek : Val → Peek 𝓤 H A mem run .Ghost
@@ -128,5 +128,5 @@ module _ {M : Type 1} (𝓤 : URA M) (H : Heap 𝓤) (A : Atoms 𝓤) (W : Given
   goes-on u = qed W (‵ (Row (κ, tt) .own d (u ∷ [])) ∷ (‵ (flft κ q) ⊛ ‵ ftrue) ∷ []) ∵ nothing ! $ move ! (1 ∷ 0 ∷ []) $ fjoin ! $ move ! (1 ∷ 0 ∷ []) $ join ! $ frame ! $ done !
 
   -- What `peek` says of its result.
-  pub peek-said : (n : Next) → ent 𝓤 (ensured 𝓤 H A peek.ended (peek.clauses 𝓤 H A mem run) (κ, tt) (d, tt) tt n) (fact 𝓤 (n ≡ next-of d))
-  peek-said n = exE 𝓤 _ (λ ws. snd∗ 𝓤 (sem 𝓤 H A (lasts peek.ended (κ, tt) (d, tt) ws)) (fact 𝓤 (n ≡ next-of d)))
+  pub peek-said : (n : Next) → ent 𝓤 (ensured 𝓤 H A peek.ended (peek.clauses 𝓤 H A mem run) (κ, tt) (d, tt) tt n) (fact 𝓤 (n ≡ peeked d))
+  peek-said n = exE 𝓤 _ (λ ws. snd∗ 𝓤 (sem 𝓤 H A (lasts peek.ended (κ, tt) (d, tt) ws)) (fact 𝓤 (n ≡ peeked d)))

@@ -12,7 +12,7 @@ use Rattle.text.specs.Next.{tokens-at, shown, Lies}
 use Rattle.text.specs.declared.Token as code
 use Rattle.text.specs.declared.Token.the-variants as v
 use Rattle.text.proofs.Position.{tokens-next, next-lies}
-use Rattle.cursor.specs.Readers.{at-start, next-of, advanced, advanced-by, nth-token}
+use Rattle.cursor.specs.Readers.{at-start, peeked, advanced, advanced-by, nth-token}
 use Rattle.cursor.specs.declared.Reader.{Reader}
 
 -- A stretch inside a text has its length.
@@ -41,16 +41,16 @@ shown-rest s from next v.Long n h = refl
 shown-rest s from next v.Bad n h = refl
 
 -- After `n` steps from any position the reader is at the token with number `n` of those from there on.
-pub nth-walked : (n : ℕ) (r : Reader) → next-of (advanced-by n r) .token ≡ nth-token (tokens-at (now (r .text)) (r .at)) n
+pub nth-walked : (n : ℕ) (r : Reader) → peeked (advanced-by n r) .token ≡ nth-token (tokens-at (now (r .text)) (r .at)) n
 nth-walked zero r =
     let s : List ℕ = now (r .text) in
-    sym (ap (λ (ts : List Token). nth-token ts 0) (tokens-next s (r .at)) ∙ shown-first s (r .at) _ (next-of r .token) _ (next-lies s (r .at)))
+    sym (ap (λ (ts : List Token). nth-token ts 0) (tokens-next s (r .at)) ∙ shown-first s (r .at) _ (peeked r .token) _ (next-lies s (r .at)))
 nth-walked (suc n) r =
     let s : List ℕ = now (r .text) in
-    nth-walked n (advanced r) ∙ sym (ap (λ (ts : List Token). nth-token ts (suc n)) (tokens-next s (r .at)) ∙ shown-rest s (r .at) _ (next-of r .token) n (next-lies s (r .at)))
+    nth-walked n (advanced r) ∙ sym (ap (λ (ts : List Token). nth-token ts (suc n)) (tokens-next s (r .at)) ∙ shown-rest s (r .at) _ (peeked r .token) n (next-lies s (r .at)))
 
 -- THE TOKENS ONE AFTER THE OTHER: peeking after `n` steps from the start of a text gives the token of the text with number `n`, and the end where there is none.
-pub tokens-walked : (text : RefT (List ℕ)) (n : ℕ) → next-of (advanced-by n (at-start text)) .token ≡ nth-token (tokens (now text)) n
+pub tokens-walked : (text : RefT (List ℕ)) (n : ℕ) → peeked (advanced-by n (at-start text)) .token ≡ nth-token (tokens (now text)) n
 unfolding tokens tokens-at
 tokens-walked text n = nth-walked n (at-start text)
 

@@ -14,12 +14,12 @@ abbrev pub at-start : RefT (List ℕ) → Reader
 at-start text = record { text = text; at = 0 }
 
 -- The token at a reader's position, and the position after it.
-abbrev pub next-of : Reader → Next
-next-of r = next-at (now (r .text)) (r .at)
+abbrev pub peeked : Reader → Next
+peeked r = next-at (now (r .text)) (r .at)
 
 -- The reader past the token at its position: the same text, and the position after that token.
 abbrev pub advanced : Reader → Reader
-advanced r = record { text = r .text; at = next-of r .at }
+advanced r = record { text = r .text; at = peeked r .at }
 
 -- The reader after `n` such steps.
 abbrev pub advanced-by : ℕ → Reader → Reader

@@ -1,7 +1,7 @@
 // A reader that borrows the rule text while it walks: thin functions over one token at a position.
 ghost use mathlib.Core.Path.{_≡_};
 ghost use Rattle.text.specs.Next.{next-at};
-ghost use Rattle.cursor.specs.Readers.{at-start, next-of, advanced};
+ghost use Rattle.cursor.specs.Readers.{at-start, peeked, advanced};
 use text::Next;
 
 // A text and a position in it.
@@ -19,7 +19,7 @@ pub fn new<'a>(text: &'a [u8]) -> Reader<'a>
 
 // The token at the reader's position, and the position after it.
 pub fn peek<'a>(r: Reader<'a>) -> Next
-    ensures { λ n. ⌜ n ≡ next-of (r .entry) ⌝ }
+    ensures { λ n. ⌜ n ≡ peeked (r .entry) ⌝ }
 {
     text::token_at(r.text, r.at)
 }

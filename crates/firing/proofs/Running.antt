@@ -28,7 +28,7 @@ use Rattle.model.proofs.Loop.{Reached, start, level-fires, levels-end}
 use Rattle.model.proofs.Exists.{loop-end}
 use Rattle.table.specs.declared.Table.{Table}
 use Rattle.table.specs.Limits.{rule-limit, pair-places}
-use Rattle.table.specs.Shape.{no-rule, Shaped}
+use Rattle.table.specs.Shape.{zero-rule, Shaped}
 use Rattle.table.specs.Link.{rule-of, rules-of, assignments-of, stratum-at}
 use Rattle.table.specs.Flat.{set-of, flags-of, pairs-of, add-pairs}
 use Rattle.table.specs.Fits.{TableFits}
@@ -118,7 +118,7 @@ module _ (t : Table) (S : List ℕ) (slip : List Bool) (positions : List ℕ) wh
   module _ (fits : TableFits t) (sh : Shaped t) where
     -- A rule that has fired or is not enabled is passed over.
     pub run-over : (s from k i : ℕ) (b : Bool) (bs fired : List Bool) → i ≡ getD positions k 0 → i < t .count
-        → (getD fired i false ≡ false → enabled S (set-of bs) (rule-of (getD (t .rules) i no-rule)) ≡ false)
+        → (getD fired i false ≡ false → enabled S (set-of bs) (rule-of (getD (t .rules) i zero-rule)) ≡ false)
         → Running s from k b bs fired → Running s from (k + 1) b bs fired
     run-over s from k i b bs fired at h off p = rw (add-one k) (record {
       done = p .done;
@@ -165,8 +165,8 @@ module _ (t : Table) (S : List ℕ) (slip : List Bool) (positions : List ℕ) wh
     module _ (G : Grading) (strata : Strata G (rules-of t) (stratum-at t)) where
       -- An unfired rule of the stratum that is enabled fires.
       pub run-fire : (s from k i : ℕ) (b : Bool) (bs fired : List Bool) → i < t .count → stratum-at t (suc i) ≡ s → getD fired i false ≡ false
-          → enabled S (set-of bs) (rule-of (getD (t .rules) i no-rule)) ≡ true
-          → Running s from k b bs fired → Running s from (k + 1) true (add-pairs (assignments-of (getD (t .rules) i no-rule)) bs) (set fired i true)
+          → enabled S (set-of bs) (rule-of (getD (t .rules) i zero-rule)) ≡ true
+          → Running s from k b bs fired → Running s from (k + 1) true (add-pairs (assignments-of (getD (t .rules) i zero-rule)) bs) (set fired i true)
       unfolding changes names _∨ᵇ_
       run-fire s from k i b bs fired h st un en p = record {
         done = suc i ∷ p .done;
@@ -177,7 +177,7 @@ module _ (t : Table) (S : List ℕ) (slip : List Bool) (positions : List ℕ) wh
             (λ (e : j ≡ i). rw (e, eq-eqb (suc i) (suc i) refl) (getD-set-same fired i true false (omega (arith, p .fired-size, fits .rules-fit))))
             (λ n. rw (ne-eqb (suc j) (suc i) (λ e. n (omega arith))) (getD-set-other fired i j true false n ∙ p .flagged j l))
             (either j i);
-        stands = fun-ext (λ q. added (assignments-of (getD (t .rules) i no-rule)) bs q (p .changes-size) (λ x a. assigned-placed (getD (t .rules) i no-rule) x (fits .each-fits i h) a) ∙ rw (p .stands, rule-at-is t i h));
+        stands = fun-ext (λ q. added (assignments-of (getD (t .rules) i zero-rule)) bs q (p .changes-size) (λ x a. assigned-placed (getD (t .rules) i zero-rule) x (fits .each-fits i h) a) ∙ rw (p .stands, rule-at-is t i h));
         changes-size = added-length _ bs ∙ p .changes-size;
         fired-size = length-set fired i true ∙ p .fired-size;
       }

@@ -2,7 +2,7 @@
 pub mod order;
 
 ghost use mathlib.Core.Path.{_≡_};
-ghost use Rattle.firing.specs.Firing.{Fireable, firing-of};
+ghost use Rattle.firing.specs.Firing.{CanFire, table-firing};
 use table::PAIRS;
 use table::RULES;
 use table::SLOTS;
@@ -17,8 +17,8 @@ pub struct Firing {
 // Fires the rules stratum by stratum, in passes over the rules of a stratum until one fires nothing: a plain test may wait for another rule of its own stratum.
 // A rule is passed over at its first false literal. The passes end: each fires a rule, and none fires twice, or is the last of its stratum.
 pub fn fire(t: Table, card: &[u8; SLOTS], slip: [bool; PAIRS]) -> Firing
-    requires { ⌜ Fireable t ⌝ }
-    ensures { λ r. ⌜ r ≡ firing-of t (now (card .entry)) slip ⌝ }
+    requires { ⌜ CanFire t ⌝ }
+    ensures { λ r. ⌜ r ≡ table-firing t (now (card .entry)) slip ⌝ }
 {
     let n = t.count;
     let strata = order::strata_of(t);

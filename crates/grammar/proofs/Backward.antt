@@ -13,10 +13,10 @@ use Rattle.text.specs.Tokens.{Name, Token, word, name, long, bad, SLOT, WHEN, I
 use Rattle.model.specs.Rules.{Pair, Literal, Rule, assigns}
 use Rattle.grammar.specs.Limits.{max-text, max-slots, max-values, max-rules, max-literals, max-assignments}
 use Rattle.grammar.specs.Files.{Slot, File, place-in, slot-names, values-of}
-use Rattle.grammar.specs.Grammar.{RuleTree, rule, trigger, ConditionTree, and-literal, one-literal, true-alone, LiteralTree, not-literal, becomes-value, has-value, AssignTree, one-alone, braces, AssignmentListTree, one-assignment, comma-assignment, AssignmentTree, gets-value, ValueListTree, one-value, comma-value, LineTree, line, FileTree, spell, spell-literal, spell-condition, spell-assignment, spell-assignments, spell-assign, spell-rule, spell-rules, spell-values, spell-line, spell-lines}
-use Rattle.grammar.specs.Reading.{Part, took, stop, Answer, accepted, refused, _then_, expects, a-name, new-name, read-slot, read-value, read-target, plain-literal, read-literal, no-literal, read-literals, read-condition, read-assignment, no-assignment, read-assignments, read-assign, read-rule, no-value, read-values, read-line, go-on, read-rules, read-lines, read-tokens, read}
+use Rattle.grammar.specs.Grammar.{RuleTree, rule, trigger, ConditionTree, and-literal, one-literal, true-alone, LiteralTree, not-literal, becomes-value, holds-value, AssignTree, one-alone, braces, AssignmentListTree, one-assignment, comma-assignment, AssignmentTree, gets-value, ValueListTree, one-value, comma-value, LineTree, line, FileTree, spell, spell-literal, spell-condition, spell-assignment, spell-assignments, spell-assign, spell-rule, spell-rules, spell-values, spell-line, spell-lines}
+use Rattle.grammar.specs.Reading.{Part, took, stop, Parsed, accepted, refused, _then_, expects, a-name, new-name, read-slot, read-value, read-target, plain-literal, read-literal, no-literal, read-literals, read-condition, read-assignment, no-assignment, read-assignments, read-assign, read-rule, no-value, read-values, read-line, go-on, read-rules, read-lines, read-tokens, parse}
 use Rattle.model.specs.Result.{pair}
-use Rattle.grammar.specs.Meaning.{Names, turned, nots, tests-change, slot-in, value-in, Means-literal, Means-condition, means-and, means-one, means-true, Means-assignment, means-assignment, Means-assignments, means-first, means-comma, Means-assign, means-alone, means-braces, means-trigger, Means-rule, means-rule, Means-rules, no-rules, more-rules, Means-values, means-value, means-values, Means-line, means-line, Means-lines, no-lines, more-lines, Is-file}
+use Rattle.grammar.specs.Meaning.{Names, turned, nots, tests-change, tested-slot, tested-value, Means-literal, Means-condition, means-and, means-one, means-true, Means-assignment, means-assignment, Means-assignments, means-first, means-comma, Means-assign, means-alone, means-braces, means-trigger, Means-rule, means-rule, Means-rules, no-rules, more-rules, Means-values, means-value, means-values, Means-line, means-line, Means-lines, no-lines, more-lines, Is-file}
 use Rattle.grammar.proofs.Steps.{never, took-same, put, then-back, by-then, cond-back, expects-back, slot-back, value-back, target-back, new-name-back, fork-back, if-next-back, after-back, list-back}
 
 -- A literal that was read.
@@ -25,7 +25,7 @@ pub record Literal-found (ts : List Token) (slots : List Slot) (neg : Bool) (m :
   pub spelled : ts ≡ spell-literal tree rest
   pub mark : m .becomes ≡ tests-change tree
   pub sign : m .negated ≡ turned (nots tree) neg
-  pub names : Names slots (slot-in tree) (value-in tree) (m .pair)
+  pub names : Names slots (tested-slot tree) (tested-value tree) (m .pair)
 
 -- The end of a literal: its mark was read, and a value's name follows.
 value-end : (slots : List Slot) (s : ℕ) (b neg : Bool) (more : List Token) (m : Literal) (rest : List Token)
@@ -54,7 +54,7 @@ plain-back slots neg ts m rest e =
       names = subst (λ (l : Literal). Names slots (s .0) (v .0) (l .pair)) (sym (v .2)) (record { slot-is = s .2; value-is = refl; value-there = v .3 });
     })
     (λ x. let v = value-end slots (a .0) false neg (x .0) m rest (x .2) in record {
-      tree = has-value (s .0) (v .0);
+      tree = holds-value (s .0) (v .0);
       spelled = s .1 ∙ put (name (s .0)) (x .1 ∙ put (word HAS) (v .1));
       mark = ap (λ (l : Literal). l .becomes) (v .2);
       sign = ap (λ (l : Literal). l .negated) (v .2);
@@ -193,7 +193,7 @@ refused-never k n f e = absurd (let z : _≡_ {A = ℕ} 0 1 = cc in omega arith)
 pub file-same : (f g : File) → accepted f ≡ accepted g → f ≡ g
 file-same f g e = cc
 
-pub go-on-back : {A : Type 0} (done : ℕ) (m : Part A) (k : A → List Token → Answer) (f : File) → go-on done m k ≡ accepted f
+pub go-on-back : {A : Type 0} (done : ℕ) (m : Part A) (k : A → List Token → Parsed) (f : File) → go-on done m k ≡ accepted f
     → (a : A) × (ts : List Token) × (m ≡ took a ts) × (k a ts ≡ accepted f)
 unfolding go-on
 go-on-back done (took a ts) k f e = (a, ts, refl, e)
@@ -301,8 +301,8 @@ unfolding read-tokens
 tokens-back ts f e = let r = lines-back max-slots [] ts f max-slots (omega arith) e in (record { lines = r .lines; rules = r .rules }, sym (r .spelled))
 
 -- A text that is read is a file.
-pub file-back : (text : List ℕ) (f : File) → read text ≡ accepted f → Is-file text f
-unfolding read read-tokens
+pub file-back : (text : List ℕ) (f : File) → parse text ≡ accepted f → Is-file text f
+unfolding parse read-tokens
 file-back text f e = go (leb (length text) max-text) refl e
   where
     go : (t : Bool) → leb (length text) max-text ≡ t → cond t (read-lines max-slots [] (tokens text)) (refused 10 0) ≡ accepted f → Is-file text f

@@ -12,12 +12,12 @@ use Rattle.grammar.specs.Limits.{max-text, max-slots, max-values, max-ru
 use Rattle.grammar.specs.Files.{Slot}
 use Rattle.laws.specs.Truth.{_∨ᵇ_}
 use Rattle.model.specs.Rules.{assigns}
-use Rattle.grammar.specs.Reading.{accepted, refused, _then_, expects, fork, a-name, if-next, new, new-name, known-slot, known-value, unassigned, read-slot, read-value, read-target, read-list, plain-literal, read-literal, no-literal, read-literals, read-condition, read-assignment, no-assignment, read-assignments, read-assign, read-rule, no-value, read-values, read-line, go-on, read-rules, read-lines, read-tokens, read}
+use Rattle.grammar.specs.Reading.{accepted, refused, _then_, expects, fork, a-name, if-next, new, new-name, known-slot, known-value, unassigned, read-slot, read-value, read-target, read-list, plain-literal, read-literal, no-literal, read-literals, read-condition, read-assignment, no-assignment, read-assignments, read-assign, read-rule, no-value, read-values, read-line, go-on, read-rules, read-lines, read-tokens, parse}
 use Rattle.model.specs.Result.{pair}
 
 -- `unfolding reads` opens all that a reading runs.
 unfoldable pub reads : Unit {0}
-unfolding bytes-from bytes class-of reserved mark-of run-token run token-here more-bytes tokens-from tokens max-text max-slots max-values max-rules max-literals max-assignments _∨ᵇ_ assigns _then_ expects fork a-name if-next new new-name known-slot known-value unassigned read-slot read-value read-target read-list plain-literal read-literal no-literal read-literals read-condition read-assignment no-assignment read-assignments read-assign read-rule no-value read-values read-line go-on read-rules read-lines read-tokens read
+unfolding bytes-from bytes class-of reserved mark-of run-token run token-here more-bytes tokens-from tokens max-text max-slots max-values max-rules max-literals max-assignments _∨ᵇ_ assigns _then_ expects fork a-name if-next new new-name known-slot known-value unassigned read-slot read-value read-target read-list plain-literal read-literal no-literal read-literals read-condition read-assignment no-assignment read-assignments read-assign read-rule no-value read-values read-line go-on read-rules read-lines read-tokens parse
 reads = tt
 
 -- The slots of document 01's cases.
@@ -40,7 +40,7 @@ abbrev pub after-slots : String → List ℕ
 after-slots s = bytes slots-text ++ bytes s
 
 -- Case I: TRUE may open a condition and be followed by AND.
-pub case-I : read (after-slots "WHEN x *= 1 IF TRUE AND y |= 0 THEN z := 1;")
+pub case-I : parse (after-slots "WHEN x *= 1 IF TRUE AND y |= 0 THEN z := 1;")
     ≡ accepted (record {
       slots = slots-read;
       rules = record { trigger = pair 0 2; literals = record { becomes = false; negated = false; pair = pair 1 1 } ∷ []; assignments = pair 2 2 ∷ [] } ∷ [];
@@ -49,23 +49,23 @@ unfolding reads
 case-I = refl
 
 -- Case J: it may stand nowhere else.
-pub case-J : read (after-slots "WHEN x *= 1 IF y |= 0 AND TRUE THEN z := 1;") ≡ refused 12 0
+pub case-J : parse (after-slots "WHEN x *= 1 IF y |= 0 AND TRUE THEN z := 1;") ≡ refused 12 0
 unfolding reads
 case-J = refl
 
 -- Nor after TRUE AND, nor after NOT; and a condition is not empty.
-pub case-true : (read (after-slots "WHEN x *= 1 IF TRUE AND TRUE THEN z := 1;") ≡ refused 12 0) × (read (after-slots "WHEN x *= 1 IF NOT TRUE THEN z := 1;") ≡ refused 12 0)
-    × (read (after-slots "WHEN x *= 1 IF THEN z := 1;") ≡ refused 12 0)
+pub case-true : (parse (after-slots "WHEN x *= 1 IF TRUE AND TRUE THEN z := 1;") ≡ refused 12 0) × (parse (after-slots "WHEN x *= 1 IF NOT TRUE THEN z := 1;") ≡ refused 12 0)
+    × (parse (after-slots "WHEN x *= 1 IF THEN z := 1;") ≡ refused 12 0)
 unfolding reads
 case-true = (refl, refl, refl)
 
 -- An empty file, and one of white only.
-pub case-empty : (read (bytes "") ≡ accepted (record { slots = []; rules = [] })) × (read (bytes " \t\r\n") ≡ accepted (record { slots = []; rules = [] }))
+pub case-empty : (parse (bytes "") ≡ accepted (record { slots = []; rules = [] })) × (parse (bytes " \t\r\n") ≡ accepted (record { slots = []; rules = [] }))
 unfolding reads
 case-empty = (refl, refl)
 
 -- An even number of NOTs cancels, an odd one does not.
-pub case-nots : read (after-slots "WHEN x *= 1 IF NOT NOT y *= 0 AND NOT NOT NOT x |= 1 THEN {z := 1, x := 0};")
+pub case-nots : parse (after-slots "WHEN x *= 1 IF NOT NOT y *= 0 AND NOT NOT NOT x |= 1 THEN {z := 1, x := 0};")
     ≡ accepted (record {
       slots = slots-read;
       rules = record {
@@ -78,62 +78,62 @@ unfolding reads
 case-nots = refl
 
 -- 11 before 12 at one token: a class 5 byte without `=` where even its mark would be out of place, and at the end of the text.
-pub case-bad : (read (bytes "WHEN *") ≡ refused 11 0) × (read (bytes "*=") ≡ refused 12 0) × (read (after-slots "WHEN x *") ≡ refused 11 0)
+pub case-bad : (parse (bytes "WHEN *") ≡ refused 11 0) × (parse (bytes "*=") ≡ refused 12 0) × (parse (after-slots "WHEN x *") ≡ refused 11 0)
 unfolding reads
 case-bad = (refl, refl, refl)
 
 -- The earliest token counts: an undeclared slot before a bad byte.
-pub case-earliest : read (after-slots "WHEN q(") ≡ refused 16 0
+pub case-earliest : parse (after-slots "WHEN q(") ≡ refused 16 0
 unfolding reads
 case-earliest = refl
 
 -- A name over 24 bytes is 13 where a name may stand and 12 elsewhere.
-pub case-long : (read (bytes "SLOT nnnnnnnnnnnnnnnnnnnnnnnnn (") ≡ refused 13 0) × (read (bytes "nnnnnnnnnnnnnnnnnnnnnnnnn") ≡ refused 12 0)
+pub case-long : (parse (bytes "SLOT nnnnnnnnnnnnnnnnnnnnnnnnn (") ≡ refused 13 0) × (parse (bytes "nnnnnnnnnnnnnnnnnnnnnnnnn") ≡ refused 12 0)
 unfolding reads
 case-long = (refl, refl)
 
 -- The sixteenth value: 14 where it repeats one, else 15.
-pub case-values : (read (bytes "SLOT x {a,b,c,d,e,f,g,h,i,j,k,l,m,n,o,c};") ≡ refused 14 0) × (read (bytes "SLOT x {a,b,c,d,e,f,g,h,i,j,k,l,m,n,o,p};") ≡ refused 15 0)
+pub case-values : (parse (bytes "SLOT x {a,b,c,d,e,f,g,h,i,j,k,l,m,n,o,c};") ≡ refused 14 0) × (parse (bytes "SLOT x {a,b,c,d,e,f,g,h,i,j,k,l,m,n,o,p};") ≡ refused 15 0)
 unfolding reads
 case-values = (refl, refl)
 
 -- The ninth literal: 15 at its NOT or its slot's name, declared or not; 12 at TRUE, 13 at a long name; TRUE before the eight is not counted.
-pub case-literals : (read (after-slots "WHEN x *= 1 IF TRUE THEN y := 1;WHEN x *= 1 IF TRUE AND y |= 0 AND y |= 0 AND y |= 0 AND y |= 0 AND y |= 0 AND y |= 0 AND y |= 0 AND y |= 0 AND q(") ≡ refused 15 1)
-    × (read (after-slots "WHEN x *= 1 IF TRUE THEN y := 1;WHEN x *= 1 IF y |= 0 AND y |= 0 AND y |= 0 AND y |= 0 AND y |= 0 AND y |= 0 AND y |= 0 AND y |= 0 AND NOT(") ≡ refused 15 1)
-    × (read (after-slots "WHEN x *= 1 IF TRUE THEN y := 1;WHEN x *= 1 IF y |= 0 AND y |= 0 AND y |= 0 AND y |= 0 AND y |= 0 AND y |= 0 AND y |= 0 AND y |= 0 AND TRUE") ≡ refused 12 1)
-    × (read (after-slots "WHEN x *= 1 IF TRUE THEN y := 1;WHEN x *= 1 IF y |= 0 AND y |= 0 AND y |= 0 AND y |= 0 AND y |= 0 AND y |= 0 AND y |= 0 AND y |= 0 AND nnnnnnnnnnnnnnnnnnnnnnnnn") ≡ refused 13 1)
+pub case-literals : (parse (after-slots "WHEN x *= 1 IF TRUE THEN y := 1;WHEN x *= 1 IF TRUE AND y |= 0 AND y |= 0 AND y |= 0 AND y |= 0 AND y |= 0 AND y |= 0 AND y |= 0 AND y |= 0 AND q(") ≡ refused 15 1)
+    × (parse (after-slots "WHEN x *= 1 IF TRUE THEN y := 1;WHEN x *= 1 IF y |= 0 AND y |= 0 AND y |= 0 AND y |= 0 AND y |= 0 AND y |= 0 AND y |= 0 AND y |= 0 AND NOT(") ≡ refused 15 1)
+    × (parse (after-slots "WHEN x *= 1 IF TRUE THEN y := 1;WHEN x *= 1 IF y |= 0 AND y |= 0 AND y |= 0 AND y |= 0 AND y |= 0 AND y |= 0 AND y |= 0 AND y |= 0 AND TRUE") ≡ refused 12 1)
+    × (parse (after-slots "WHEN x *= 1 IF TRUE THEN y := 1;WHEN x *= 1 IF y |= 0 AND y |= 0 AND y |= 0 AND y |= 0 AND y |= 0 AND y |= 0 AND y |= 0 AND y |= 0 AND nnnnnnnnnnnnnnnnnnnnnnnnn") ≡ refused 13 1)
 unfolding reads
 case-literals = (refl, refl, refl, refl)
 
 -- The fifth assignment: 15 at its slot's name, whether undeclared or assigned before; 12 at `}`.
-pub case-assignments : (read (bytes "SLOT p{a};SLOT q{a};SLOT r{a};SLOT s{a};WHEN p*=a IF TRUE THEN{p:=a,q:=a,r:=a,s:=a,p") ≡ refused 15 0)
-    × (read (bytes "SLOT p{a};SLOT q{a};SLOT r{a};SLOT s{a};WHEN p*=a IF TRUE THEN{p:=a,q:=a,r:=a,s:=a,u") ≡ refused 15 0)
-    × (read (bytes "SLOT p{a};SLOT q{a};SLOT r{a};SLOT s{a};WHEN p*=a IF TRUE THEN{p:=a,q:=a,r:=a,s:=a,}") ≡ refused 12 0)
+pub case-assignments : (parse (bytes "SLOT p{a};SLOT q{a};SLOT r{a};SLOT s{a};WHEN p*=a IF TRUE THEN{p:=a,q:=a,r:=a,s:=a,p") ≡ refused 15 0)
+    × (parse (bytes "SLOT p{a};SLOT q{a};SLOT r{a};SLOT s{a};WHEN p*=a IF TRUE THEN{p:=a,q:=a,r:=a,s:=a,u") ≡ refused 15 0)
+    × (parse (bytes "SLOT p{a};SLOT q{a};SLOT r{a};SLOT s{a};WHEN p*=a IF TRUE THEN{p:=a,q:=a,r:=a,s:=a,}") ≡ refused 12 0)
 unfolding reads
 case-assignments = (refl, refl, refl)
 
 -- A slot assigned twice is 17 at its second name, whatever follows.
-pub case-twice : read (after-slots "WHEN x *= 1 IF TRUE THEN {y := 1, y (") ≡ refused 17 0
+pub case-twice : parse (after-slots "WHEN x *= 1 IF TRUE THEN {y := 1, y (") ≡ refused 17 0
 unfolding reads
 case-twice = refl
 
 -- A slot declared twice is 14 at its second name; a slot may have a value of its own name.
-pub case-declared : (read (bytes "SLOT x {0}; SLOT x (") ≡ refused 14 0) × (read (bytes "SLOT x {x}; SLOT y {x}; SLOT z (") ≡ refused 11 0)
+pub case-declared : (parse (bytes "SLOT x {0}; SLOT x (") ≡ refused 14 0) × (parse (bytes "SLOT x {x}; SLOT y {x}; SLOT z (") ≡ refused 11 0)
 unfolding reads
 case-declared = (refl, refl)
 
 -- Lists end at once or after a part, never after a comma; SLOT after a rule is out of place.
-pub case-places : (read (bytes "SLOT x {};") ≡ refused 12 0) × (read (bytes "SLOT x {0,};") ≡ refused 12 0) × (read (after-slots "WHEN x *= 1 IF TRUE THEN y := 1; SLOT u {0};") ≡ refused 12 1)
+pub case-places : (parse (bytes "SLOT x {};") ≡ refused 12 0) × (parse (bytes "SLOT x {0,};") ≡ refused 12 0) × (parse (after-slots "WHEN x *= 1 IF TRUE THEN y := 1; SLOT u {0};") ≡ refused 12 1)
 unfolding reads
 case-places = (refl, refl, refl)
 
 -- The second number counts completed rules: the end of the text inside the second rule, and a bad byte after it.
-pub case-completed : (read (after-slots "WHEN x *= 1 IF TRUE THEN z := 1;WHEN x *= 1 IF TRUE THEN z := 1") ≡ refused 12 1)
-    × (read (after-slots "WHEN x *= 1 IF TRUE THEN z := 1;WHEN x *= 1 IF TRUE THEN z := 1;(") ≡ refused 11 2)
+pub case-completed : (parse (after-slots "WHEN x *= 1 IF TRUE THEN z := 1;WHEN x *= 1 IF TRUE THEN z := 1") ≡ refused 12 1)
+    × (parse (after-slots "WHEN x *= 1 IF TRUE THEN z := 1;WHEN x *= 1 IF TRUE THEN z := 1;(") ≡ refused 11 2)
 unfolding reads
 case-completed = (refl, refl)
 
 -- Rules without slots are 16 at the first trigger.
-pub case-rules-only : read (bytes "WHEN x *= 1 IF TRUE THEN x := 1;") ≡ refused 16 0
+pub case-rules-only : parse (bytes "WHEN x *= 1 IF TRUE THEN x := 1;") ≡ refused 16 0
 unfolding reads
 case-rules-only = refl

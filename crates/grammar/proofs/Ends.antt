@@ -7,7 +7,7 @@ use mathlib.Core.List.{List, [], _∷_, _++_}
 use Rattle.text.specs.Tokens.{Token, word, name, SLOT, WHEN, IF, THEN, AND, NOT, OPEN, CLOSE, COMMA, SEMICOLON, tokens-from}
 use Rattle.text.specs.Cut.{No-semi, Free, before-semi, past-semi}
 use Rattle.text.proofs.Cut.{tokens-free, before-free, past-free}
-use Rattle.grammar.specs.Grammar.{RuleTree, rule, trigger, ConditionTree, and-literal, one-literal, true-alone, LiteralTree, not-literal, becomes-value, has-value, AssignTree, one-alone, braces, AssignmentListTree, one-assignment, comma-assignment, AssignmentTree, gets-value, ValueListTree, one-value, comma-value, LineTree, line, spell-literal, spell-condition, spell-assignment, spell-assignments, spell-assign, spell-trigger, spell-rule, spell-values, spell-line}
+use Rattle.grammar.specs.Grammar.{RuleTree, rule, trigger, ConditionTree, and-literal, one-literal, true-alone, LiteralTree, not-literal, becomes-value, holds-value, AssignTree, one-alone, braces, AssignmentListTree, one-assignment, comma-assignment, AssignmentTree, gets-value, ValueListTree, one-value, comma-value, LineTree, line, spell-literal, spell-condition, spell-assignment, spell-assignments, spell-assign, spell-trigger, spell-rule, spell-values, spell-line}
 
 -- The tokens before the first `;`, followed by `;` and others.
 abbrev pub refit : List Token → List Token → List Token
@@ -17,7 +17,7 @@ refit ts us = before-semi ts ++ word SEMICOLON ∷ us
 literal-past : (l : LiteralTree) (rest : List Token) → past-semi (spell-literal l rest) ≡ past-semi rest
 literal-past (not-literal l) rest = literal-past l rest
 literal-past (becomes-value s v) rest = refl
-literal-past (has-value s v) rest = refl
+literal-past (holds-value s v) rest = refl
 
 condition-past : (c : ConditionTree) (rest : List Token) → past-semi (spell-condition c rest) ≡ past-semi rest
 condition-past (and-literal c l) rest = condition-past c (word AND ∷ spell-literal l rest) ∙ literal-past l rest
@@ -48,7 +48,7 @@ line-past (line n vs) rest = values-past vs (word CLOSE ∷ word SEMICOLON ∷ r
 literal-refit : (l : LiteralTree) (rest us : List Token) → refit (spell-literal l rest) us ≡ spell-literal l (refit rest us)
 literal-refit (not-literal l) rest us = ap (λ (y : List Token). word NOT ∷ y) (literal-refit l rest us)
 literal-refit (becomes-value s v) rest us = refl
-literal-refit (has-value s v) rest us = refl
+literal-refit (holds-value s v) rest us = refl
 
 condition-refit : (c : ConditionTree) (rest us : List Token) → refit (spell-condition c rest) us ≡ spell-condition c (refit rest us)
 condition-refit (and-literal c l) rest us =

@@ -11,9 +11,9 @@ use Rattle.text.specs.Tokens.{Name, Token, word, name, SLOT, WHEN, IF, THEN, AN
 use Rattle.model.specs.Rules.{Pair, Literal, Rule, assigns}
 use Rattle.grammar.specs.Limits.{max-text, max-slots, max-values, max-rules, max-literals, max-assignments}
 use Rattle.grammar.specs.Files.{Slot, File, place-in, slot-names}
-use Rattle.grammar.specs.Grammar.{RuleTree, rule, trigger, ConditionTree, LiteralTree, not-literal, becomes-value, has-value, AssignTree, AssignmentListTree, AssignmentTree, gets-value, ValueListTree, LineTree, line, FileTree, spell, spell-literal, spell-condition, spell-assignment, spell-assignments, spell-assign, spell-rule, spell-rules, spell-values, spell-line, spell-lines}
-use Rattle.grammar.specs.Reading.{Part, took, stop, accepted, _then_, expects, fork, a-name, begins-with, if-next, new, new-name, known-slot, known-value, unassigned, read-slot, read-value, read-target, read-list, plain-literal, read-literal, no-literal, read-literals, read-condition, read-assignment, no-assignment, read-assignments, read-assign, read-rule, no-value, read-values, read-line, go-on, read-rules, read-lines, read-tokens, read}
-use Rattle.grammar.specs.Meaning.{Names, turned, nots, tests-change, slot-in, value-in, Means-literal, Means-condition, means-and, means-one, means-true, Means-assignment, means-assignment, Means-assignments, means-first, means-comma, Means-assign, means-alone, means-braces, means-trigger, Means-rule, means-rule, Means-rules, no-rules, more-rules, Means-values, means-value, means-values, Means-line, means-line, Means-lines, no-lines, more-lines, Means, Is-file}
+use Rattle.grammar.specs.Grammar.{RuleTree, rule, trigger, ConditionTree, LiteralTree, not-literal, becomes-value, holds-value, AssignTree, AssignmentListTree, AssignmentTree, gets-value, ValueListTree, LineTree, line, FileTree, spell, spell-literal, spell-condition, spell-assignment, spell-assignments, spell-assign, spell-rule, spell-rules, spell-values, spell-line, spell-lines}
+use Rattle.grammar.specs.Reading.{Part, took, stop, accepted, _then_, expects, fork, a-name, begins-with, if-next, new, new-name, known-slot, known-value, unassigned, read-slot, read-value, read-target, read-list, plain-literal, read-literal, no-literal, read-literals, read-condition, read-assignment, no-assignment, read-assignments, read-assign, read-rule, no-value, read-values, read-line, go-on, read-rules, read-lines, read-tokens, parse}
+use Rattle.grammar.specs.Meaning.{Names, turned, nots, tests-change, tested-slot, tested-value, Means-literal, Means-condition, means-and, means-one, means-true, Means-assignment, means-assignment, Means-assignments, means-first, means-comma, Means-assign, means-alone, means-braces, means-trigger, Means-rule, means-rule, Means-rules, no-rules, more-rules, Means-values, means-value, means-values, Means-line, means-line, Means-lines, no-lines, more-lines, Means, Is-file}
 
 pub took-then : {A B : Type 0} (a : A) (ts : List Token) (f : A → List Token → Part B) → (took a ts then f) ≡ f a ts
 unfolding _then_
@@ -55,12 +55,12 @@ unfolding read-list
 list-step one none sep end room sofar ts a rest e = rw (e, took-then)
 
 -- A literal.
-pub literal-read : (slots : List Slot) (l : LiteralTree) (p : Pair) (neg : Bool) (rest : List Token) → Names slots (slot-in l) (value-in l) p
+pub literal-read : (slots : List Slot) (l : LiteralTree) (p : Pair) (neg : Bool) (rest : List Token) → Names slots (tested-slot l) (tested-value l) p
     → read-literal (spell-literal l rest) slots neg ≡ took (record { becomes = tests-change l; negated = turned (nots l) neg; pair = p }) rest
 unfolding read-literal plain-literal fork
 literal-read slots (not-literal l) p neg rest n = literal-read slots l p (not neg) rest n
 literal-read slots (becomes-value s v) p neg rest n = rw (slot-here slots s v p _ n, took-then, value-here slots s v p _ n, took-then)
-literal-read slots (has-value s v) p neg rest n = rw (slot-here slots s v p _ n, took-then, value-here slots s v p _ n, took-then)
+literal-read slots (holds-value s v) p neg rest n = rw (slot-here slots s v p _ n, took-then, value-here slots s v p _ n, took-then)
 
 literal-is : (slots : List Slot) (l : LiteralTree) (m : Literal) (rest : List Token) → Means-literal slots l m → read-literal (spell-literal l rest) slots false ≡ took m rest
 literal-is slots l m rest h =
@@ -79,7 +79,7 @@ literals-step slots room ms l m rest h = list-step _ _ AND THEN room ms (spell-l
 pub no-true : (l : LiteralTree) (rest : List Token) → begins-with TRUE (spell-literal l rest) ≡ false
 no-true (not-literal l) rest = refl
 no-true (becomes-value s v) rest = refl
-no-true (has-value s v) rest = refl
+no-true (holds-value s v) rest = refl
 
 and-here : (slots : List Slot) (room : ℕ) (ms : List Literal) (rest : List Token) → after-literal slots room ms (word AND ∷ rest) ≡ read-literals slots room ms rest
 unfolding fork read-literals
@@ -251,10 +251,10 @@ tree-read t f m =
     ∙ rules-read (f .slots) (t .rules) (f .rules) [] max-rules (m .rules-are) (m .few-rules)
 
 -- A text within the limit is read by its tokens.
-pub read-short : (text : List ℕ) → length text ≤ max-text → read text ≡ read-tokens (tokens text)
-unfolding read
+pub read-short : (text : List ℕ) → length text ≤ max-text → parse text ≡ read-tokens (tokens text)
+unfolding parse
 read-short text h = rw (le-leb (length text) max-text h)
 
 -- A text that is a file is read as that file.
-pub file-read : (text : List ℕ) (f : File) → Is-file text f → read text ≡ accepted f
-file-read text f h = read-short text (h .short) ∙ ap read-tokens (sym (h .derives)) ∙ tree-read (h .tree) f (h .means)
+pub file-parsed : (text : List ℕ) (f : File) → Is-file text f → parse text ≡ accepted f
+file-parsed text f h = read-short text (h .short) ∙ ap read-tokens (sym (h .derives)) ∙ tree-read (h .tree) f (h .means)

@@ -13,7 +13,7 @@ use Rattle.model.specs.Rules.{Rule}
 use Rattle.grammar.specs.Limits.{max-rules}
 use Rattle.grammar.specs.Files.{Slot, File}
 use Rattle.grammar.specs.Grammar.{RuleTree, rule, LineTree, line, spell-rule, spell-rules, spell-line, spell-lines}
-use Rattle.grammar.specs.Reading.{Part, took, stop, Answer, accepted, refused, expects, begins-with, if-next, read-rule, read-line, go-on, read-rules, read-lines}
+use Rattle.grammar.specs.Reading.{Part, took, stop, Parsed, accepted, refused, expects, begins-with, if-next, read-rule, read-line, go-on, read-rules, read-lines}
 use Rattle.grammar.proofs.Forward.{no-slot-first, rules-begin}
 use Rattle.grammar.proofs.Steps.{begins-back, expects-back}
 use Rattle.grammar.proofs.Backward.{refused-never}
@@ -23,21 +23,21 @@ use Rattle.grammar.proofs.Stopping.{Language, Begins, later-fault, Stop
 use Rattle.grammar.proofs.Stops.{rule-append, a-rule, reader-rule, line-append, a-line, reader-line}
 
 -- The reading of these tokens ends inside a statement or is accepted, with `n` rules completed.
-abbrev pub Clean : (List Token → Answer) → ℕ → List Token → Type 0
+abbrev pub Clean : (List Token → Parsed) → ℕ → List Token → Type 0
 Clean R n us = (R us ≡ refused 12 n) ⊎ ((f : File) × (R us ≡ accepted f) × (length (f .rules) ≡ n))
 
 -- A refused reading: where it halts, and, by `C`, which statements stand before that.
-pub record Halt (B : List Token → Type 0) (R : List Token → Answer) (C : List Token → Type 0) (ts : List Token) (k n : ℕ) : Type 0 where
+pub record Halt (B : List Token → Type 0) (R : List Token → Parsed) (C : List Token → Type 0) (ts : List Token) (k n : ℕ) : Type 0 where
   pub stopped : Stop B (Clean R n) (λ us. R us ≡ refused k n) ts k
   pub completed : C (stopped .mid)
 
-go-on-stops : {A : Type 0} (done : ℕ) (m : Part A) (f : A → List Token → Answer) (k n : ℕ) → go-on done m f ≡ refused k n
+go-on-stops : {A : Type 0} (done : ℕ) (m : Part A) (f : A → List Token → Parsed) (k n : ℕ) → go-on done m f ≡ refused k n
     → ((m ≡ stop k) × (done ≡ n)) ⊎ ((a : A) × (ts : List Token) × (m ≡ took a ts) × (f a ts ≡ refused k n))
 unfolding go-on
 go-on-stops done (took a ts) f k n e = inr (a, ts, refl, e)
 go-on-stops done (stop j) f k n e = inl (let z : j ≡ k = cc in ap stop z, cc)
 
-go-on-stop : {A : Type 0} (done : ℕ) (m : Part A) (f : A → List Token → Answer) (k : ℕ) → m ≡ stop k → go-on done m f ≡ refused k done
+go-on-stop : {A : Type 0} (done : ℕ) (m : Part A) (f : A → List Token → Parsed) (k : ℕ) → m ≡ stop k → go-on done m f ≡ refused k done
 unfolding go-on
 go-on-stop done m f k e = rw e
 
@@ -70,7 +70,7 @@ free-front (x ∷ xs) ys h = (h .0, free-front xs ys (h .1))
 
 -- A reading that refuses as a statement's reader does, where `w` stands next or where it does not, halts where that stops.
 statement-halts : {A : Type 0} (G : Language) (M : List Token → Part A) → Reader G M → (B : List Token → Type 0) → ((us : List Token) → Begins G us → B us)
-    → (R : List Token → Answer) (d w : ℕ) (b : Bool) → Clean R d [] → ((t : Token) (us : List Token) (k : ℕ) → begins-with w (t ∷ us) ≡ b → M (t ∷ us) ≡ stop k → R (t ∷ us) ≡ refused k d)
+    → (R : List Token → Parsed) (d w : ℕ) (b : Bool) → Clean R d [] → ((t : Token) (us : List Token) (k : ℕ) → begins-with w (t ∷ us) ≡ b → M (t ∷ us) ≡ stop k → R (t ∷ us) ≡ refused k d)
     → (ts : List Token) (k : ℕ) → begins-with w ts ≡ b → M ts ≡ stop k
     → (h : Stop B (Clean R d) (λ us. R us ≡ refused k d) ts k) × Begins G (h .mid) × (M (h .mid) ≡ stop 12)
 unfolding stop-where
@@ -287,11 +287,11 @@ lines-halt (suc room) before ts k n e = go (begins-with SLOT ts) refl (λ s left
     go false q again = rules-refused (suc room) before ts k n q (sym (rules-begin (suc room) before ts q) ∙ e)
 
 -- The reading of a derived file is accepted, or refused with a number from 14 on.
-abbrev pub Fits-file : Answer → Type 0
+abbrev pub Fits-file : Parsed → Type 0
 Fits-file (accepted f) = Unit
 Fits-file (refused k n) = 14 ≤ k
 
-fits-on : {A : Type 0} (done : ℕ) (m : Part A) (f : A → List Token → Answer) (rest : List Token) → Fits m rest → ((a : A) → Fits-file (f a rest)) → Fits-file (go-on done m f)
+fits-on : {A : Type 0} (done : ℕ) (m : Part A) (f : A → List Token → Parsed) (rest : List Token) → Fits m rest → ((a : A) → Fits-file (f a rest)) → Fits-file (go-on done m f)
 unfolding go-on
 fits-on done (took a ts) f rest e h = subst (λ (us : List Token). Fits-file (f a us)) (sym e) (h a)
 fits-on done (stop k) f rest e h = e

@@ -8,14 +8,14 @@ use Rattle.text.specs.Tokens.{Name, Token, word, WHEN, IF, THEN, AND, NOT, OPEN
 use Rattle.text.specs.Cut.{moved-name, moved}
 use Rattle.model.specs.Rules.{Pair, Literal, Rule}
 use Rattle.grammar.specs.Files.{Slot}
-use Rattle.grammar.specs.Grammar.{RuleTree, rule, TriggerTree, trigger, ConditionTree, and-literal, one-literal, true-alone, LiteralTree, not-literal, becomes-value, has-value, AssignTree, one-alone, braces, AssignmentListTree, one-assignment, comma-assignment, AssignmentTree, gets-value, spell-literal, spell-condition, spell-assignment, spell-assignments, spell-assign, spell-trigger, spell-rule}
-use Rattle.grammar.specs.Meaning.{Names, turned, nots, tests-change, slot-in, value-in, Means-literal, Means-condition, means-and, means-one, means-true, Means-assignment, means-assignment, Means-assignments, means-first, means-comma, Means-assign, means-alone, means-braces, Means-trigger, means-trigger, Means-rule, means-rule}
+use Rattle.grammar.specs.Grammar.{RuleTree, rule, TriggerTree, trigger, ConditionTree, and-literal, one-literal, true-alone, LiteralTree, not-literal, becomes-value, holds-value, AssignTree, one-alone, braces, AssignmentListTree, one-assignment, comma-assignment, AssignmentTree, gets-value, spell-literal, spell-condition, spell-assignment, spell-assignments, spell-assign, spell-trigger, spell-rule}
+use Rattle.grammar.specs.Meaning.{Names, turned, nots, tests-change, tested-slot, tested-value, Means-literal, Means-condition, means-and, means-one, means-true, Means-assignment, means-assignment, Means-assignments, means-first, means-comma, Means-assign, means-alone, means-braces, Means-trigger, means-trigger, Means-rule, means-rule}
 
 module _ (f : ℕ → ℕ) where
   abbrev moved-literal : LiteralTree → LiteralTree
   moved-literal (not-literal l) = not-literal (moved-literal l)
   moved-literal (becomes-value s v) = becomes-value (moved-name f s) (moved-name f v)
-  moved-literal (has-value s v) = has-value (moved-name f s) (moved-name f v)
+  moved-literal (holds-value s v) = holds-value (moved-name f s) (moved-name f v)
 
   abbrev moved-condition : ConditionTree → ConditionTree
   moved-condition (and-literal c l) = and-literal (moved-condition c) (moved-literal l)
@@ -46,7 +46,7 @@ module _ (f : ℕ → ℕ) where
   literal-moved : (l : LiteralTree) (rest : List Token) → all-moved (spell-literal l rest) ≡ spell-literal (moved-literal l) (all-moved rest)
   literal-moved (not-literal l) rest = ap (λ (y : List Token). word NOT ∷ y) (literal-moved l rest)
   literal-moved (becomes-value s v) rest = refl
-  literal-moved (has-value s v) rest = refl
+  literal-moved (holds-value s v) rest = refl
 
   condition-moved : (c : ConditionTree) (rest : List Token) → all-moved (spell-condition c rest) ≡ spell-condition (moved-condition c) (all-moved rest)
   condition-moved (and-literal c l) rest =
@@ -81,20 +81,20 @@ module _ (f : ℕ → ℕ) where
   names-moved : {slots : List Slot} {s v : Name} {p : Pair} → Names slots s v p → Names slots (moved-name f s) (moved-name f v) p
   names-moved n = record { slot-is = n .slot-is; value-is = n .value-is; value-there = n .value-there }
 
-  literal-names : (slots : List Slot) (l : LiteralTree) (p : Pair) → Names slots (slot-in l) (value-in l) p → Names slots (slot-in (moved-literal l)) (value-in (moved-literal l)) p
+  literal-names : (slots : List Slot) (l : LiteralTree) (p : Pair) → Names slots (tested-slot l) (tested-value l) p → Names slots (tested-slot (moved-literal l)) (tested-value (moved-literal l)) p
   literal-names slots (not-literal l) p n = literal-names slots l p n
   literal-names slots (becomes-value s v) p n = names-moved n
-  literal-names slots (has-value s v) p n = names-moved n
+  literal-names slots (holds-value s v) p n = names-moved n
 
   nots-moved : (l : LiteralTree) → nots l ≡ nots (moved-literal l)
   nots-moved (not-literal l) = ap suc (nots-moved l)
   nots-moved (becomes-value s v) = refl
-  nots-moved (has-value s v) = refl
+  nots-moved (holds-value s v) = refl
 
   mark-moved : (l : LiteralTree) → tests-change l ≡ tests-change (moved-literal l)
   mark-moved (not-literal l) = mark-moved l
   mark-moved (becomes-value s v) = refl
-  mark-moved (has-value s v) = refl
+  mark-moved (holds-value s v) = refl
 
   literal-means : (slots : List Slot) (l : LiteralTree) (m : Literal) → Means-literal slots l m → Means-literal slots (moved-literal l) m
   literal-means slots l m h = record {

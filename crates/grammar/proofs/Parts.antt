@@ -11,7 +11,7 @@ use borrow.Author.Tests.{eqb-true}
 use Rattle.text.specs.Tokens.{Name, Token, word, name, long, bad, THEN, AND, NOT, BECOMES, HAS}
 use Rattle.model.specs.Rules.{Pair, Literal, assigns}
 use Rattle.grammar.specs.Files.{Slot, place-in, slot-names, values-of}
-use Rattle.grammar.specs.Grammar.{LiteralTree, not-literal, becomes-value, has-value, spell-literal}
+use Rattle.grammar.specs.Grammar.{LiteralTree, not-literal, becomes-value, holds-value, spell-literal}
 use Rattle.grammar.specs.Reading.{Part, took, stop, _then_, a-name, begins-with, new, new-name, known-slot, known-value, unassigned, read-slot, read-value, read-target, plain-literal, read-literal, no-literal, read-literals, no-assignment, no-value}
 use Rattle.model.specs.Result.{pair}
 use Rattle.grammar.proofs.Forward.{literal-read}
@@ -77,22 +77,22 @@ x-name = record { start = 0; letters = 120 ∷ [] }
 pub literal-append : (l : LiteralTree) (xs ys : List Token) → spell-literal l (xs ++ ys) ≡ spell-literal l xs ++ ys
 literal-append (not-literal l) xs ys = ap (λ (y : List Token). word NOT ∷ y) (literal-append l xs ys)
 literal-append (becomes-value s v) xs ys = refl
-literal-append (has-value s v) xs ys = refl
+literal-append (holds-value s v) xs ys = refl
 
 pub literal-written : (l : LiteralTree) (rest : List Token) → Written rest → Written (spell-literal l rest)
 literal-written (not-literal l) rest h = literal-written l rest h
 literal-written (becomes-value s v) rest h = h
-literal-written (has-value s v) rest h = h
+literal-written (holds-value s v) rest h = h
 
 abbrev pub a-literal : Language
-a-literal = record { Tree = LiteralTree; spells = spell-literal; append = literal-append; written = literal-written; some-tree = has-value x-name x-name }
+a-literal = record { Tree = LiteralTree; spells = spell-literal; append = literal-append; written = literal-written; some-tree = holds-value x-name x-name }
 
 -- A literal without NOT.
 abbrev a-plain-literal : Language
 a-plain-literal = both a-single-name (either BECOMES HAS (both a-single-name nothing) (both a-single-name nothing))
 
 abbrev literal-from : a-plain-literal .Tree → LiteralTree
-literal-from x = elim (x .1) as (λ y. LiteralTree) [ inl y ↦ becomes-value (x .0) (y .0) | inr y ↦ has-value (x .0) (y .0) ]
+literal-from x = elim (x .1) as (λ y. LiteralTree) [ inl y ↦ becomes-value (x .0) (y .0) | inr y ↦ holds-value (x .0) (y .0) ]
 
 literal-from-spelled : (n : Name) (y : (Name × Unit {0}) ⊎ (Name × Unit {0})) (rest : List Token) → a-plain-literal .spells (n, y) rest ≡ spell-literal (literal-from (n, y)) rest
 literal-from-spelled n (inl y) rest = refl
@@ -143,7 +143,7 @@ literal-stops (name n ∷ ts) slots neg k e =
     (Begins a-literal) (λ us. read-literal us slots neg ≡ stop 12) (λ us. read-literal us slots neg ≡ stop k) NOT false plain-begins
     (λ us off z. literal-plain slots neg us (nothing-next NOT us off) ∙ z) (λ t us off z. literal-plain slots neg (t ∷ us) off ∙ z) (name n ∷ ts) k refl (reader-plain slots neg .stops (name n ∷ ts) k e)
 literal-stops (long ∷ ts) slots neg k e =
-    stop-here a-literal (λ us. read-literal us slots neg) (long ∷ ts) 13 k refl refl (long-name (λ n rest. (has-value n x-name, word HAS ∷ name x-name ∷ rest, refl)))
+    stop-here a-literal (λ us. read-literal us slots neg) (long ∷ ts) 13 k refl refl (long-name (λ n rest. (holds-value n x-name, word HAS ∷ name x-name ∷ rest, refl)))
     (follows-long (λ us. read-literal us slots neg ≡ stop 13) 13 ts (λ later. refl) (λ z n later. absurd (omega arith))) e
 literal-stops (bad ∷ ts) slots neg k e =
     stop-here a-literal (λ us. read-literal us slots neg) (bad ∷ ts) 11 k refl refl bad-token (follows-same (λ us. read-literal us slots neg ≡ stop 11) 11 bad ts refl (λ later. refl)) e
@@ -152,7 +152,7 @@ literal-fits : (slots : List Slot) (neg : Bool) (l : LiteralTree) (rest : List T
 unfolding read-literal
 literal-fits slots neg (not-literal l) rest = literal-fits slots (not neg) l rest
 literal-fits slots neg (becomes-value s v) rest = reader-plain slots neg .fits (s, inl (v, tt)) rest
-literal-fits slots neg (has-value s v) rest = reader-plain slots neg .fits (s, inr (v, tt)) rest
+literal-fits slots neg (holds-value s v) rest = reader-plain slots neg .fits (s, inr (v, tt)) rest
 
 reader-literal : (slots : List Slot) → Reader a-literal (λ ts. read-literal ts slots false)
 reader-literal slots = record {
@@ -170,10 +170,10 @@ no-literal-fits : (sofar : List Literal) (l : LiteralTree) (more rest : List Tok
 unfolding no-literal
 no-literal-fits sofar (not-literal l) more rest = omega arith
 no-literal-fits sofar (becomes-value s v) more rest = omega arith
-no-literal-fits sofar (has-value s v) more rest = omega arith
+no-literal-fits sofar (holds-value s v) more rest = omega arith
 
 name-begins-literals : (n : Name) → Begins literals (name n ∷ [])
-name-begins-literals n rest = ((has-value n x-name, []), word HAS ∷ name x-name ∷ word THEN ∷ rest, refl)
+name-begins-literals n rest = ((holds-value n x-name, []), word HAS ∷ name x-name ∷ word THEN ∷ rest, refl)
 
 no-literal-stops : (sofar : List Literal) (ts : List Token) (k : ℕ) → no-literal sofar ts ≡ stop k → Stops-at literals (no-literal sofar) ts k
 unfolding no-literal
@@ -186,7 +186,7 @@ no-literal-stops sofar (word w ∷ ts) k e = go (eqb w NOT) refl
     go : (t : Bool) → eqb w NOT ≡ t → Stops-at literals (no-literal sofar) (word w ∷ ts) k
     go true q =
         stop-here literals (no-literal sofar) (word w ∷ ts) 15 k refl (at-word true q ts)
-        (later-fault (omega arith) (omega arith) (λ rest. ((not-literal (has-value x-name x-name), []), name x-name ∷ word HAS ∷ name x-name ∷ word THEN ∷ rest, ap (λ (i : ℕ). word i ∷ name x-name ∷ word HAS ∷ name x-name ∷ word THEN ∷ rest) (sym (eqb-true w NOT q)))))
+        (later-fault (omega arith) (omega arith) (λ rest. ((not-literal (holds-value x-name x-name), []), name x-name ∷ word HAS ∷ name x-name ∷ word THEN ∷ rest, ap (λ (i : ℕ). word i ∷ name x-name ∷ word HAS ∷ name x-name ∷ word THEN ∷ rest) (sym (eqb-true w NOT q)))))
         (follows-same (λ us. no-literal sofar us ≡ stop 15) 15 (word w) ts refl (at-word true q)) e
     go false q =
         stop-here literals (no-literal sofar) (word w ∷ ts) 12 k refl (at-word false q ts) (wrong-token refl)

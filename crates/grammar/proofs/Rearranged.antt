@@ -14,7 +14,7 @@ use Rattle.text.specs.Cut.{moved}
 use Rattle.text.proofs.Cut.{tokens-moved}
 use Rattle.model.specs.Rules.{Rule}
 use Rattle.grammar.specs.Files.{Slot, File}
-use Rattle.grammar.specs.Reading.{accepted, begins-with, read}
+use Rattle.grammar.specs.Reading.{accepted, begins-with, parse}
 use Rattle.grammar.specs.Pieces.{pieces, tail-piece, joined, Read-rule, Read-lines, no-more-lines, one-more-line, By-statements, rule-piece, rule-pieces, Same-others, no-pieces, same-other, some-rule, Rearranges}
 use Rattle.grammar.proofs.Pieces.{cut-joined, same-length}
 use Rattle.grammar.proofs.Statements.{begins-rule, begins-line, statements-iff}
@@ -84,12 +84,12 @@ others-out [] rs h = refl
 others-out (b ∷ ss) rs h = rw (h .0) (others-out ss rs (h .1))
 
 -- A rearranged text is read to the same slots with the same names, and to the rules rearranged: a rule's new number is its piece's new place.
-pub rearranged-text : (t t′ : List ℕ) (f : File) → read t ≡ accepted f → (R : Rearranges t t′)
-    → (rules′ : List Rule) × (read t′ ≡ accepted (record { slots = f .slots; rules = rules′ })) × (q : Perm (f .rules) rules′) × ((i : ℕ) → goes q i ≡ goes (R .rules) i)
+pub rearranged-text : (t t′ : List ℕ) (f : File) → parse t ≡ accepted f → (R : Rearranges t t′)
+    → (rules′ : List Rule) × (parse t′ ≡ accepted (record { slots = f .slots; rules = rules′ })) × (q : Perm (f .rules) rules′) × ((i : ℕ) → goes q i ≡ goes (R .rules) i)
 rearranged-text t t′ f e R = made (statements-iff t f .0 e)
   where
     made : By-statements t f
-        → (rules′ : List Rule) × (read t′ ≡ accepted (record { slots = f .slots; rules = rules′ })) × (q : Perm (f .rules) rules′) × ((i : ℕ) → goes q i ≡ goes (R .rules) i)
+        → (rules′ : List Rule) × (parse t′ ≡ accepted (record { slots = f .slots; rules = rules′ })) × (q : Perm (f .rules) rules′) × ((i : ℕ) → goes q i ≡ goes (R .rules) i)
     made h =
         let ss = h .slot-part in
         let rs = h .rule-part in

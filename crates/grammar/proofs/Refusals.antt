@@ -14,7 +14,7 @@ use Rattle.text.specs.Tokens.{Token, word, name, long, bad, tokens}
 use Rattle.grammar.specs.Limits.{max-text, max-slots}
 use Rattle.grammar.specs.Files.{File}
 use Rattle.grammar.specs.Grammar.{RuleTree, LineTree, FileTree, spell, spell-rules, spell-lines}
-use Rattle.grammar.specs.Reading.{Answer, accepted, refused, read-tokens, read}
+use Rattle.grammar.specs.Reading.{Parsed, accepted, refused, read-tokens, parse}
 use Rattle.grammar.specs.Refusals.{Goes-on, Out-of-place, Fault, no-token, no-place, ends-inside, too-long, in-place, No-fault, Decided, Stands-at, Stuck, Stuck-first}
 use Rattle.grammar.proofs.Backward.{refused-never, file-same, tokens-back}
 use Rattle.grammar.proofs.Stopping.{is-bad, Written, same-token, any-name, Cause, bad-token, wrong-token, the-end, long-name, later-fault, Whatever-follows}
@@ -67,9 +67,9 @@ tokens-stand ts k n e =
     }
 
 -- A text is refused with 10 for its length, or its refusal stands at one of its tokens or at its end.
-pub refusal-stands : (text : List ℕ) (k n : ℕ) → read text ≡ refused k n
+pub refusal-stands : (text : List ℕ) (k n : ℕ) → parse text ≡ refused k n
     → ((k ≡ 10) × (n ≡ 0) × (max-text < length text)) ⊎ ((length text ≤ max-text) × Stands-at (tokens text) k n)
-unfolding read
+unfolding parse
 refusal-stands text k n e = go (leb (length text) max-text) refl e
   where
     go : (t : Bool) → leb (length text) max-text ≡ t → cond t (read-tokens (tokens text)) (refused 10 0) ≡ refused k n
@@ -162,7 +162,7 @@ stuck-refused ts before t later n w clean o = go (read-tokens ts) refl
         same-rest : (xs ys : List Token) → before ≡ xs → before ++ t ∷ later ≡ xs ++ ys → ys ≡ t ∷ later
         same-rest xs ys q e = append-cancel-left xs ys (t ∷ later) (sym e ∙ ap (λ (l : List Token). l ++ t ∷ later) q)
 
-    go : (a : Answer) → read-tokens ts ≡ a → a ≡ refused 12 n
+    go : (a : Parsed) → read-tokens ts ≡ a → a ≡ refused 12 n
     go (accepted f) e = let x = tokens-back ts f e in absurd (out-never before t o (goes-first before t later (record { tree = x .0; more = []; derives = x .1 ∙ w ∙ rw append-nil })))
     go (refused k m) e = let z = at k m (tokens-stand ts k m e) in ap₂ refused (z .0) (z .1)
 

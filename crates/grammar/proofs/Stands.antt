@@ -10,7 +10,7 @@ use Rattle.text.specs.Cut.{Of-name, Stands}
 use Rattle.text.proofs.Cut.{names-stand}
 use Rattle.grammar.specs.Files.{Slot, File}
 use Rattle.grammar.specs.Grammar.{ValueListTree, LineTree, spell-values, spell-lines, spell-rules}
-use Rattle.grammar.specs.Reading.{accepted, read}
+use Rattle.grammar.specs.Reading.{accepted, parse}
 use Rattle.grammar.specs.Meaning.{Means-values, means-value, means-values, means-line, Means-lines, no-lines, more-lines, Is-file}
 use Rattle.grammar.specs.Standing.{Named-by, Slots-stand}
 use Rattle.grammar.proofs.Backward.{file-back}
@@ -36,5 +36,5 @@ module _ (P : Name → Type 0) where
       (subst (λ (ts : List Token). Each (Of-name P) ts) (sym (a .derives)) h)
 
 -- The names of an accepted file lie inside its text and are the text at their places.
-pub file-stands : (text : List ℕ) (f : File) → read text ≡ accepted f → Slots-stand text (f .slots)
+pub file-stands : (text : List ℕ) (f : File) → parse text ≡ accepted f → Slots-stand text (f .slots)
 file-stands text f e = names-have (Stands text) text f (file-back text f e) (names-stand text)

@@ -17,7 +17,7 @@ use Rattle.model.specs.Rules.{Rule}
 use Rattle.grammar.specs.Limits.{max-text, max-slots, max-rules}
 use Rattle.grammar.specs.Files.{Slot, File}
 use Rattle.grammar.specs.Grammar.{RuleTree, rule, LineTree, line, spell-rule, spell-line}
-use Rattle.grammar.specs.Reading.{took, accepted, refused, expects, begins-with, if-next, read-rule, read-line, go-on, read-rules, read-lines, read-tokens, read}
+use Rattle.grammar.specs.Reading.{took, accepted, refused, expects, begins-with, if-next, read-rule, read-line, go-on, read-rules, read-lines, read-tokens, parse}
 use Rattle.grammar.specs.Meaning.{Means-rule}
 use Rattle.grammar.specs.Pieces.{pieces, tail-piece, joined, Read-rule, Read-line, Read-lines, no-more-lines, one-more-line, By-statements}
 use Rattle.grammar.proofs.Forward.{rule-read, line-read, rules-begin}
@@ -151,8 +151,8 @@ lines-apart (b ∷ bs) room before w p f h n e =
 white-anywhere : (w : List ℕ) (p q : ℕ) → tokens-from w 0 p ≡ [] → tokens-from w 0 q ≡ []
 white-anywhere w p q e = sym (tokens-moved w 0 p q (λ i. i - p + q) (λ j. omega arith)) ∙ ap (map (moved (λ i. i - p + q))) e
 
-accepted-apart : (text : List ℕ) (f : File) → read text ≡ accepted f → By-statements text f
-unfolding read read-tokens tokens
+accepted-apart : (text : List ℕ) (f : File) → parse text ≡ accepted f → By-statements text f
+unfolding parse read-tokens tokens
 accepted-apart text f e = go (leb (length text) max-text) refl e
   where
     go : (t : Bool) → leb (length text) max-text ≡ t → cond t (read-lines max-slots [] (tokens-from text 0 0)) (refused 10 0) ≡ accepted f → By-statements text f
@@ -237,13 +237,13 @@ lines-together bs rs (suc room) before all rules w p (one-more-line {b = b} {bs 
     (ap (read-line before) (joined-cut b (cs ++ rs) w p) ∙ l (tokens-from (joined (cs ++ rs) w) 0 (p + suc (length b))))
     ∙ lines-together cs rs room (before ++ s ∷ []) all rules w (p + suc (length b)) ls (let x = length-append before (s ∷ []) in omega arith) g few e
 
-together-accepted : (text : List ℕ) (f : File) → By-statements text f → read text ≡ accepted f
-unfolding read read-tokens tokens
+together-accepted : (text : List ℕ) (f : File) → By-statements text f → parse text ≡ accepted f
+unfolding parse read-tokens tokens
 together-accepted text f h =
     rw (le-leb (length text) max-text (h .short))
     (ap (λ (y : List ℕ). read-lines max-slots [] (tokens-from y 0 0)) (sym (cut-joined text) ∙ ap (λ (bs : List (List ℕ)). joined bs (tail-piece text)) (h .whole))
     ∙ lines-together (h .slot-part) (h .rule-part) max-slots [] (f .slots) (f .rules) (tail-piece text) 0 (h .slots-are) (let x = h .few-slots in omega arith) (h .rules-are) (h .few-rules) (h .end-white))
 
 -- Reading is by statements: a text is accepted with a file exactly when its pieces, each by itself, are that file's slots and rules.
-pub statements-iff : (text : List ℕ) (f : File) → (read text ≡ accepted f) ↔ By-statements text f
+pub statements-iff : (text : List ℕ) (f : File) → (parse text ≡ accepted f) ↔ By-statements text f
 statements-iff text f = (accepted-apart text f, together-accepted text f)

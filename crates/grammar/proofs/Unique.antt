@@ -6,7 +6,7 @@ use mathlib.Core.Path.{_≡_, refl, sym, ap, ap₂, _∙_}
 use mathlib.Core.List.{List, [], _∷_}
 use lib.ListN.{drop}
 use Rattle.text.specs.Tokens.{Name, Token, word, name, SLOT, WHEN, IF, THEN, AND, NOT, TRUE, OPEN, CLOSE, COMMA, SEMICOLON, BECOMES, HAS}
-use Rattle.grammar.specs.Grammar.{RuleTree, rule, TriggerTree, trigger, ConditionTree, and-literal, LiteralTree, not-literal, becomes-value, has-value, AssignTree, one-alone, braces, AssignmentListTree, one-assignment, comma-assignment, AssignmentTree, gets-value, ValueListTree, one-value, comma-value, LineTree, line, FileTree, spell, spell-literal, spell-condition, spell-assignment, spell-assignments, spell-assign, spell-trigger, spell-rule, spell-rules, spell-values, spell-line, spell-lines, grown}
+use Rattle.grammar.specs.Grammar.{RuleTree, rule, TriggerTree, trigger, ConditionTree, and-literal, LiteralTree, not-literal, becomes-value, holds-value, AssignTree, one-alone, braces, AssignmentListTree, one-assignment, comma-assignment, AssignmentTree, gets-value, ValueListTree, one-value, comma-value, LineTree, line, FileTree, spell, spell-literal, spell-condition, spell-assignment, spell-assignments, spell-assign, spell-trigger, spell-rule, spell-rules, spell-values, spell-line, spell-lines, grown}
 use Rattle.grammar.proofs.Leftmost.{spell-more, Opening, with-literal, with-true, opened, condition-leftmost, spells-condition, assignments-leftmost, spells-assignments, spell-name, values-leftmost, spells-values}
 
 pub other-word : {C : Type 0} (v w : ℕ) (xs ys : List Token) → word v ∷ xs ≡ word w ∷ ys → (v ≡ w → ⊥) → C
@@ -30,18 +30,18 @@ more-same {A} spell-one sep end inj d (a ∷ xs) (b ∷ ys) r s e =
 one-literal-tree : (l m : LiteralTree) (r s : List Token) → spell-literal l r ≡ spell-literal m s → (l ≡ m) × (r ≡ s)
 one-literal-tree (not-literal l) (not-literal m) r s e = let h = one-literal-tree l m r s (ap (drop 1) e) in (ap not-literal (h .0), h .1)
 one-literal-tree (not-literal l) (becomes-value a b) r s e = word-name NOT a _ _ e
-one-literal-tree (not-literal l) (has-value a b) r s e = word-name NOT a _ _ e
+one-literal-tree (not-literal l) (holds-value a b) r s e = word-name NOT a _ _ e
 one-literal-tree (becomes-value a b) (not-literal m) r s e = word-name NOT a _ _ (sym e)
 one-literal-tree (becomes-value a b) (becomes-value c d) r s e = (cc, cc)
-one-literal-tree (becomes-value a b) (has-value c d) r s e = other-word BECOMES HAS _ _ (ap (drop 1) e) (λ z. omega arith)
-one-literal-tree (has-value a b) (not-literal m) r s e = word-name NOT a _ _ (sym e)
-one-literal-tree (has-value a b) (becomes-value c d) r s e = other-word HAS BECOMES _ _ (ap (drop 1) e) (λ z. omega arith)
-one-literal-tree (has-value a b) (has-value c d) r s e = (cc, cc)
+one-literal-tree (becomes-value a b) (holds-value c d) r s e = other-word BECOMES HAS _ _ (ap (drop 1) e) (λ z. omega arith)
+one-literal-tree (holds-value a b) (not-literal m) r s e = word-name NOT a _ _ (sym e)
+one-literal-tree (holds-value a b) (becomes-value c d) r s e = other-word HAS BECOMES _ _ (ap (drop 1) e) (λ z. omega arith)
+one-literal-tree (holds-value a b) (holds-value c d) r s e = (cc, cc)
 
 not-true : {C : Type 0} (l : LiteralTree) (r s : List Token) → spell-literal l r ≡ word TRUE ∷ s → C
 not-true (not-literal l) r s e = other-word NOT TRUE _ _ e (λ z. omega arith)
 not-true (becomes-value a b) r s e = word-name TRUE a _ _ (sym e)
-not-true (has-value a b) r s e = word-name TRUE a _ _ (sym e)
+not-true (holds-value a b) r s e = word-name TRUE a _ _ (sym e)
 
 opening-same : (a b : Opening) (r s : List Token) → spell-condition (opened a) r ≡ spell-condition (opened b) s → (a ≡ b) × (r ≡ s)
 opening-same (with-literal l) (with-literal m) r s e = let h = one-literal-tree l m r s e in (ap with-literal (h .0), h .1)

@@ -21,7 +21,7 @@ mutual
   pub data LiteralTree : Type 0 where
     not-literal : LiteralTree → LiteralTree
     becomes-value : Name → Name → LiteralTree
-    has-value : Name → Name → LiteralTree
+    holds-value : Name → Name → LiteralTree
 
   -- r_assign ::= assignment | { assignment-list }
   pub data AssignTree : Type 0 where
@@ -60,7 +60,7 @@ grown grow t (a ∷ xs) = grown grow (grow t a) xs
 abbrev pub spell-literal : LiteralTree → List Token → List Token
 spell-literal (not-literal l) rest = word NOT ∷ spell-literal l rest
 spell-literal (becomes-value s v) rest = name s ∷ word BECOMES ∷ name v ∷ rest
-spell-literal (has-value s v) rest = name s ∷ word HAS ∷ name v ∷ rest
+spell-literal (holds-value s v) rest = name s ∷ word HAS ∷ name v ∷ rest
 
 -- Those of a condition.
 abbrev pub spell-condition : ConditionTree → List Token → List Token

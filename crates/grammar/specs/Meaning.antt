@@ -8,7 +8,7 @@ use Rattle.text.specs.Tokens.{Name, tokens}
 use Rattle.model.specs.Rules.{Pair, Literal, Rule, assigns}
 use Rattle.grammar.specs.Limits.{max-text, max-slots, max-values, max-rules, max-literals, max-assignments}
 use Rattle.grammar.specs.Files.{Slot, File, place-in, slot-names, values-of}
-use Rattle.grammar.specs.Grammar.{RuleTree, rule, TriggerTree, trigger, ConditionTree, and-literal, one-literal, true-alone, LiteralTree, not-literal, becomes-value, has-value, AssignTree, one-alone, braces, AssignmentListTree, one-assignment, comma-assignment, AssignmentTree, gets-value, ValueListTree, one-value, comma-value, LineTree, line, FileTree, spell}
+use Rattle.grammar.specs.Grammar.{RuleTree, rule, TriggerTree, trigger, ConditionTree, and-literal, one-literal, true-alone, LiteralTree, not-literal, becomes-value, holds-value, AssignTree, one-alone, braces, AssignmentListTree, one-assignment, comma-assignment, AssignmentTree, gets-value, ValueListTree, one-value, comma-value, LineTree, line, FileTree, spell}
 
 -- A slot's name and a value's name mean a pair: the slot is declared, and the value is declared in it.
 pub record Names (slots : List Slot) (s v : Name) (p : Pair) : Type 0 where
@@ -20,7 +20,7 @@ pub record Names (slots : List Slot) (s v : Name) (p : Pair) : Type 0 where
 abbrev pub nots : LiteralTree → ℕ
 nots (not-literal l) = suc (nots l)
 nots (becomes-value s v) = 0
-nots (has-value s v) = 0
+nots (holds-value s v) = 0
 
 -- Turned round n times: an even number cancels.
 abbrev pub turned : ℕ → Bool → Bool
@@ -31,25 +31,25 @@ turned (suc n) b = turned n (not b)
 abbrev pub tests-change : LiteralTree → Bool
 tests-change (not-literal l) = tests-change l
 tests-change (becomes-value s v) = true
-tests-change (has-value s v) = false
+tests-change (holds-value s v) = false
 
 -- The slot's name in a literal.
-abbrev pub slot-in : LiteralTree → Name
-slot-in (not-literal l) = slot-in l
-slot-in (becomes-value s v) = s
-slot-in (has-value s v) = s
+abbrev pub tested-slot : LiteralTree → Name
+tested-slot (not-literal l) = tested-slot l
+tested-slot (becomes-value s v) = s
+tested-slot (holds-value s v) = s
 
 -- The value's name in a literal.
-abbrev pub value-in : LiteralTree → Name
-value-in (not-literal l) = value-in l
-value-in (becomes-value s v) = v
-value-in (has-value s v) = v
+abbrev pub tested-value : LiteralTree → Name
+tested-value (not-literal l) = tested-value l
+tested-value (becomes-value s v) = v
+tested-value (holds-value s v) = v
 
 -- A literal: `*=` or `|=`, negated where its NOTs do not cancel, over a declared slot and value.
 pub record Means-literal (slots : List Slot) (l : LiteralTree) (m : Literal) : Type 0 where
   pub mark : m .becomes ≡ tests-change l
   pub sign : m .negated ≡ turned (nots l) false
-  pub names : Names slots (slot-in l) (value-in l) (m .pair)
+  pub names : Names slots (tested-slot l) (tested-value l) (m .pair)
 
 -- A condition: its literals in order; TRUE leaves no trace.
 pub data Means-condition (slots : List Slot) : ConditionTree → List Literal → Type 0 where

@@ -16,9 +16,9 @@ pub data Part (A : Type 0) : Type 0 where
   stop : ℕ → Part A
 
 -- What reading a text gives: the file, or a refusal with its second number, the rules completed so far.
-pub data Answer : Type 0 where
-  accepted : File → Answer
-  refused : ℕ → ℕ → Answer
+pub data Parsed : Type 0 where
+  accepted : File → Parsed
+  refused : ℕ → ℕ → Parsed
 
 -- First a part, then what follows it.
 infixl 20 _then_
@@ -194,12 +194,12 @@ read-line slots ts =
     took (record { name = n; values = vs }) t5
 
 -- A statement's refusal gets its second number, the rules done; else the reading goes on.
-unfoldable pub go-on : {A : Type 0} → ℕ → Part A → (A → List Token → Answer) → Answer
+unfoldable pub go-on : {A : Type 0} → ℕ → Part A → (A → List Token → Parsed) → Parsed
 go-on done (took a ts) f = f a ts
 go-on done (stop k) f = refused k done
 
 -- The rules, where `room` more may come after `sofar`. 15: one too many, at WHEN.
-unfoldable pub read-rules : ℕ → List Slot → List Rule → List Token → Answer
+unfoldable pub read-rules : ℕ → List Slot → List Rule → List Token → Parsed
 read-rules zero slots sofar [] = accepted (record { slots = slots; rules = sofar })
 read-rules zero slots sofar (t ∷ ts) =
     go-on (length sofar) (expects WHEN (t ∷ ts)) (λ u rest. refused 15 (length sofar))
@@ -208,16 +208,16 @@ read-rules (suc room) slots sofar (t ∷ ts) =
     go-on (length sofar) (read-rule slots (t ∷ ts)) (λ r rest. read-rules room slots (sofar ++ r ∷ []) rest)
 
 -- The slot lines, where `room` more may come after `slots`, then the rules. 15: one too many, at SLOT.
-unfoldable pub read-lines : ℕ → List Slot → List Token → Answer
+unfoldable pub read-lines : ℕ → List Slot → List Token → Parsed
 read-lines zero slots ts = if-next SLOT (λ more. refused 15 0) (read-rules max-rules slots []) ts
 read-lines (suc room) slots ts =
     if-next SLOT (λ more. go-on 0 (read-line slots more) (λ s rest. read-lines room (slots ++ s ∷ []) rest))
     (read-rules max-rules slots []) ts
 
 -- The reading of tokens.
-unfoldable pub read-tokens : List Token → Answer
+unfoldable pub read-tokens : List Token → Parsed
 read-tokens ts = read-lines max-slots [] ts
 
 -- The reading of a text, all but refusal 18. 10: text over 65,535 bytes.
-unfoldable pub read : List ℕ → Answer
-read text = cond (leb (length text) max-text) (read-tokens (tokens text)) (refused 10 0)
+unfoldable pub parse : List ℕ → Parsed
+parse text = cond (leb (length text) max-text) (read-tokens (tokens text)) (refused 10 0)

@@ -29,7 +29,7 @@ use Rattle.model.proofs.Strata.{no-circle, least-i, least-e}
 use Rattle.table.specs.declared.Rule.{Rule}
 use Rattle.table.specs.declared.Table.{Table}
 use Rattle.table.specs.Limits.{row, pair-places}
-use Rattle.table.specs.Shape.{no-rule, Shaped}
+use Rattle.table.specs.Shape.{zero-rule, Shaped}
 use Rattle.table.specs.Link.{assignments-of, rule-of, rules-of, stratum-at}
 use Rattle.table.specs.Flat.{place-of}
 use Rattle.table.specs.Fits.{RuleFits, TableFits}
@@ -101,8 +101,8 @@ module _ (t : Table) (fits : TableFits t) (sh : Shaped t) where
       hit : (p : Pair) → T (among p (assignments-of r)) → s ≤ getD (raise-all (assignments-of r) s hs) (place-of p) 0
       hit p a = raise-hit (assignments-of r) s hs p (omega (arith, placed-inside p (assigned-placed r p f a), g .places)) a
 
-  pub carried-step : (i : ℕ) (hs : List ℕ) (s : ℕ) → i < t .count → s ≡ getD (t .rules) i no-rule .stratum → Carried t i hs → Carried t (i + 1) (raise-all (assignments-of (getD (t .rules) i no-rule)) s hs)
-  carried-step i hs s h e g = carried i hs (getD (t .rules) i no-rule) s h (rule-at-is t i h) (fits .each-fits i h) (e ∙ sym (stratum-at-is t i h)) (omega (arith, e, sh .each-rule i (omega (arith, fits .rules-fit)) .stratum-byte)) g
+  pub carried-step : (i : ℕ) (hs : List ℕ) (s : ℕ) → i < t .count → s ≡ getD (t .rules) i zero-rule .stratum → Carried t i hs → Carried t (i + 1) (raise-all (assignments-of (getD (t .rules) i zero-rule)) s hs)
+  carried-step i hs s h e g = carried i hs (getD (t .rules) i zero-rule) s h (rule-at-is t i h) (fits .each-fits i h) (e ∙ sym (stratum-at-is t i h)) (omega (arith, e, sh .each-rule i (omega (arith, fits .rules-fit)) .stratum-byte)) g
 
   pub carried-small : (i : ℕ) (hs : List ℕ) → Carried t i hs → Small hs
   carried-small i hs g = record { below = λ k. omega (arith, g .all-small k) }
@@ -151,7 +151,7 @@ module _ (t : Table) (fits : TableFits t) (sh : Shaped t) where
   unfolding Valid
   valid-start hs m le i = absurd (omega (arith, i .first))
 
-  pub valid-more : (k : ℕ) (hs : List ℕ) (s h : ℕ) → k < t .count → s ≡ getD (t .rules) k no-rule .stratum → h ≡ asked-at hs (rule-of (getD (t .rules) k no-rule)) → h ≤ s
+  pub valid-more : (k : ℕ) (hs : List ℕ) (s h : ℕ) → k < t .count → s ≡ getD (t .rules) k zero-rule .stratum → h ≡ asked-at hs (rule-of (getD (t .rules) k zero-rule)) → h ≤ s
       → Valid t k hs → Valid t (k + 1) hs
   unfolding Valid
   valid-more k hs s h l e d w q = λ m le im. ⊎-elim
@@ -160,7 +160,7 @@ module _ (t : Table) (fits : TableFits t) (sh : Shaped t) where
       (eq-or-lt-of-le (let x : m ≤ suc k = omega arith in x))
 
   -- The answers of the code. A rule that carries less than it is asked.
-  pub not-valid : (hs : List ℕ) (k : ℕ) (s h : ℕ) → Carried t (t .count) hs → k < t .count → s ≡ getD (t .rules) k no-rule .stratum → h ≡ asked-at hs (rule-of (getD (t .rules) k no-rule))
+  pub not-valid : (hs : List ℕ) (k : ℕ) (s h : ℕ) → Carried t (t .count) hs → k < t .count → s ≡ getD (t .rules) k zero-rule .stratum → h ≡ asked-at hs (rule-of (getD (t .rules) k zero-rule))
       → s < h → false ≡ carries-least t
   not-valid hs k s h g l e d w = bool-ext false (carries-least t) (λ u. absurd u) (λ u.
       let x = rw (rule-at-is t k l, stratum-at-is t k l) at (strata-valid hs g (carries-iff t .0 u .strata) (suc k) (number t fits sh k l)) in

@@ -17,22 +17,22 @@ use Rattle.model.proofs.Pairs.{same-refl, same-eq}
 use Rattle.table.specs.Limits.{pair-places}
 use Rattle.table.specs.Flat.{Placed, place-of}
 use Rattle.table.proofs.Flat.{placed-inside}
-use Rattle.leastness.specs.Chains.{needs-places, head-at, next-at, heads-with, nexts-with}
+use Rattle.leastness.specs.Chains.{needs-places, head-at, nexts-at, heads-with, nexts-with}
 
 -- One place chained, or not.
-pub at-level : (hs : List ℕ) (s k o : ℕ) (heads nexts : List ℕ) → getD hs k 0 ≡ s → (set heads k (o + 1) ≡ head-at hs s k o heads) × (set nexts o (getD heads k 0) ≡ next-at hs s k o heads nexts)
-unfolding head-at next-at
+pub at-level : (hs : List ℕ) (s k o : ℕ) (heads nexts : List ℕ) → getD hs k 0 ≡ s → (set heads k (o + 1) ≡ head-at hs s k o heads) × (set nexts o (getD heads k 0) ≡ nexts-at hs s k o heads nexts)
+unfolding head-at nexts-at
 at-level hs s k o heads nexts e = (rw (eq-eqb (getD hs k 0) s e), rw (eq-eqb (getD hs k 0) s e))
 
-pub off-level : (hs : List ℕ) (s k o : ℕ) (heads nexts : List ℕ) → (getD hs k 0 ≡ s → ⊥) → (heads ≡ head-at hs s k o heads) × (nexts ≡ next-at hs s k o heads nexts)
-unfolding head-at next-at
+pub off-level : (hs : List ℕ) (s k o : ℕ) (heads nexts : List ℕ) → (getD hs k 0 ≡ s → ⊥) → (heads ≡ head-at hs s k o heads) × (nexts ≡ nexts-at hs s k o heads nexts)
+unfolding head-at nexts-at
 off-level hs s k o heads nexts n = (rw (ne-eqb (getD hs k 0) s n), rw (ne-eqb (getD hs k 0) s n))
 
 pub heads-next : (hs : List ℕ) (s : ℕ) (p : Pair) (ps : List Pair) (o : ℕ) (heads : List ℕ) → heads-with hs s (p ∷ ps) o heads ≡ heads-with hs s ps (o + 1) (head-at hs s (place-of p) o heads)
 unfolding heads-with
 heads-next hs s p ps o heads = refl
 
-pub nexts-next : (hs : List ℕ) (s : ℕ) (p : Pair) (ps : List Pair) (o : ℕ) (heads nexts : List ℕ) → nexts-with hs s (p ∷ ps) o heads nexts ≡ nexts-with hs s ps (o + 1) (head-at hs s (place-of p) o heads) (next-at hs s (place-of p) o heads nexts)
+pub nexts-next : (hs : List ℕ) (s : ℕ) (p : Pair) (ps : List Pair) (o : ℕ) (heads nexts : List ℕ) → nexts-with hs s (p ∷ ps) o heads nexts ≡ nexts-with hs s ps (o + 1) (head-at hs s (place-of p) o heads) (nexts-at hs s (place-of p) o heads nexts)
 unfolding nexts-with
 nexts-next hs s p ps o heads nexts = refl
 
@@ -159,7 +159,7 @@ module _ (R : ℕ → ℕ → Type 0) where
       sum = omega arith
 
       -- From what the tail has of the chains after the first pair.
-      joined : (heads′ nexts′ : List ℕ) → heads′ ≡ head-at hs s (place-of p) o heads → nexts′ ≡ next-at hs s (place-of p) o heads nexts → Kept heads nexts heads′ nexts′
+      joined : (heads′ nexts′ : List ℕ) → heads′ ≡ head-at hs s (place-of p) o heads → nexts′ ≡ nexts-at hs s (place-of p) o heads nexts → Kept heads nexts heads′ nexts′
           → (getD hs (place-of p) 0 ≡ s → On nexts′ (getD heads′ (place-of p) 0) (o + 1)) → LinkedAll hs s ps (o + 1) heads′ nexts′ → LinkedAll hs s (p ∷ ps) o heads nexts
       joined heads′ nexts′ a b k f w =
           let x = heads-next hs s p ps o heads in

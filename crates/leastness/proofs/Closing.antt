@@ -22,7 +22,7 @@ use Rattle.model.proofs.Pairs.{needed-tested, barred-tested, meet-i}
 use Rattle.table.specs.declared.Rule.{Rule}
 use Rattle.table.specs.declared.Table.{Table}
 use Rattle.table.specs.Limits.{rule-limit, pair-places}
-use Rattle.table.specs.Shape.{no-rule, Shaped}
+use Rattle.table.specs.Shape.{zero-rule, Shaped}
 use Rattle.table.specs.Link.{assignments-of, rule-of, rules-of, stratum-at, literals-of}
 use Rattle.table.specs.Flat.{place-of}
 use Rattle.table.specs.Fits.{RuleFits, TableFits}
@@ -217,7 +217,7 @@ module _ (t : Table) (fits : TableFits t) (sh : Shaped t) (hs : List ℕ) (g : C
   }
     where
       few : length (needed (rule-at (rules-of t) (suc i))) ≤ 9
-      few = rw (rule-at-is t i l) (needed-few (getD (t .rules) i no-rule) (fits .each-fits i l))
+      few = rw (rule-at-is t i l) (needed-few (getD (t .rules) i zero-rule) (fits .each-fits i l))
 
       before : (k : ℕ) → k < i + 1 → (k ≡ i) ⊎ (k < i)
       before k h = eq-or-lt-of-le (let z : k ≤ i = omega arith in z)
@@ -232,23 +232,23 @@ module _ (t : Table) (fits : TableFits t) (sh : Shaped t) (hs : List ℕ) (g : C
           (λ p a. tested-in t fits sh (suc i) p (number t fits sh i l) (needed-tested (rule-at (rules-of t) (suc i)) p a)) here (c .linked)
 
   -- The same at the table's rules, as the code has them.
-  pub as-flagging : (e s : ℕ) (m n : Flagging) → e < t .count → s ≡ getD (t .rules) e no-rule .stratum → n ≡ flag-all hs s (assignments-of (getD (t .rules) e no-rule)) m
+  pub as-flagging : (e s : ℕ) (m n : Flagging) → e < t .count → s ≡ getD (t .rules) e zero-rule .stratum → n ≡ flag-all hs s (assignments-of (getD (t .rules) e zero-rule)) m
       → n ≡ flag-all hs (stratum-at t (suc e)) (rule-at (rules-of t) (suc e) .assignments) m
   as-flagging e s m n l d z = rw (stratum-at-is t e l, ← d, rule-at-is t e l) z
 
-  pub ask-first : (i s : ℕ) (held fl : List Bool) (q : List ℕ) (top : ℕ) (heads nexts : List ℕ) → i < t .count → s ≡ getD (t .rules) i no-rule .stratum → s ≤ 1
+  pub ask-first : (i s : ℕ) (held fl : List Bool) (q : List ℕ) (top : ℕ) (heads nexts : List ℕ) → i < t .count → s ≡ getD (t .rules) i zero-rule .stratum → s ≤ 1
       → Closing t hs i held fl q top heads nexts → Closing t hs (i + 1) (set held i true) fl q top heads nexts
   ask-first i s held fl q top heads nexts l d le c = closing-first i held fl q top heads nexts l (omega (arith, stratum-at-is t i l, d, le)) c
 
-  pub ask-ground : (i s : ℕ) (held fl : List Bool) (q : List ℕ) (top : ℕ) (heads nexts : List ℕ) → i < t .count → s ≡ getD (t .rules) i no-rule .stratum → 1 < s
-      → one-below hs s (barred (rule-of (getD (t .rules) i no-rule))) ≡ true → Closing t hs i held fl q top heads nexts
-      → (fl′ : List Bool) (q′ : List ℕ) (top′ : ℕ) → flagging fl′ q′ top′ ≡ flag-all hs s (assignments-of (getD (t .rules) i no-rule)) (flagging fl q top)
+  pub ask-ground : (i s : ℕ) (held fl : List Bool) (q : List ℕ) (top : ℕ) (heads nexts : List ℕ) → i < t .count → s ≡ getD (t .rules) i zero-rule .stratum → 1 < s
+      → one-below hs s (barred (rule-of (getD (t .rules) i zero-rule))) ≡ true → Closing t hs i held fl q top heads nexts
+      → (fl′ : List Bool) (q′ : List ℕ) (top′ : ℕ) → flagging fl′ q′ top′ ≡ flag-all hs s (assignments-of (getD (t .rules) i zero-rule)) (flagging fl q top)
       → Closing t hs (i + 1) (set held i true) fl′ q′ top′ heads nexts
   ask-ground i s held fl q top heads nexts l d high b c fl′ q′ top′ z =
       closing-ground i held fl q top heads nexts l (omega (arith, stratum-at-is t i l, d, high)) (rw (stratum-at-is t i l, ← d, rule-at-is t i l, b) tt) c (flagging fl′ q′ top′) (as-flagging i s (flagging fl q top) (flagging fl′ q′ top′) l d z)
 
-  pub ask-chain : (i s : ℕ) (held fl : List Bool) (q : List ℕ) (top : ℕ) (heads nexts : List ℕ) → i < t .count → s ≡ getD (t .rules) i no-rule .stratum → 1 < s
-      → one-below hs s (barred (rule-of (getD (t .rules) i no-rule))) ≡ false → Closing t hs i held fl q top heads nexts
-      → Closing t hs (i + 1) held fl q top (heads-with hs s (needed (rule-of (getD (t .rules) i no-rule))) (i * 9) heads) (nexts-with hs s (needed (rule-of (getD (t .rules) i no-rule))) (i * 9) heads nexts)
+  pub ask-chain : (i s : ℕ) (held fl : List Bool) (q : List ℕ) (top : ℕ) (heads nexts : List ℕ) → i < t .count → s ≡ getD (t .rules) i zero-rule .stratum → 1 < s
+      → one-below hs s (barred (rule-of (getD (t .rules) i zero-rule))) ≡ false → Closing t hs i held fl q top heads nexts
+      → Closing t hs (i + 1) held fl q top (heads-with hs s (needed (rule-of (getD (t .rules) i zero-rule))) (i * 9) heads) (nexts-with hs s (needed (rule-of (getD (t .rules) i zero-rule))) (i * 9) heads nexts)
   ask-chain i s held fl q top heads nexts l d high b c =
       rw (stratum-at-is t i l, ← d, rule-at-is t i l) at (closing-chain i held fl q top heads nexts l (omega (arith, stratum-at-is t i l, d, high)) (λ u. rw (stratum-at-is t i l, ← d, rule-at-is t i l, b) at u) c)

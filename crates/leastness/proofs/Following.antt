@@ -21,7 +21,7 @@ use Rattle.model.specs.Justified.{Justified, level-with}
 use Rattle.model.proofs.Pairs.{needed-tested, meet-i, meet-e}
 use Rattle.model.proofs.Justified.{all-justified}
 use Rattle.table.specs.declared.Table.{Table}
-use Rattle.table.specs.Shape.{no-rule, Shaped}
+use Rattle.table.specs.Shape.{zero-rule, Shaped}
 use Rattle.table.specs.Link.{assignments-of, rules-of, stratum-at}
 use Rattle.table.specs.Flat.{place-of}
 use Rattle.table.specs.Fits.{TableFits}
@@ -192,9 +192,9 @@ module _ (t : Table) (fits : TableFits t) (sh : Shaped t) (hs : List ℕ) (g : C
   pub chaining-rule : (at p x : ℕ) (held fl : List Bool) (q : List ℕ) (top : ℕ) (heads nexts : List ℕ) → 0 < x → Chaining t hs at p x held fl q top heads nexts → (x - 1) / 9 < t .count
   chaining-rule at p x held fl q top heads nexts pos c = closing-wake p x held fl q top heads nexts (c .is-flagged) pos (c .following) (c .closing) .0
 
-  pub chaining-held : (at p x s : ℕ) (held fl : List Bool) (q : List ℕ) (top : ℕ) (heads nexts : List ℕ) → 0 < x → getD held ((x - 1) / 9) false ≡ false → s ≡ getD (t .rules) ((x - 1) / 9) no-rule .stratum
+  pub chaining-held : (at p x s : ℕ) (held fl : List Bool) (q : List ℕ) (top : ℕ) (heads nexts : List ℕ) → 0 < x → getD held ((x - 1) / 9) false ≡ false → s ≡ getD (t .rules) ((x - 1) / 9) zero-rule .stratum
       → Chaining t hs at p x held fl q top heads nexts
-      → (fl′ : List Bool) (q′ : List ℕ) (top′ : ℕ) → flagging fl′ q′ top′ ≡ flag-all hs s (assignments-of (getD (t .rules) ((x - 1) / 9) no-rule)) (flagging fl q top)
+      → (fl′ : List Bool) (q′ : List ℕ) (top′ : ℕ) → flagging fl′ q′ top′ ≡ flag-all hs s (assignments-of (getD (t .rules) ((x - 1) / 9) zero-rule)) (flagging fl q top)
       → Chaining t hs at p (getD nexts (x - 1) 0) (set held ((x - 1) / 9) true) fl′ q′ top′ heads nexts
   chaining-held at p x s held fl q top heads nexts pos not d c fl′ q′ top′ z =
       let w = closing-wake p x held fl q top heads nexts (c .is-flagged) pos (c .following) (c .closing) in

@@ -16,8 +16,8 @@ needs-places = 2295
 unfoldable pub head-at : List ℕ → ℕ → ℕ → ℕ → List ℕ → List ℕ
 head-at hs s k o heads = cond (eqb (getD hs k 0) s) (set heads k (o + 1)) heads
 
-unfoldable pub next-at : List ℕ → ℕ → ℕ → ℕ → List ℕ → List ℕ → List ℕ
-next-at hs s k o heads nexts = cond (eqb (getD hs k 0) s) (set nexts o (getD heads k 0)) nexts
+unfoldable pub nexts-at : List ℕ → ℕ → ℕ → ℕ → List ℕ → List ℕ → List ℕ
+nexts-at hs s k o heads nexts = cond (eqb (getD hs k 0) s) (set nexts o (getD heads k 0)) nexts
 
 -- The chains with the pairs of a list, from the place o on.
 unfoldable pub heads-with : List ℕ → ℕ → List Pair → ℕ → List ℕ → List ℕ
@@ -26,4 +26,4 @@ heads-with hs s (p ∷ ps) o heads = heads-with hs s ps (o + 1) (head-at hs s (p
 
 unfoldable pub nexts-with : List ℕ → ℕ → List Pair → ℕ → List ℕ → List ℕ → List ℕ
 nexts-with hs s [] o heads nexts = nexts
-nexts-with hs s (p ∷ ps) o heads nexts = nexts-with hs s ps (o + 1) (head-at hs s (place-of p) o heads) (next-at hs s (place-of p) o heads nexts)
+nexts-with hs s (p ∷ ps) o heads nexts = nexts-with hs s ps (o + 1) (head-at hs s (place-of p) o heads) (nexts-at hs s (place-of p) o heads nexts)

@@ -10,7 +10,7 @@ ghost use Rattle.table.specs.Link.{rule-of, assignments-of};
 ghost use Rattle.table.specs.Fits.{RuleFits};
 ghost use Rattle.strata.specs.Heights.{Small};
 ghost use Rattle.leastness.specs.OneBelow.{one-below};
-ghost use Rattle.leastness.specs.Chains.{needs-places, head-at, next-at, heads-with, nexts-with};
+ghost use Rattle.leastness.specs.Chains.{needs-places, head-at, nexts-at, heads-with, nexts-with};
 ghost use Rattle.leastness.specs.Flagging.{flagging, Room, flag-all};
 use table::PAIRS;
 use table::RULES;
@@ -56,7 +56,7 @@ fn chain(
     nexts: &mut [u16; NEEDS],
 )
     requires { ⌜ (k < pair-places) × (o < needs-places) ⌝ }
-    ensures { λ _. ⌜ (now (heads .exit) ≡ head-at (now (high .entry)) s k o (now (heads .entry))) × (now (nexts .exit) ≡ next-at (now (high .entry)) s k o (now (heads .entry)) (now (nexts .entry))) ⌝ }
+    ensures { λ _. ⌜ (now (heads .exit) ≡ head-at (now (high .entry)) s k o (now (heads .entry))) × (now (nexts .exit) ≡ nexts-at (now (high .entry)) s k o (now (heads .entry)) (now (nexts .entry))) ⌝ }
 {
     let h = high[k];
     if h == s {

@@ -10,8 +10,8 @@ use borrow.Author.Tests.{le-leb, lt-leb}
 use Rattle.table.specs.declared.Name.{Name}
 use Rattle.table.specs.declared.Slot.{Slot}
 use Rattle.table.specs.declared.Table.{Table}
-use Rattle.table.specs.Shape.{no-name, no-slot}
-use Rattle.names.specs.Names.{Showing, refused, has-slot, has-value, show-name, show-slot, show-value-of, show-value}
+use Rattle.table.specs.Shape.{zero-name, zero-slot}
+use Rattle.names.specs.Names.{Showing, not-shown, has-slot, has-value, show-name, show-slot, show-value-of, show-value}
 use Rattle.library.specs.declared.RlName.{RlName}
 use Rattle.library.specs.Places.{nowhere, name-place, slot-place, value-place-in, value-place, ShowsPart}
 
@@ -29,7 +29,7 @@ place-outside n x h = rw (lt-leb (x .start + x .size) n h)
 pub name-place-shows : (text : List ℕ) (x : Name) → ShowsPart text (name-place (length text) x) (show-name text x)
 unfolding name-place show-name
 name-place-shows text x = by (leb (x .start + x .size) (length text)) where
-  by : (b : Bool) → ShowsPart text (cond b (record { number = 0; start = x .start; size = x .size }) nowhere) (cond b (record { code = 0; part = take (x .size) (drop (x .start) text) }) refused)
+  by : (b : Bool) → ShowsPart text (cond b (record { number = 0; start = x .start; size = x .size }) nowhere) (cond b (record { code = 0; part = take (x .size) (drop (x .start) text) }) not-shown)
   by true = (refl, refl)
   by false = (refl, refl)
 
@@ -38,9 +38,9 @@ pub slot-place-shows : (text : List ℕ) (t : Table) (slot : ℕ) → ShowsPart 
 unfolding slot-place show-slot
 slot-place-shows text t slot = by (has-slot (t .width) slot) where
   name : Name
-  name = getD (t .slots) slot no-slot .name
+  name = getD (t .slots) slot zero-slot .name
 
-  by : (b : Bool) → ShowsPart text (cond b (name-place (length text) name) nowhere) (cond b (show-name text name) refused)
+  by : (b : Bool) → ShowsPart text (cond b (name-place (length text) name) nowhere) (cond b (show-name text name) not-shown)
   by true = name-place-shows text name
   by false = (refl, refl)
 
@@ -49,9 +49,9 @@ pub value-of-place-shows : (text : List ℕ) (s : Slot) (value : ℕ) → ShowsP
 unfolding value-place-in show-value-of
 value-of-place-shows text s value = by (has-value (s .count) value) where
   name : Name
-  name = getD (s .values) (value - 1) no-name
+  name = getD (s .values) (value - 1) zero-name
 
-  by : (b : Bool) → ShowsPart text (cond b (name-place (length text) name) nowhere) (cond b (show-name text name) refused)
+  by : (b : Bool) → ShowsPart text (cond b (name-place (length text) name) nowhere) (cond b (show-name text name) not-shown)
   by true = name-place-shows text name
   by false = (refl, refl)
 
@@ -60,14 +60,14 @@ pub value-place-shows : (text : List ℕ) (t : Table) (slot value : ℕ) → Sho
 unfolding value-place show-value
 value-place-shows text t slot value = by (has-slot (t .width) slot) where
   s : Slot
-  s = getD (t .slots) slot no-slot
+  s = getD (t .slots) slot zero-slot
 
-  by : (b : Bool) → ShowsPart text (cond b (value-place-in (length text) s value) nowhere) (cond b (show-value-of text s value) refused)
+  by : (b : Bool) → ShowsPart text (cond b (value-place-in (length text) s value) nowhere) (cond b (show-value-of text s value) not-shown)
   by true = value-of-place-shows text s value
   by false = (refl, refl)
 
 -- The place of the name of a slot that the table has, and of one that it lacks.
-pub slot-there : (n : ℕ) (t : Table) (slot : ℕ) → has-slot (t .width) slot ≡ true → slot-place n t slot ≡ name-place n (getD (t .slots) slot no-slot .name)
+pub slot-there : (n : ℕ) (t : Table) (slot : ℕ) → has-slot (t .width) slot ≡ true → slot-place n t slot ≡ name-place n (getD (t .slots) slot zero-slot .name)
 unfolding slot-place
 slot-there n t slot e = rw e
 
@@ -80,11 +80,11 @@ pub value-slot-lacking : (n : ℕ) (t : Table) (slot value : ℕ) → has-slot (
 unfolding value-place
 value-slot-lacking n t slot value e = rw e
 
-pub value-there : (n : ℕ) (t : Table) (slot value : ℕ) → has-slot (t .width) slot ≡ true → has-value (getD (t .slots) slot no-slot .count) value ≡ true → value-place n t slot value ≡ name-place n (getD (getD (t .slots) slot no-slot .values) (value - 1) no-name)
+pub value-there : (n : ℕ) (t : Table) (slot value : ℕ) → has-slot (t .width) slot ≡ true → has-value (getD (t .slots) slot zero-slot .count) value ≡ true → value-place n t slot value ≡ name-place n (getD (getD (t .slots) slot zero-slot .values) (value - 1) zero-name)
 unfolding value-place value-place-in
 value-there n t slot value e h = rw (e, h)
 
-pub value-lacking : (n : ℕ) (t : Table) (slot value : ℕ) → has-slot (t .width) slot ≡ true → has-value (getD (t .slots) slot no-slot .count) value ≡ false → value-place n t slot value ≡ nowhere
+pub value-lacking : (n : ℕ) (t : Table) (slot value : ℕ) → has-slot (t .width) slot ≡ true → has-value (getD (t .slots) slot zero-slot .count) value ≡ false → value-place n t slot value ≡ nowhere
 unfolding value-place value-place-in
 value-lacking n t slot value e h = rw (e, h)
 

@@ -8,7 +8,7 @@ use lib.ListN.{take, drop, getD}
 use Rattle.table.specs.declared.Name.{Name}
 use Rattle.table.specs.declared.Slot.{Slot}
 use Rattle.table.specs.declared.Table.{Table}
-use Rattle.table.specs.Shape.{no-name, no-slot}
+use Rattle.table.specs.Shape.{zero-name, zero-slot}
 use Rattle.names.specs.Names.{Showing, has-slot, has-value}
 use Rattle.library.specs.declared.RlName.{RlName}
 
@@ -22,15 +22,15 @@ name-place length n = cond (leb (n .start + n .size) length) (record { number = 
 
 -- The place of a slot's name; 31 also where the table lacks the slot.
 unfoldable pub slot-place : ℕ → Table → ℕ → RlName
-slot-place length t slot = cond (has-slot (t .width) slot) (name-place length (getD (t .slots) slot no-slot .name)) nowhere
+slot-place length t slot = cond (has-slot (t .width) slot) (name-place length (getD (t .slots) slot zero-slot .name)) nowhere
 
 -- The place of the name of a value of a slot that the table has.
 unfoldable pub value-place-in : ℕ → Slot → ℕ → RlName
-value-place-in length s value = cond (has-value (s .count) value) (name-place length (getD (s .values) (value - 1) no-name)) nowhere
+value-place-in length s value = cond (has-value (s .count) value) (name-place length (getD (s .values) (value - 1) zero-name)) nowhere
 
 -- The place of a value's name; 31 also where the table lacks the slot or the value.
 unfoldable pub value-place : ℕ → Table → ℕ → ℕ → RlName
-value-place length t slot value = cond (has-slot (t .width) slot) (value-place-in length (getD (t .slots) slot no-slot) value) nowhere
+value-place length t slot value = cond (has-slot (t .width) slot) (value-place-in length (getD (t .slots) slot zero-slot) value) nowhere
 
 -- A place shows what is to be shown of a text: the same number, and its stretch of the text is the part.
 abbrev pub ShowsPart : List ℕ → RlName → Showing → Type 0

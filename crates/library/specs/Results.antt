@@ -7,7 +7,7 @@ use Rattle.printing.specs.Printing.{printing-refusal, printing-second, printing
 use Rattle.cards.specs.declared.CardRead.{CardRead}
 use Rattle.cards.specs.declared.SlipRead.{SlipRead}
 use Rattle.cards.specs.declared.Packing.{Packing}
-use Rattle.cards.specs.Cards.{refusal-number, second-number, packing-refusal, packing-second, packing-length}
+use Rattle.cards.specs.Cards.{unpacking-refusal, unpacking-second, packing-refusal, packing-second, packing-length}
 use Rattle.tally.specs.declared.Tally.{Tally}
 use Rattle.response.specs.declared.Outcome.{Outcome}
 use Rattle.response.specs.declared.Outcome.the-variants.{Answered, Refused}
@@ -21,24 +21,24 @@ use Rattle.library.specs.declared.RlPacked.{RlPacked}
 use Rattle.library.specs.declared.RlResponse.{RlResponse}
 
 -- A reading: 'Refusals by who can cause them', the number, 0 for none, and the second number; the table as it is.
-abbrev pub read-result : FileRead → RlRead
-read-result r = record { number = reading.refusal-number (r .outcome); second = reading.second-number (r .outcome); table = r .table }
+abbrev pub reading-numbers : FileRead → RlRead
+reading-numbers r = record { number = reading.reading-refusal (r .outcome); second = reading.reading-second (r .outcome); table = r .table }
 
 -- A print.
-abbrev pub print-result : Printing → RlPrinted
-print-result p = record { number = printing-refusal p; second = printing-second p; length = printing-length p }
+abbrev pub print-numbers : Printing → RlPrinted
+print-numbers p = record { number = printing-refusal p; second = printing-second p; length = printing-length p }
 
 -- An unpacked card.
-abbrev pub card-result : CardRead → RlCard
-card-result r = record { number = refusal-number (r .outcome); second = second-number (r .outcome); card = r .card }
+abbrev pub card-numbers : CardRead → RlCard
+card-numbers r = record { number = unpacking-refusal (r .outcome); second = unpacking-second (r .outcome); card = r .card }
 
 -- An unpacked slip.
-abbrev pub slip-result : SlipRead → RlSlip
-slip-result r = record { number = refusal-number (r .outcome); second = second-number (r .outcome); slip = r .slip }
+abbrev pub slip-numbers : SlipRead → RlSlip
+slip-numbers r = record { number = unpacking-refusal (r .outcome); second = unpacking-second (r .outcome); slip = r .slip }
 
 -- A packing.
-abbrev pub packing-result : Packing → RlPacked
-packing-result p = record { number = packing-refusal p; second = packing-second p; length = packing-length p }
+abbrev pub packing-numbers : Packing → RlPacked
+packing-numbers p = record { number = packing-refusal p; second = packing-second p; length = packing-length p }
 
 -- The length of the changes that a response says; a refusal has none.
 abbrev pub changes-length : Outcome → ℕ
@@ -53,8 +53,8 @@ fired-count (Refused k s) = 0
 -- An outcome by numbers, with a tally as it is.
 abbrev pub numbered : Outcome → Tally → RlResponse
 numbered o y =
-    record { number = responding.refusal-number o; second = responding.second-number o; length = changes-length o; fired = fired-count o; tally = y }
+    record { number = responding.response-refusal o; second = responding.response-second o; length = changes-length o; fired = fired-count o; tally = y }
 
 -- A response.
-abbrev pub response-result : Response → RlResponse
-response-result r = numbered (r .outcome) (r .tally)
+abbrev pub response-numbers : Response → RlResponse
+response-numbers r = numbered (r .outcome) (r .tally)

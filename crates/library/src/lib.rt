@@ -5,10 +5,10 @@ ghost use Rattle.laws.specs.Answers.{output-of};
 ghost use Rattle.names.specs.Names.{show-slot, show-value};
 ghost use Rattle.soundness.specs.Sound.{sound};
 ghost use Rattle.rule_file.specs.Whole.{reading};
-ghost use Rattle.printing.specs.Printing.{printed, printing-of};
+ghost use Rattle.printing.specs.Printing.{print-into, printing-of};
 ghost use Rattle.cards.specs.Cards.{unpacked-card, unpacked-slip, packed-card, packed-slip, card-read, slip-read, packing-of};
 ghost use Rattle.response.specs.Respond.{rooms-of, outputs, outputs-after, answer-to, response-to};
-ghost use Rattle.library.specs.Results.{read-result, print-result, card-result, slip-result, packing-result, numbered, response-result};
+ghost use Rattle.library.specs.Results.{reading-numbers, print-numbers, card-numbers, slip-numbers, packing-numbers, numbered, response-numbers};
 ghost use Rattle.library.specs.Places.{name-place, slot-place, value-place, ShowsPart};
 use cards::Card;
 use cards::Packing;
@@ -80,7 +80,7 @@ pub struct RlResponse {
 // Reads a rule text: 10 to 18.
 #[no_mangle]
 pub extern "C" fn rl_read(text: &[u8]) -> RlRead
-    ensures { λ r. ⌜ r ≡ read-result (reading (now (text .entry))) ⌝ }
+    ensures { λ r. ⌜ r ≡ reading-numbers (reading (now (text .entry))) ⌝ }
 {
     let read = rule_file::read(text);
     let outcome = read.outcome;
@@ -105,7 +105,7 @@ pub extern "C" fn rl_read(text: &[u8]) -> RlRead
 
 // A print by numbers.
 fn print_numbers(printing: Printing) -> RlPrinted
-    ensures { λ r. ⌜ r ≡ print-result printing ⌝ }
+    ensures { λ r. ⌜ r ≡ print-numbers printing ⌝ }
 {
     match printing {
         Printing::Printed(length) => {
@@ -128,8 +128,8 @@ fn print_numbers(printing: Printing) -> RlPrinted
 // Prints a rule text in the house style into the output: 10 to 18, then 34 and 33.
 #[no_mangle]
 pub extern "C" fn rl_print(text: &[u8], out: &mut [u8]) -> RlPrinted
-    ensures { λ r. ⌜ (r ≡ print-result (printing-of (printed (now (text .entry)) (length (now (out .entry))))))
-        × (now (out .exit) ≡ output-of (printed (now (text .entry)) (length (now (out .entry)))) (now (out .entry))) ⌝ }
+    ensures { λ r. ⌜ (r ≡ print-numbers (printing-of (print-into (now (text .entry)) (length (now (out .entry))))))
+        × (now (out .exit) ≡ output-of (print-into (now (text .entry)) (length (now (out .entry)))) (now (out .entry))) ⌝ }
 {
     let result = printing::print(text, out);
     print_numbers(result)
@@ -144,7 +144,7 @@ pub extern "C" fn rl_is_sound(t: Table) -> bool
 }
 
 // Where a name stands in a text of this length; 31 where it stands outside.
-fn place_of(length: usize, name: Name) -> RlName
+fn name_place(length: usize, name: Name) -> RlName
     ensures { λ r. ⌜ r ≡ name-place length name ⌝ }
 {
     let start = name.start;
@@ -180,7 +180,7 @@ pub extern "C" fn rl_slot_name(text: &[u8], t: Table, slot: usize) -> RlName
     }
     let named = t.slots[slot];
     let name = named.name;
-    place_of(text.len(), name)
+    name_place(text.len(), name)
 }
 
 // Where the name of a value of a slot stands in the text, values counted from 1, or 31.
@@ -207,13 +207,13 @@ pub extern "C" fn rl_value_name(text: &[u8], t: Table, slot: usize, value: usize
     }
     let k = value - 1;
     let name = s.values[k];
-    place_of(text.len(), name)
+    name_place(text.len(), name)
 }
 
 // Unpacks bytes as a card: 31, 20 to 23.
 #[no_mangle]
 pub extern "C" fn rl_unpack_card(t: Table, bytes: &[u8]) -> RlCard
-    ensures { λ r. ⌜ r ≡ card-result (card-read (unpacked-card t (now (bytes .entry)))) ⌝ }
+    ensures { λ r. ⌜ r ≡ card-numbers (card-read (unpacked-card t (now (bytes .entry)))) ⌝ }
 {
     let read = unpacking::unpack_card(t, bytes);
     let outcome = read.outcome;
@@ -239,7 +239,7 @@ pub extern "C" fn rl_unpack_card(t: Table, bytes: &[u8]) -> RlCard
 // Unpacks bytes as a slip: 31, 24 to 28.
 #[no_mangle]
 pub extern "C" fn rl_unpack_slip(t: Table, bytes: &[u8]) -> RlSlip
-    ensures { λ r. ⌜ r ≡ slip-result (slip-read (unpacked-slip t (now (bytes .entry)))) ⌝ }
+    ensures { λ r. ⌜ r ≡ slip-numbers (slip-read (unpacked-slip t (now (bytes .entry)))) ⌝ }
 {
     let read = unpacking::unpack_slip(t, bytes);
     let outcome = read.outcome;
@@ -263,8 +263,8 @@ pub extern "C" fn rl_unpack_slip(t: Table, bytes: &[u8]) -> RlSlip
 }
 
 // A packing by numbers.
-fn packed(packing: Packing) -> RlPacked
-    ensures { λ r. ⌜ r ≡ packing-result packing ⌝ }
+fn packing_numbers(packing: Packing) -> RlPacked
+    ensures { λ r. ⌜ r ≡ packing-numbers packing ⌝ }
 {
     match packing {
         Packing::Packed(length) => {
@@ -287,25 +287,25 @@ fn packed(packing: Packing) -> RlPacked
 // Packs a card into the output: 31, 21, 22, and 30 with 1.
 #[no_mangle]
 pub extern "C" fn rl_pack_card(t: Table, card: Card, out: &mut [u8]) -> RlPacked
-    ensures { λ r. ⌜ (r ≡ packing-result (packing-of (packed-card t card (length (now (out .entry))))))
+    ensures { λ r. ⌜ (r ≡ packing-numbers (packing-of (packed-card t card (length (now (out .entry))))))
         × (now (out .exit) ≡ output-of (packed-card t card (length (now (out .entry)))) (now (out .entry))) ⌝ }
 {
     let result = packing::pack_card(t, card, out);
-    packed(result)
+    packing_numbers(result)
 }
 
 // Packs a slip into the output: 31, 24 to 27, and 30 with 2.
 #[no_mangle]
 pub extern "C" fn rl_pack_slip(t: Table, slip: Slip, out: &mut [u8]) -> RlPacked
-    ensures { λ r. ⌜ (r ≡ packing-result (packing-of (packed-slip t slip (length (now (out .entry))))))
+    ensures { λ r. ⌜ (r ≡ packing-numbers (packing-of (packed-slip t slip (length (now (out .entry))))))
         × (now (out .exit) ≡ output-of (packed-slip t slip (length (now (out .entry)))) (now (out .entry))) ⌝ }
 {
     let result = packing::pack_slip(t, slip, out);
-    packed(result)
+    packing_numbers(result)
 }
 
 // A response by numbers.
-fn answered(outcome: Outcome, tally: Tally) -> RlResponse
+fn numbered(outcome: Outcome, tally: Tally) -> RlResponse
     ensures { λ r. ⌜ r ≡ numbered outcome tally ⌝ }
 {
     match outcome {
@@ -341,12 +341,12 @@ pub extern "C" fn rl_respond(
     changes: &mut [u8],
     fired: &mut [u8],
 ) -> RlResponse
-    ensures { λ r. ⌜ (r ≡ response-result (response-to t tally (now (card .entry)) (now (slip .entry)) (rooms-of (now (renewed .entry)) (now (changes .entry)) (now (fired .entry)))))
+    ensures { λ r. ⌜ (r ≡ response-numbers (response-to t tally (now (card .entry)) (now (slip .entry)) (rooms-of (now (renewed .entry)) (now (changes .entry)) (now (fired .entry)))))
         × (outputs (now (renewed .exit)) (now (changes .exit)) (now (fired .exit))
         ≡ outputs-after (answer-to t tally (now (card .entry)) (now (slip .entry)) (rooms-of (now (renewed .entry)) (now (changes .entry)) (now (fired .entry)))) (outputs (now (renewed .entry)) (now (changes .entry)) (now (fired .entry)))) ⌝ }
 {
     let response = response::respond(t, tally, card, slip, renewed, changes, fired);
     let outcome = response.outcome;
     let after = response.tally;
-    answered(outcome, after)
+    numbered(outcome, after)
 }

@@ -14,12 +14,12 @@ use Rattle.text.specs.Tokens.{Name}
 use Rattle.grammar.specs.Files.{Slot, spellings, slot-names, values-of, no-slot}
 use Rattle.table.specs.declared.Name as stretch
 use Rattle.table.specs.Limits.{slot-limit, value-limit, row, pair-places}
-use Rattle.table.specs.Shape.{no-name}
+use Rattle.table.specs.Shape.{zero-name}
 use Rattle.laws.proofs.Lists.{map-append}
 use Rattle.laws.proofs.Truth.{le-or-lt}
 use Rattle.steps.specs.Places.{name-past, Named-lies}
 use Rattle.steps.specs.Spans.{span, Span-lies, Listed}
-use Rattle.lines.specs.Index.{span-name, span-names, span-slot, Spanned, row-of, Indexed, name-for, slot-for, place-of, slot-by}
+use Rattle.lines.specs.Index.{span-name, span-names, span-slot, Spanned, row-of, Indexed, name-for, slot-for, stretch-at, slot-by}
 use Rattle.lines.specs.Lines.{Remainder, Declared-lies, Values-lie}
 use Rattle.steps.specs.declared.step.Named.the-variants as named
 use Rattle.lines.specs.declared.Declared.the-variants as declared
@@ -193,17 +193,17 @@ pub indexed-values : {text : List ℕ} {slots : List Slot} {slotspans valuespans
 indexed-values {text} {slots} {slotspans} {valuespans} s I h = spanned-listed text (row-of valuespans s) (values-of slots s) (I .values s h)
 
 -- Names and slots of the table, by their spans.
-place-name : (text : List ℕ) (k : ℕ) → Span-lies text k → place-of k ≡ name-for (span-name text k)
+place-name : (text : List ℕ) (k : ℕ) → Span-lies text k → stretch-at k ≡ name-for (span-name text k)
 place-name text k l =
     let h : k % 32 ≤ length (drop (k / 32) text) = simp length-drop (omega arith) in
     rw (length-take-le (k % 32) (drop (k / 32) text) h)
 
-place-names : (text ks : List ℕ) (names : List Name) → Spanned text ks names → map place-of ks ≡ map name-for names ++ replicate (length ks - length names) no-name
+place-names : (text ks : List ℕ) (names : List Name) → Spanned text ks names → map stretch-at ks ≡ map name-for names ++ replicate (length ks - length names) zero-name
 place-names text [] [] S = refl
 place-names text [] (n ∷ ns) S = absurd S
 place-names text (k ∷ ks) [] S =
     rw (S .0, sub-zero (suc (length ks)))
-    (ap (λ (xs : List stretch.Name). no-name ∷ xs) (place-names text ks [] (S .1) ∙ rw (sub-zero (length ks))))
+    (ap (λ (xs : List stretch.Name). zero-name ∷ xs) (place-names text ks [] (S .1) ∙ rw (sub-zero (length ks))))
 place-names text (k ∷ ks) (n ∷ ns) S =
     rw (suc-sub-suc (length ks) (length ns))
     (ap₂ (λ (x : stretch.Name) (xs : List stretch.Name). x ∷ xs) (place-name text k (S .1) ∙ ap name-for (S .2)) (place-names text ks ns (S .3)))

@@ -9,7 +9,7 @@ use Rattle.grammar.specs.Files.{Slot, slot-names, values-of}
 use Rattle.table.specs.declared.Name as stretch
 use Rattle.table.specs.declared.Slot as tabled
 use Rattle.table.specs.Limits.{slot-limit, value-limit, row, pair-places}
-use Rattle.table.specs.Shape.{no-name}
+use Rattle.table.specs.Shape.{zero-name}
 use Rattle.steps.specs.Spans.{span-letters, Span-lies}
 
 -- The name at a span of the text.
@@ -49,12 +49,12 @@ name-for n = record { start = n .start; size = length (n .letters) }
 
 -- A slot as the table has it: places not used are zero.
 abbrev pub slot-for : Slot → tabled.Slot
-slot-for s = record { name = name-for (s .name); values = filled value-limit no-name (map name-for (s .values)); count = length (s .values) }
+slot-for s = record { name = name-for (s .name); values = filled value-limit zero-name (map name-for (s .values)); count = length (s .values) }
 
 -- Where the name of a span stands.
-abbrev pub place-of : ℕ → stretch.Name
-place-of k = record { start = k / 32; size = k % 32 }
+abbrev pub stretch-at : ℕ → stretch.Name
+stretch-at k = record { start = k / 32; size = k % 32 }
 
 -- A slot of the table by its spans.
 abbrev pub slot-by : ℕ → List ℕ → ℕ → tabled.Slot
-slot-by name spans count = record { name = place-of name; values = map place-of spans; count = count }
+slot-by name spans count = record { name = stretch-at name; values = map stretch-at spans; count = count }

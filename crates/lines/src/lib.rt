@@ -11,7 +11,7 @@ ghost use Rattle.grammar.specs.Reading.{new-name, read-values, read-line};
 ghost use Rattle.table.specs.Limits.{slot-limit, row};
 ghost use Rattle.steps.specs.Places.{tokens-past, Step-lies, outcome-part};
 ghost use Rattle.steps.specs.Spans.{Listed};
-ghost use Rattle.lines.specs.Index.{span-names, span-slot, place-of, slot-by};
+ghost use Rattle.lines.specs.Index.{span-names, span-slot, stretch-at, slot-by};
 ghost use Rattle.lines.specs.Lines.{Remainder, read-head, declared-part, Declared-lies, Values-lie, Line-lies};
 use steps::names::find;
 use steps::step::Fork;
@@ -205,7 +205,7 @@ pub fn line_next(
 
 // The place and the length of a span.
 pub fn name_of(span: usize) -> table::Name
-    ensures { λ r. ⌜ r ≡ place-of span ⌝ }
+    ensures { λ r. ⌜ r ≡ stretch-at span ⌝ }
 {
     table::Name {
         start: span / 32,

@@ -10,7 +10,7 @@ use Rattle.model.specs.Rules.{Pair, Pairs, Literal, was, became, test, holds, a
 use Rattle.model.specs.Rules as model
 use Rattle.table.specs.declared.Rule.{Rule}
 use Rattle.table.specs.Limits.{row, literal-limit}
-use Rattle.table.specs.Shape.{no-literal, RuleShaped}
+use Rattle.table.specs.Shape.{zero-literal, RuleShaped}
 use Rattle.table.specs.Link.{literal-of, rule-of}
 use Rattle.table.specs.Flat.{place-of, set-of}
 use Rattle.table.proofs.Flat.{set-in}
@@ -61,12 +61,12 @@ module _ (S : List ℕ) (C : Pairs) (r : Rule) where
   enabled-on e = rw (e, literals-start r)
 
   -- the next literal and those after it,
-  pub literal-false : RuleShaped r → (j : ℕ) → j < r .tested → r .tested ≤ literal-limit → holds S C (literal-of (getD (r .literals) j no-literal)) ≡ false
+  pub literal-false : RuleShaped r → (j : ℕ) → j < r .tested → r .tested ≤ literal-limit → holds S C (literal-of (getD (r .literals) j zero-literal)) ≡ false
       → all-hold S C (literals-from r j) ≡ false
   unfolding all-hold _∧ᵇ_
   literal-false sh j h k e = rw (literals-next r sh j h k, e)
 
-  pub literal-true : RuleShaped r → (j : ℕ) → j < r .tested → r .tested ≤ literal-limit → holds S C (literal-of (getD (r .literals) j no-literal)) ≡ true
+  pub literal-true : RuleShaped r → (j : ℕ) → j < r .tested → r .tested ≤ literal-limit → holds S C (literal-of (getD (r .literals) j zero-literal)) ≡ true
       → all-hold S C (literals-from r j) ≡ all-hold S C (literals-from r (j + 1))
   unfolding all-hold _∧ᵇ_
   literal-true sh j h k e = rw (literals-next r sh j h k, e)

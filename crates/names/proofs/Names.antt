@@ -14,8 +14,8 @@ use Rattle.table.specs.declared.Name.{Name}
 use Rattle.table.specs.declared.Slot.{Slot}
 use Rattle.table.specs.declared.Table.{Table}
 use Rattle.table.specs.Limits.{slot-limit, value-limit}
-use Rattle.table.specs.Shape.{no-name, no-slot}
-use Rattle.names.specs.Names.{refused, has-slot, has-value, show-name, show-slot, show-value-of, show-value}
+use Rattle.table.specs.Shape.{zero-name, zero-slot}
+use Rattle.names.specs.Names.{not-shown, has-slot, has-value, show-name, show-slot, show-value-of, show-value}
 
 pub slot-inside : (width slot : ℕ) → has-slot width slot ≡ true → (slot < slot-limit) × (slot < width)
 unfolding has-slot
@@ -34,30 +34,30 @@ pub name-inside : (text : List ℕ) (n : Name) → n .start + n .size ≤ length
 unfolding show-name
 name-inside text n h = rw (le-leb (n .start + n .size) (length text) h)
 
-pub name-outside : (text : List ℕ) (n : Name) → length text < n .start + n .size → show-name text n ≡ refused
+pub name-outside : (text : List ℕ) (n : Name) → length text < n .start + n .size → show-name text n ≡ not-shown
 unfolding show-name
 name-outside text n h = rw (lt-leb (n .start + n .size) (length text) h)
 
-pub slot-shown : (text : List ℕ) (t : Table) (slot : ℕ) → has-slot (t .width) slot ≡ true → show-slot text t slot ≡ show-name text (getD (t .slots) slot no-slot .name)
+pub slot-shown : (text : List ℕ) (t : Table) (slot : ℕ) → has-slot (t .width) slot ≡ true → show-slot text t slot ≡ show-name text (getD (t .slots) slot zero-slot .name)
 unfolding show-slot
 slot-shown text t slot e = rw e
 
-pub slot-lacking : (text : List ℕ) (t : Table) (slot : ℕ) → has-slot (t .width) slot ≡ false → show-slot text t slot ≡ refused
+pub slot-lacking : (text : List ℕ) (t : Table) (slot : ℕ) → has-slot (t .width) slot ≡ false → show-slot text t slot ≡ not-shown
 unfolding show-slot
 slot-lacking text t slot e = rw e
 
-pub value-of-shown : (text : List ℕ) (s : Slot) (value : ℕ) → has-value (s .count) value ≡ true → show-value-of text s value ≡ show-name text (getD (s .values) (value - 1) no-name)
+pub value-of-shown : (text : List ℕ) (s : Slot) (value : ℕ) → has-value (s .count) value ≡ true → show-value-of text s value ≡ show-name text (getD (s .values) (value - 1) zero-name)
 unfolding show-value-of
 value-of-shown text s value e = rw e
 
-pub value-of-lacking : (text : List ℕ) (s : Slot) (value : ℕ) → has-value (s .count) value ≡ false → show-value-of text s value ≡ refused
+pub value-of-lacking : (text : List ℕ) (s : Slot) (value : ℕ) → has-value (s .count) value ≡ false → show-value-of text s value ≡ not-shown
 unfolding show-value-of
 value-of-lacking text s value e = rw e
 
-pub value-shown : (text : List ℕ) (t : Table) (slot value : ℕ) → has-slot (t .width) slot ≡ true → show-value text t slot value ≡ show-value-of text (getD (t .slots) slot no-slot) value
+pub value-shown : (text : List ℕ) (t : Table) (slot value : ℕ) → has-slot (t .width) slot ≡ true → show-value text t slot value ≡ show-value-of text (getD (t .slots) slot zero-slot) value
 unfolding show-value
 value-shown text t slot value e = rw e
 
-pub value-lacking : (text : List ℕ) (t : Table) (slot value : ℕ) → has-slot (t .width) slot ≡ false → show-value text t slot value ≡ refused
+pub value-lacking : (text : List ℕ) (t : Table) (slot value : ℕ) → has-slot (t .width) slot ≡ false → show-value text t slot value ≡ not-shown
 unfolding show-value
 value-lacking text t slot value e = rw e

@@ -10,7 +10,7 @@ use Rattle.table.specs.declared.Name.{Name}
 use Rattle.table.specs.declared.Slot.{Slot}
 use Rattle.table.specs.declared.Table.{Table}
 use Rattle.table.specs.Limits.{slot-limit, value-limit}
-use Rattle.table.specs.Shape.{no-name, no-slot}
+use Rattle.table.specs.Shape.{zero-name, zero-slot}
 
 -- An answer: 0 and a part of the text, or a refusal's number and no part.
 pub record Showing : Type 0 where
@@ -18,12 +18,12 @@ pub record Showing : Type 0 where
   pub part : List ℕ
 
 -- Refusal 31.
-abbrev pub refused : Showing
-refused = record { code = 31; part = [] }
+abbrev pub not-shown : Showing
+not-shown = record { code = 31; part = [] }
 
 -- A name: the stretch of text from its start, as long as its size.
 unfoldable pub show-name : List ℕ → Name → Showing
-show-name text n = cond (leb (n .start + n .size) (length text)) (record { code = 0; part = take (n .size) (drop (n .start) text) }) refused
+show-name text n = cond (leb (n .start + n .size) (length text)) (record { code = 0; part = take (n .size) (drop (n .start) text) }) not-shown
 
 -- A table with so many slots has this one.
 unfoldable pub has-slot : ℕ → ℕ → Bool
@@ -35,12 +35,12 @@ has-value count value = leb 1 value ∧ᵇ leb value value-limit ∧ᵇ leb valu
 
 -- The name of a slot.
 unfoldable pub show-slot : List ℕ → Table → ℕ → Showing
-show-slot text t slot = cond (has-slot (t .width) slot) (show-name text (getD (t .slots) slot no-slot .name)) refused
+show-slot text t slot = cond (has-slot (t .width) slot) (show-name text (getD (t .slots) slot zero-slot .name)) not-shown
 
 -- The name of a value of a slot that the table has.
 unfoldable pub show-value-of : List ℕ → Slot → ℕ → Showing
-show-value-of text s value = cond (has-value (s .count) value) (show-name text (getD (s .values) (value - 1) no-name)) refused
+show-value-of text s value = cond (has-value (s .count) value) (show-name text (getD (s .values) (value - 1) zero-name)) not-shown
 
 -- The name of a value.
 unfoldable pub show-value : List ℕ → Table → ℕ → ℕ → Showing
-show-value text t slot value = cond (has-slot (t .width) slot) (show-value-of text (getD (t .slots) slot no-slot) value) refused
+show-value text t slot value = cond (has-slot (t .width) slot) (show-value-of text (getD (t .slots) slot zero-slot) value) not-shown

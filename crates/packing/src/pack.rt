@@ -6,7 +6,7 @@ ghost use lib.ListN.{length, drop};
 ghost use Rattle.laws.specs.Packed.{byte-count};
 ghost use Rattle.table.specs.Limits.{slot-limit};
 ghost use Rattle.cards.specs.Forms.{card-bits, slip-bits, card-test, slip-test, card-bytes, slip-bytes};
-ghost use Rattle.cards.specs.Cards.{counts-in, values-of, changes-of, outcome-of, CardFits, SlipFits};
+ghost use Rattle.cards.specs.Cards.{counts-in, card-values, changes-of, verdict-outcome, CardFits, SlipFits};
 use cards::Card;
 use cards::Outcome;
 use cards::Slip;
@@ -19,7 +19,7 @@ use table::wide;
 // The tests of an unpacked card: 21, 22.
 pub fn check_card(c: Card, width: usize, counts: &[usize; SLOTS]) -> Outcome
     requires { ⌜ width ≤ slot-limit ⌝ }
-    ensures { λ r. ⌜ r ≡ outcome-of (card-test (counts-in width (now (counts .entry))) (values-of c)) ⌝ }
+    ensures { λ r. ⌜ r ≡ verdict-outcome (card-test (counts-in width (now (counts .entry))) (card-values c)) ⌝ }
 {
     let n = c.count;
     if n != width {
@@ -40,7 +40,7 @@ pub fn check_card(c: Card, width: usize, counts: &[usize; SLOTS]) -> Outcome
 // The tests of the changes of an unpacked slip: 25 to 27.
 pub fn check_slip(s: Slip, width: usize, counts: &[usize; SLOTS]) -> Outcome
     requires { ⌜ (width ≤ slot-limit) × (s .count ≤ slot-limit) ⌝ }
-    ensures { λ r. ⌜ r ≡ outcome-of (slip-test (counts-in width (now (counts .entry))) (changes-of s)) ⌝ }
+    ensures { λ r. ⌜ r ≡ verdict-outcome (slip-test (counts-in width (now (counts .entry))) (changes-of s)) ⌝ }
 {
     let m = s.count;
     let mut low: usize = 0;
@@ -62,7 +62,7 @@ pub fn check_slip(s: Slip, width: usize, counts: &[usize; SLOTS]) -> Outcome
 // A card's bytes at the front of an output with room for them; says how many.
 pub fn write_card(c: Card, out: &mut [u8]) -> usize
     requires { ⌜ CardFits c × (byte-count (card-bits (c .count)) ≤ length (now out)) ⌝ }
-    ensures { λ r. ⌜ (r ≡ byte-count (card-bits (c .count))) × (now (out .exit) ≡ card-bytes (values-of c) ++ drop (byte-count (card-bits (c .count))) (now (out .entry))) ⌝ }
+    ensures { λ r. ⌜ (r ≡ byte-count (card-bits (c .count))) × (now (out .exit) ≡ card-bytes (card-values c) ++ drop (byte-count (card-bits (c .count))) (now (out .entry))) ⌝ }
 {
     let n = c.count;
     put_field(out, 0, 6, n);

@@ -18,7 +18,7 @@ use Rattle.laws.specs.Listed.{Each}
 use Rattle.laws.proofs.Listed.{each-map, each-imply}
 use Rattle.style.specs.Printed.{print, Named, Well-named}
 use Rattle.writing.specs.Puts.{slot-line-most, rule-line-most, longest}
-use Rattle.writing.specs.Written.{followed, separated, test-bytes, literal-bytes, condition-bytes, assign-bytes, rule-bytes, line-bytes, joined}
+use Rattle.writing.specs.Written.{followed, separated, test-bytes, literal-bytes, condition-bytes, assign-bytes, rule-bytes, line-bytes, lines-joined}
 use Rattle.printing.specs.Lines.{pair-bytes, slot-bytes, file-bytes}
 use Rattle.style.proofs.Formed.{file-formed}
 use Rattle.style.proofs.Spelled.{slot-formed, value-formed}
@@ -109,10 +109,10 @@ slot-le s n v =
     omega (arith, r, i, j, n .0 .short, v .1)
 
 -- Lines of at most `m` bytes.
-joined-le : {A : Type 0} (m : ℕ) (line : A → List ℕ) (xs : List A) → Each (λ (x : A). length (line x) ≤ m) xs → length (joined (map line xs)) ≤ length xs * m
-unfolding joined
+joined-le : {A : Type 0} (m : ℕ) (line : A → List ℕ) (xs : List A) → Each (λ (x : A). length (line x) ≤ m) xs → length (lines-joined (map line xs)) ≤ length xs * m
+unfolding lines-joined
 joined-le m line [] h = omega arith
-joined-le m line (x ∷ xs) h = omega (arith, joined-le m line xs (h .1), h .0, length-append (line x) (joined (map line xs)), suc-mul (length xs) m)
+joined-le m line (x ∷ xs) h = omega (arith, joined-le m line xs (h .1), h .0, length-append (line x) (lines-joined (map line xs)), suc-mul (length xs) m)
 
 slots-le : (ss : List Slot) → Each Well-named ss → Each Valued ss → Each (λ (s : Slot). length (slot-bytes s) ≤ slot-line-most) ss
 slots-le [] n v = tt
@@ -130,4 +130,4 @@ print-bounded text f a =
     let k = joined-le rule-line-most (rule-bytes (pair-bytes (f .slots))) (f .rules)
     (each-imply (Declared-rule (f .slots)) (λ (x : Rule). length (rule-bytes (pair-bytes (f .slots)) x) ≤ rule-line-most) (f .rules) (rule-le (f .slots) n) (d .each-rule)) in
     let e = ap length (print-written text f a) in
-    omega (arith, h, k, e, length-append (joined lines) (joined rules), d .few-slots, d .few-rules)
+    omega (arith, h, k, e, length-append (lines-joined lines) (lines-joined rules), d .few-slots, d .few-rules)

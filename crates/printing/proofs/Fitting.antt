@@ -9,18 +9,18 @@ use Rattle.laws.specs.Answers.{OrRefused, taken, refused, output-of}
 use Rattle.grammar.specs.Limits.{max-text}
 use Rattle.grammar.specs.Files.{File}
 use Rattle.grammar.specs.Meaning.{Is-file}
-use Rattle.grammar.specs.Reading.{read}
+use Rattle.grammar.specs.Reading.{parse}
 use Rattle.grammar.proofs.Accepts.{accepts-iff}
 use Rattle.reader.specs.declared.Outcome.the-variants.{Accepted, Refused}
 use Rattle.rule_file.specs.Whole.{reading}
 use Rattle.style.specs.Printed.{print}
 use Rattle.printing.specs.declared.Printing.the-variants as printing
 use Rattle.writing.specs.Puts.{put-in}
-use Rattle.printing.specs.Printing.{print-of, fitted, after-reading, printed, printing-of}
+use Rattle.printing.specs.Printing.{print-of, fitted, after-reading, print-into, printing-of}
 use Rattle.writing.proofs.Putting.{put-front}
 
 -- The print of a text that is a file.
-pub print-is : (text : List ℕ) (f : File) → Is-file text f → print-of (read text) ≡ print f
+pub print-is : (text : List ℕ) (f : File) → Is-file text f → print-of (parse text) ≡ print f
 unfolding print-of
 print-is text f h = ap print-of (accepts-iff text f .1 h)
 
@@ -38,12 +38,12 @@ unfolding fitted
 fitted-all ys room l s = rw (le-ltb max-text (length ys) l, le-ltb room (length ys) s)
 
 -- The reading's refusals stay, and an accepted text's print is fitted.
-pub refused-first : (text : List ℕ) (room k n : ℕ) → reading text .outcome ≡ Refused k n → printed text room ≡ refused k n
-unfolding printed after-reading
+pub refused-first : (text : List ℕ) (room k n : ℕ) → reading text .outcome ≡ Refused k n → print-into text room ≡ refused k n
+unfolding print-into after-reading
 refused-first text room k n o = rw o
 
-pub then-fitted : (text : List ℕ) (room : ℕ) → reading text .outcome ≡ Accepted → printed text room ≡ fitted (print-of (read text)) room
-unfolding printed after-reading
+pub then-fitted : (text : List ℕ) (room : ℕ) → reading text .outcome ≡ Accepted → print-into text room ≡ fitted (print-of (parse text)) room
+unfolding print-into after-reading
 then-fitted text room o = rw o
 
 -- What the code answers to a refusal and leaves in the output.

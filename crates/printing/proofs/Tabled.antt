@@ -21,7 +21,7 @@ use Rattle.table.specs.declared.Slot as tabled
 use Rattle.table.specs.declared.Table.{Table}
 use Rattle.table.specs.Limits.{slot-limit, value-limit, row}
 use Rattle.table.specs.Shape as zero-values
-use Rattle.table.specs.Shape.{no-name}
+use Rattle.table.specs.Shape.{zero-name}
 use Rattle.table.specs.Empty.{unused-slot}
 use Rattle.steps.specs.Spans.{span, Span-lies}
 use Rattle.lines.specs.Index.{span-name, span-names, span-slot, Spanned, Indexed, name-for, slot-for}
@@ -48,11 +48,11 @@ name-span text n st nm =
     (omega arith, rw (a, b) (st .inside), rw (a, b) (ap (λ (ys : List ℕ). record { start = n .start; letters = ys }) (st .there)))
 
 -- Names in their places, and the places that are not used, by their spans.
-unused-spanned : (text : List ℕ) (r : ℕ) → Spanned text (map span-of (replicate r no-name)) []
+unused-spanned : (text : List ℕ) (r : ℕ) → Spanned text (map span-of (replicate r zero-name)) []
 unused-spanned text zero = tt
 unused-spanned text (suc r) = (refl, unused-spanned text r)
 
-names-spanned : (text : List ℕ) (ns : List Name) (r : ℕ) → Each (Stands text) ns → Each Named ns → Spanned text (map span-of (map name-for ns ++ replicate r no-name)) ns
+names-spanned : (text : List ℕ) (ns : List Name) (r : ℕ) → Each (Stands text) ns → Each Named ns → Spanned text (map span-of (map name-for ns ++ replicate r zero-name)) ns
 names-spanned text [] r st nm = unused-spanned text r
 names-spanned text (n ∷ ns) r st nm = let w = name-span text n (st .0) (nm .0) in (w .0, w .1, w .2, names-spanned text ns r (st .1) (nm .1))
 
@@ -67,12 +67,12 @@ spanned-are text (k ∷ ks) (n ∷ ns) S = ap₂ (λ (x : Name) (xs : List Name)
 name-small : (text : List ℕ) (n : Name) → length text ≤ max-text → Stands text n → Named n → SmallName (name-for n)
 name-small text n h st nm = let i = st .inside in let l = nm .short in (omega arith, omega arith)
 
-unused-small : (r i : ℕ) → SmallName (getD (replicate r no-name) i no-name)
+unused-small : (r i : ℕ) → SmallName (getD (replicate r zero-name) i zero-name)
 unused-small zero i = (omega arith, omega arith)
 unused-small (suc r) zero = (omega arith, omega arith)
 unused-small (suc r) (suc i) = unused-small r i
 
-names-small : (text : List ℕ) (ns : List Name) (r : ℕ) → length text ≤ max-text → Each (Stands text) ns → Each Named ns → SmallNames (map name-for ns ++ replicate r no-name)
+names-small : (text : List ℕ) (ns : List Name) (r : ℕ) → length text ≤ max-text → Each (Stands text) ns → Each Named ns → SmallNames (map name-for ns ++ replicate r zero-name)
 names-small text [] r h st nm i = unused-small r i
 names-small text (n ∷ ns) r h st nm zero = name-small text n h (st .0) (nm .0)
 names-small text (n ∷ ns) r h st nm (suc i) = names-small text ns r h (st .1) (nm .1) i
@@ -83,10 +83,10 @@ module _ (text : List ℕ) (slots : List Slot) (t : Table) (T : Tabled text slot
   filed = getD slots i no-slot
 
   abbrev placed : tabled.Slot
-  placed = getD (t .slots) i zero-values.no-slot
+  placed = getD (t .slots) i zero-values.zero-slot
 
   pub slot-there : placed ≡ slot-for filed
-  slot-there = rw (T .slots-are) (image-at slot-limit unused-slot zero-values.no-slot slot-for slots i no-slot h)
+  slot-there = rw (T .slots-are) (image-at slot-limit unused-slot zero-values.zero-slot slot-for slots i no-slot h)
 
   stand : Named-by (Stands text) filed
   stand = each-at (Named-by (Stands text)) slots i no-slot (T .stand) h
@@ -122,7 +122,7 @@ module _ (text : List ℕ) (slots : List Slot) (t : Table) (T : Tabled text slot
       let l : length (map name-for (filed .values)) ≤ value-limit = rw length-map few in
       record {
         few = few;
-        places = length-map (filled value-limit no-name (map name-for (filed .values))) span-of ∙ filled-length value-limit no-name (map name-for (filed .values)) l;
+        places = length-map (filled value-limit zero-name (map name-for (filed .values))) span-of ∙ filled-length value-limit zero-name (map name-for (filed .values)) l;
         spanned = rw values-are values-spanned;
       }
 

@@ -11,7 +11,7 @@ use Rattle.text.specs.Tokens.{Name, Token, word, name, THEN, AND, CLOSE, COMMA,
 use Rattle.text.specs.Covering.{spelling}
 use Rattle.model.specs.Rules.{Pair, Literal, Rule}
 use Rattle.grammar.specs.Files.{Slot, File, spellings, slot-named, value-named}
-use Rattle.grammar.specs.Grammar.{and-literal, one-literal, LiteralTree, not-literal, becomes-value, has-value, one-assignment, comma-assignment, one-value, comma-value, LineTree, spell-literal, spell-condition, spell-assignment, spell-assignments, spell-assign, spell-rule, spell-rules, spell-values, spell-lines, grown}
+use Rattle.grammar.specs.Grammar.{and-literal, one-literal, LiteralTree, not-literal, becomes-value, holds-value, one-assignment, comma-assignment, one-value, comma-value, LineTree, spell-literal, spell-condition, spell-assignment, spell-assignments, spell-assign, spell-rule, spell-rules, spell-values, spell-lines, grown}
 use Rattle.grammar.specs.Meaning.{Is-file}
 use Rattle.grammar.proofs.Leftmost.{spell-more, spell-name, spells-grown}
 use Rattle.grammar.proofs.Declared.{Declared-rule, file-declared}
@@ -19,7 +19,7 @@ use Rattle.style.specs.Layout.{token-bytes, tight, gap, layout}
 use Rattle.laws.specs.Listed.{Each}
 use Rattle.laws.proofs.Listed.{each-imply}
 use Rattle.style.specs.Printed.{literal-tree, condition-tree, assign-tree, assignment-tree, rule-tree, values-tree, line-tree, print}
-use Rattle.writing.specs.Written.{followed, separated, test-bytes, literal-bytes, condition-bytes, assign-bytes, rule-bytes, line-bytes, joined}
+use Rattle.writing.specs.Written.{followed, separated, test-bytes, literal-bytes, condition-bytes, assign-bytes, rule-bytes, line-bytes, lines-joined}
 use Rattle.printing.specs.Lines.{pair-bytes, slot-bytes, file-bytes}
 
 -- `unfolding laying` opens a layout.
@@ -47,7 +47,7 @@ tight-literal : (l : LiteralTree) (r : List Token) → tight (spell-literal l r)
 unfolding tight
 tight-literal (not-literal l) r = refl
 tight-literal (becomes-value s v) r = refl
-tight-literal (has-value s v) r = refl
+tight-literal (holds-value s v) r = refl
 
 open-gap : (ts : List Token) → tight ts ≡ false → following ts ≡ 32 ∷ layout ts
 unfolding following
@@ -128,8 +128,8 @@ module _ (slots : List Slot) where
       ∙ ap (λ (y : List ℕ). pair-bytes slots (bytes " *= ") (x .trigger) ++ (bytes " IF " ++ (condition-bytes (pair-bytes slots) (x .literals) ++ (32 ∷ 84 ∷ 72 ∷ 69 ∷ 78 ∷ y)))) a
       ∙ nested (pair-bytes slots (bytes " *= ") (x .trigger)) (bytes " IF ") (condition-bytes (pair-bytes slots) (x .literals)) (bytes " THEN ") (assign-bytes (pair-bytes slots) (x .assignments)) (bytes ";\n") (layout r))
 
-  rules-laid : (rs : List Rule) → Each (λ (x : Rule). 0 < length (x .assignments)) rs → layout (spell-rules (map (rule-tree slots) rs) []) ≡ joined (map (rule-bytes (pair-bytes slots)) rs)
-  unfolding layout joined
+  rules-laid : (rs : List Rule) → Each (λ (x : Rule). 0 < length (x .assignments)) rs → layout (spell-rules (map (rule-tree slots) rs) []) ≡ lines-joined (map (rule-bytes (pair-bytes slots)) rs)
+  unfolding layout lines-joined
   rules-laid [] h = refl
   rules-laid (x ∷ rs) h = rule-laid x (spell-rules (map (rule-tree slots) rs) []) (h .0) ∙ ap (λ (y : List ℕ). rule-bytes (pair-bytes slots) x ++ y) (rules-laid rs (h .1))
 
@@ -148,15 +148,15 @@ slot-laid s ls r =
     ap (λ (y : List ℕ). 83 ∷ 76 ∷ 79 ∷ 84 ∷ 32 ∷ (s .name .letters ++ (32 ∷ 123 ∷ y))) (values-laid (s .values) (word CLOSE ∷ word SEMICOLON ∷ spell-lines ls r))
     ∙ ap (λ (y : List ℕ). 83 ∷ 76 ∷ 79 ∷ 84 ∷ 32 ∷ y) (nested (s .name .letters) (bytes " { ") (separated (bytes ", ") (spellings (s .values))) (bytes " };\n") [] [] (layout (spell-lines ls r)))
 
-lines-laid : (ss : List Slot) (r : List Token) → layout (spell-lines (map line-tree ss) r) ≡ joined (map slot-bytes ss) ++ layout r
-unfolding joined
+lines-laid : (ss : List Slot) (r : List Token) → layout (spell-lines (map line-tree ss) r) ≡ lines-joined (map slot-bytes ss) ++ layout r
+unfolding lines-joined
 lines-laid [] r = refl
 lines-laid (s ∷ ss) r =
-    slot-laid s (map line-tree ss) r ∙ ap (λ (y : List ℕ). slot-bytes s ++ y) (lines-laid ss r) ∙ sym (append-assoc (slot-bytes s) (joined (map slot-bytes ss)) (layout r))
+    slot-laid s (map line-tree ss) r ∙ ap (λ (y : List ℕ). slot-bytes s ++ y) (lines-laid ss r) ∙ sym (append-assoc (slot-bytes s) (lines-joined (map slot-bytes ss)) (layout r))
 
 -- THE PRINT IS WRITTEN LINE BY LINE.
 pub print-written : (text : List ℕ) (f : File) → Is-file text f → print f ≡ file-bytes f
 unfolding print file-bytes
 print-written text f a =
     lines-laid (f .slots) (spell-rules (map (rule-tree (f .slots)) (f .rules)) [])
-    ∙ ap (λ (y : List ℕ). joined (map slot-bytes (f .slots)) ++ y) (rules-laid (f .slots) (f .rules) (each-imply (Declared-rule (f .slots)) (λ (x : Rule). 0 < length (x .assignments)) (f .rules) (λ x d. d .some) (file-declared text f a .each-rule)))
+    ∙ ap (λ (y : List ℕ). lines-joined (map slot-bytes (f .slots)) ++ y) (rules-laid (f .slots) (f .rules) (each-imply (Declared-rule (f .slots)) (λ (x : Rule). 0 < length (x .assignments)) (f .rules) (λ x d. d .some) (file-declared text f a .each-rule)))

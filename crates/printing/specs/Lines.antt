@@ -2,7 +2,7 @@
 use Prim.Native.Nat.{ℕ}
 use mathlib.Core.List.{List, _++_, map}
 use Rattle.grammar.specs.Files.{Slot, File, spellings, slot-named, value-named}
-use Rattle.writing.specs.Written.{Pairing, rule-bytes, line-bytes, joined}
+use Rattle.writing.specs.Written.{Pairing, rule-bytes, line-bytes, lines-joined}
 
 -- The line of a slot of a file.
 abbrev pub slot-bytes : Slot → List ℕ
@@ -14,4 +14,4 @@ pair-bytes slots mark p = slot-named slots p .letters ++ (mark ++ value-named sl
 
 -- A file line by line.
 unfoldable pub file-bytes : File → List ℕ
-file-bytes f = joined (map slot-bytes (f .slots)) ++ joined (map (rule-bytes (pair-bytes (f .slots))) (f .rules))
+file-bytes f = lines-joined (map slot-bytes (f .slots)) ++ lines-joined (map (rule-bytes (pair-bytes (f .slots))) (f .rules))

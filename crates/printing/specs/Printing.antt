@@ -15,7 +15,7 @@ use Rattle.printing.specs.declared.Printing.{Printing}
 use Rattle.printing.specs.declared.Printing.the-variants as printing
 
 -- The print of what a text was read as; there is none of a text that is no file.
-unfoldable pub print-of : grammar.Answer → List ℕ
+unfoldable pub print-of : grammar.Parsed → List ℕ
 print-of (grammar.accepted f) = print f
 print-of (grammar.refused k n) = []
 
@@ -29,8 +29,8 @@ after-reading Accepted u = u
 after-reading (Refused k n) u = refused k n
 
 -- What is printed of a text, for an output of so much room; or a refusal with both its numbers.
-unfoldable pub printed : List ℕ → ℕ → OrRefused (List ℕ)
-printed text room = after-reading (reading text .outcome) (fitted (print-of (grammar.read text)) room)
+unfoldable pub print-into : List ℕ → ℕ → OrRefused (List ℕ)
+print-into text room = after-reading (reading text .outcome) (fitted (print-of (grammar.parse text)) room)
 
 -- What the code answers: how many bytes the print takes.
 unfoldable pub printing-of : OrRefused (List ℕ) → Printing

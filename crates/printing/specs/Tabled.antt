@@ -10,7 +10,7 @@ use Rattle.grammar.specs.Standing.{Slots-stand}
 use Rattle.table.specs.declared.Name.{Name}
 use Rattle.table.specs.declared.Table.{Table}
 use Rattle.table.specs.Limits.{slot-limit}
-use Rattle.table.specs.Shape.{no-name}
+use Rattle.table.specs.Shape.{zero-name}
 use Rattle.table.specs.Empty.{unused-slot}
 use Rattle.steps.specs.Spans.{span}
 use Rattle.lines.specs.Index.{slot-for}
@@ -27,7 +27,7 @@ SmallName n = (n .start ≤ max-text) × (n .size < 32)
 
 -- So is each of the names in a list.
 abbrev pub SmallNames : List Name → Type 0
-SmallNames ns = (i : ℕ) → SmallName (getD ns i no-name)
+SmallNames ns = (i : ℕ) → SmallName (getD ns i zero-name)
 
 -- The slots of the table are these, their names stand in the text and are names, and all are within the limits.
 pub record Tabled (text : List ℕ) (slots : List Slot) (t : Table) : Type 0 where

@@ -2,10 +2,10 @@
 ghost use mathlib.Core.Path.{_≡_};
 ghost use lib.ListN.{length};
 ghost use Rattle.laws.specs.Answers.{output-of};
-ghost use Rattle.grammar.specs.Reading.{read};
+ghost use Rattle.grammar.specs.Reading.{parse};
 ghost use Rattle.reader.specs.declared.Outcome.the-variants.{Accepted};
 ghost use Rattle.rule_file.specs.Whole.{reading};
-ghost use Rattle.printing.specs.Printing.{print-of, fitted, printed, printing-of};
+ghost use Rattle.printing.specs.Printing.{print-of, fitted, print-into, printing-of};
 use crate::spans::enter_slots;
 use reader::Outcome;
 use reader::TEXT_LIMIT;
@@ -25,7 +25,7 @@ pub enum Printing {
 // The print of an accepted text's table: counted first, with no room to write, then written where it is within the limit of a text and the output has room.
 fn print_table(text: &[u8], t: Table, out: &mut [u8]) -> Printing
     requires { ⌜ (reading (now text) .outcome ≡ Accepted) × (t ≡ reading (now text) .table) ⌝ }
-    ensures { λ r. ⌜ (r ≡ printing-of (fitted (print-of (read (now (text .entry)))) (length (now (out .entry))))) × (now (out .exit) ≡ output-of (fitted (print-of (read (now (text .entry)))) (length (now (out .entry)))) (now (out .entry))) ⌝ }
+    ensures { λ r. ⌜ (r ≡ printing-of (fitted (print-of (parse (now (text .entry)))) (length (now (out .entry))))) × (now (out .exit) ≡ output-of (fitted (print-of (parse (now (text .entry)))) (length (now (out .entry)))) (now (out .entry))) ⌝ }
 {
     let mut slotspans: [usize; SLOTS] = [0; SLOTS];
     let mut valuespans: [usize; PAIRS] = [0; PAIRS];
@@ -44,7 +44,7 @@ fn print_table(text: &[u8], t: Table, out: &mut [u8]) -> Printing
 
 // Prints any rule text into the output; a refusal leaves all of it, an answer what lies beyond the print.
 pub fn print(text: &[u8], out: &mut [u8]) -> Printing
-    ensures { λ r. ⌜ (r ≡ printing-of (printed (now (text .entry)) (length (now (out .entry))))) × (now (out .exit) ≡ output-of (printed (now (text .entry)) (length (now (out .entry)))) (now (out .entry))) ⌝ }
+    ensures { λ r. ⌜ (r ≡ printing-of (print-into (now (text .entry)) (length (now (out .entry))))) × (now (out .exit) ≡ output-of (print-into (now (text .entry)) (length (now (out .entry)))) (now (out .entry))) ⌝ }
 {
     let read = rule_file::read(text);
     let outcome = read.outcome;

@@ -16,7 +16,7 @@ use Rattle.model.specs.Least.{strata-of}
 use Rattle.table.specs.declared.Table.{Table}
 use Rattle.table.specs.Limits.{slot-limit, value-limit}
 use Rattle.table.specs.Link.{used-rules, rules-of, carried-strata, stratum-at}
-use Rattle.names.specs.Names.{Showing, refused, has-slot, has-value}
+use Rattle.names.specs.Names.{Showing, not-shown, has-slot, has-value}
 use Rattle.grammar.specs.Files.{Slot, File, spellings, no-slot, values-of, slot-counts}
 use Rattle.grammar.specs.Limits.{max-slots}
 use Rattle.style.specs.Printed.{lettered, Agree}
@@ -43,17 +43,17 @@ module _ (ss ss′ : List Slot) (e : map lettered ss ≡ map lettered ss′) whe
 
   -- Slots with the same letters are declared alike,
   slots-alike : (s : ℕ) → declared-slot ss s ≡ declared-slot ss′ s
-  slots-alike s = ap₂ (λ (n : ℕ) (l : List ℕ). cond (has-slot n s) (record { code = 0; part = l }) refused) as-many (head-eq-of-cons-eq (lettered-at s))
+  slots-alike s = ap₂ (λ (n : ℕ) (l : List ℕ). cond (has-slot n s) (record { code = 0; part = l }) not-shown) as-many (head-eq-of-cons-eq (lettered-at s))
 
   -- and so are their values.
   values-alike : (s v : ℕ) → declared-value ss s v ≡ declared-value ss′ s v
-  values-alike s v = ap₂ (λ (n : ℕ) (x : Showing). cond (has-slot n s) x refused) as-many (by-letters (values-of ss s) ∙ ap shown (tail-eq-of-cons-eq (lettered-at s)) ∙ sym (by-letters (values-of ss′ s)))
+  values-alike s v = ap₂ (λ (n : ℕ) (x : Showing). cond (has-slot n s) x not-shown) as-many (by-letters (values-of ss s) ∙ ap shown (tail-eq-of-cons-eq (lettered-at s)) ∙ sym (by-letters (values-of ss′ s)))
     where
       shown : List (List ℕ) → Showing
-      shown ls = cond (has-value (length ls) v) (record { code = 0; part = getD ls (v - 1) [] }) refused
+      shown ls = cond (has-value (length ls) v) (record { code = 0; part = getD ls (v - 1) [] }) not-shown
 
-      by-letters : (ns : List Name) → cond (has-value (length ns) v) (record { code = 0; part = getD ns (v - 1) (no-slot .name) .letters }) refused ≡ shown (spellings ns)
-      by-letters ns = ap₂ (λ (n : ℕ) (l : List ℕ). cond (has-value n v) (record { code = 0; part = l }) refused) (sym (spellings-length ns)) (sym (letters-at ns (v - 1)))
+      by-letters : (ns : List Name) → cond (has-value (length ns) v) (record { code = 0; part = getD ns (v - 1) (no-slot .name) .letters }) not-shown ≡ shown (spellings ns)
+      by-letters ns = ap₂ (λ (n : ℕ) (l : List ℕ). cond (has-value n v) (record { code = 0; part = l }) not-shown) (sym (spellings-length ns)) (sym (letters-at ns (v - 1)))
 
 -- What a slot that is there is shown as,
 slot-told : (ss : List Slot) (s : ℕ) → length ss ≤ slot-limit → s < length ss → declared-slot ss s ≡ record { code = 0; part = getD ss s no-slot .name .letters }

@@ -10,16 +10,16 @@ use Rattle.grammar.specs.Limits.{max-text}
 use Rattle.grammar.proofs.Cases.{after-slots}
 use Rattle.style.proofs.Cases.{prints, lines}
 use Rattle.rule_file.proofs.Cases.{runs}
-use Rattle.printing.specs.Printing.{print-of, fitted, after-reading, printed}
+use Rattle.printing.specs.Printing.{print-of, fitted, after-reading, print-into}
 
 -- `unfolding runs-print` opens all that a print runs.
 unfoldable runs-print : Unit {0}
-unfolding runs prints print-of fitted after-reading printed
+unfolding runs prints print-of fitted after-reading print-into
 runs-print = tt
 
 -- The print of rules after the slots of document 01's cases, into an output as long as a text may be.
 abbrev case-printed : String → OrRefused (List ℕ)
-case-printed s = printed (after-slots s) max-text
+case-printed s = print-into (after-slots s) max-text
 
 -- What it comes to: these slots and the lines of rules.
 abbrev as-lines : List String → OrRefused (List ℕ)
@@ -62,20 +62,20 @@ case-J = refl
 abbrev one-slot : List ℕ
 one-slot = bytes "SLOT x{0,1};"
 
-pub case-edge : (printed one-slot 16 ≡ refused 33 0) × (printed one-slot 17 ≡ taken (lines ("SLOT x { 0, 1 };" ∷ []))) × (printed one-slot 99 ≡ printed one-slot 17)
+pub case-edge : (print-into one-slot 16 ≡ refused 33 0) × (print-into one-slot 17 ≡ taken (lines ("SLOT x { 0, 1 };" ∷ []))) × (print-into one-slot 99 ≡ print-into one-slot 17)
 unfolding runs-print
 case-edge = (refl, refl, refl)
 
 -- Into no room: a circle through a NOT is 18 with rule 1; and a text refused with 12.
-pub case-18-first : printed (after-slots "WHEN x *= 1 IF NOT z *= 1 THEN y := 1; WHEN y *= 1 IF TRUE THEN z := 1;") 0 ≡ refused 18 1
+pub case-18-first : print-into (after-slots "WHEN x *= 1 IF NOT z *= 1 THEN y := 1; WHEN y *= 1 IF TRUE THEN z := 1;") 0 ≡ refused 18 1
 unfolding runs-print
 case-18-first = refl
 
-pub case-12-first : printed (bytes "SLOT x {0,1}; SLOT") 0 ≡ refused 12 0
+pub case-12-first : print-into (bytes "SLOT x {0,1}; SLOT") 0 ≡ refused 12 0
 unfolding runs-print
 case-12-first = refl
 
 -- The empty text, and white alone, into no room.
-pub case-nothing : (printed [] 0 ≡ taken []) × (printed (bytes "  ") 0 ≡ taken [])
+pub case-nothing : (print-into [] 0 ≡ taken []) × (print-into (bytes "  ") 0 ≡ taken [])
 unfolding runs-print
 case-nothing = (refl, refl)

@@ -23,7 +23,7 @@ use Rattle.laws.specs.Answers.{taken, refused, after}
 use Rattle.cards.specs.Forms.{card-fields, change-fields, slip-fields, card-bytes, slip-bytes, values-in, changes-in, values-test, card-test, change-fault, changes-test, read-card, read-slip}
 use Rattle.results.specs.Record.{ones-in}
 use Rattle.response.specs.Ending.{fired-record, answer-of, unless-conflict, answer-by-firing}
-use Rattle.response.specs.Respond.{_then_, if-room, answer-by-rules, answer-by-table, answer-to, counted, tally-after}
+use Rattle.response.specs.Respond.{_and-then_, if-room, answer-by-rules, answer-by-table, answer-to, counted, tally-after}
 use Rattle.tally.specs.Counting.{is-full}
 use Rattle.promises.specs.Agreement.{bit-of}
 use Rattle.promises.specs.Day.{fresh}
@@ -41,7 +41,7 @@ runs-cards = tt
 
 -- What a response and its listing run.
 unfoldable runs-response : Unit {0}
-unfolding fired-record ones ones-in answer-of unless-conflict answer-by-firing _then_ if-room answer-by-rules answer-by-table if-sound is-full answer-to counted tally-after show-name show-slot show-value-of show-value bit-of list-response list-reading listing
+unfolding fired-record ones ones-in answer-of unless-conflict answer-by-firing _and-then_ if-room answer-by-rules answer-by-table if-sound is-full answer-to counted tally-after show-name show-slot show-value-of show-value bit-of list-response list-reading listing
 runs-response = tt
 
 -- `unfolding lists` opens all that a listing runs.
@@ -101,8 +101,8 @@ abbrev change : String → String → ChangeLine
 change s v = record { slot = bytes s; value = bytes v }
 
 -- What is listed of an answer on a fresh tally, which leaves 1 and 0.
-abbrev answered : List RuleLine → List ChangeLine → List ℕ → Listing
-answered rs cs card = listed rs cs card (record { answered = 1; refused = 0 })
+abbrev shows-answer : List RuleLine → List ChangeLine → List ℕ → Listing
+shows-answer rs cs card = listed rs cs card (record { answered = 1; refused = 0 })
 
 -- A case: a text, a card and a slip, and what is listed of them.
 pub record Case : Type 0 where
@@ -118,15 +118,15 @@ case text card slip u = record { text = text; card = card; slip = slip; comes-to
 -- F: a, b, card 0C 00 00: only x changes. G: a, slip x to 0: no rule fires. H: 40, slot 0. I: TRUE AND y |= 0 reads. J: y |= 0 AND TRUE is 12. K: card 0C 44 C0 is 22, slot 2. L: 0C 44 41 is 23.
 abbrev pub lettered : List Case
 lettered =
-    case (after-slots rule-a) all-0 x-to-1 (answered (fired 1 ∷ []) (change "x" "1" ∷ change "z" "1" ∷ []) (0x0C ∷ 0x84 ∷ 0x80 ∷ []))
-    ∷ case (after-slots rule-b) all-0 x-to-1 (answered (idle 1 ∷ []) (change "x" "1" ∷ []) (0x0C ∷ 0x84 ∷ 0x40 ∷ []))
-    ∷ case text-C all-0 x-to-1 (answered (fired 1 ∷ fired 1 ∷ []) (change "x" "1" ∷ change "y" "1" ∷ change "z" "1" ∷ []) (0x0C ∷ 0x88 ∷ 0x80 ∷ []))
-    ∷ case (after-slots rule-a ++ bytes rule-c) all-0 y-to-1 (answered (idle 1 ∷ idle 1 ∷ []) (change "y" "1" ∷ []) (0x0C ∷ 0x48 ∷ 0x40 ∷ []))
-    ∷ case (after-slots rule-d ++ bytes rule-e) all-0 y-to-1 (answered (idle 2 ∷ fired 1 ∷ []) (change "x" "1" ∷ change "y" "1" ∷ []) (0x0C ∷ 0x88 ∷ 0x40 ∷ []))
-    ∷ case text-C no-values x-to-1 (answered (idle 1 ∷ idle 1 ∷ []) (change "x" "1" ∷ []) (0x0C ∷ 0x80 ∷ 0x00 ∷ []))
-    ∷ case (after-slots rule-a) all-0 x-to-0 (answered (idle 1 ∷ []) (change "x" "0" ∷ []) all-0)
+    case (after-slots rule-a) all-0 x-to-1 (shows-answer (fired 1 ∷ []) (change "x" "1" ∷ change "z" "1" ∷ []) (0x0C ∷ 0x84 ∷ 0x80 ∷ []))
+    ∷ case (after-slots rule-b) all-0 x-to-1 (shows-answer (idle 1 ∷ []) (change "x" "1" ∷ []) (0x0C ∷ 0x84 ∷ 0x40 ∷ []))
+    ∷ case text-C all-0 x-to-1 (shows-answer (fired 1 ∷ fired 1 ∷ []) (change "x" "1" ∷ change "y" "1" ∷ change "z" "1" ∷ []) (0x0C ∷ 0x88 ∷ 0x80 ∷ []))
+    ∷ case (after-slots rule-a ++ bytes rule-c) all-0 y-to-1 (shows-answer (idle 1 ∷ idle 1 ∷ []) (change "y" "1" ∷ []) (0x0C ∷ 0x48 ∷ 0x40 ∷ []))
+    ∷ case (after-slots rule-d ++ bytes rule-e) all-0 y-to-1 (shows-answer (idle 2 ∷ fired 1 ∷ []) (change "x" "1" ∷ change "y" "1" ∷ []) (0x0C ∷ 0x88 ∷ 0x40 ∷ []))
+    ∷ case text-C no-values x-to-1 (shows-answer (idle 1 ∷ idle 1 ∷ []) (change "x" "1" ∷ []) (0x0C ∷ 0x80 ∷ 0x00 ∷ []))
+    ∷ case (after-slots rule-a) all-0 x-to-0 (shows-answer (idle 1 ∷ []) (change "x" "0" ∷ []) all-0)
     ∷ case (after-slots "WHEN x *= 1 IF TRUE THEN x := 0;") all-0 x-to-1 (refusal 40 0)
-    ∷ case (after-slots "WHEN x *= 1 IF TRUE AND y |= 0 THEN z := 1;") all-0 x-to-1 (answered (fired 1 ∷ []) (change "x" "1" ∷ change "z" "1" ∷ []) (0x0C ∷ 0x84 ∷ 0x80 ∷ []))
+    ∷ case (after-slots "WHEN x *= 1 IF TRUE AND y |= 0 THEN z := 1;") all-0 x-to-1 (shows-answer (fired 1 ∷ []) (change "x" "1" ∷ change "z" "1" ∷ []) (0x0C ∷ 0x84 ∷ 0x80 ∷ []))
     ∷ case (after-slots "WHEN x *= 1 IF y |= 0 AND TRUE THEN z := 1;") all-0 x-to-1 (refusal 12 0)
     ∷ case text-C (0x0C ∷ 0x44 ∷ 0xC0 ∷ []) x-to-1 (refusal 22 2)
     ∷ case text-C (0x0C ∷ 0x44 ∷ 0x41 ∷ []) x-to-1 (refusal 23 0)

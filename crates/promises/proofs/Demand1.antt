@@ -10,14 +10,14 @@ use Rattle.laws.proofs.Equations.{is-true, from-true}
 use Rattle.table.specs.declared.Table.{Table}
 use Rattle.table.specs.declared.Name.{Name}
 use Rattle.table.specs.declared.Slot.{Slot}
-use Rattle.table.specs.Shape.{no-slot, no-name}
+use Rattle.table.specs.Shape.{zero-slot, zero-name}
 use Rattle.table.specs.Link.{value-counts}
 use Rattle.names.specs.Names.{Showing, has-slot, has-value, show-name, show-slot, show-value-of, show-value}
 use Rattle.names.specs.Names as names
 use Rattle.soundness.specs.Sound.{sound}
 use Rattle.laws.specs.Answers.{OrRefused, taken, refused, output-of}
 use Rattle.cards.specs.Forms.{read-card, read-slip, write-card, write-slip}
-use Rattle.cards.specs.Cards.{values-of, changes-of, if-sound, unpacked-card, unpacked-slip, packed-card, packed-slip}
+use Rattle.cards.specs.Cards.{card-values, changes-of, if-sound, unpacked-card, unpacked-slip, packed-card, packed-slip}
 use Rattle.tally.specs.declared.Tally.{Tally}
 use Rattle.tally.specs.Counting.{is-full, one-refused}
 use Rattle.response.specs.Respond.{Rooms, answer-to, counted, tally-after, response-to, outputs-after}
@@ -35,7 +35,7 @@ sound-first ns t u m h = only-cond (OneOf ns) (sound t) u (refused 31 0) h m
 abbrev Shown : Showing → Type 0
 Shown s = OneOf (0 ∷ 31 ∷ []) (s .code)
 
-shown-if : (b : Bool) (s : Showing) → Shown s → Shown (cond b s names.refused)
+shown-if : (b : Bool) (s : Showing) → Shown s → Shown (cond b s names.not-shown)
 shown-if true s h = h
 shown-if false s h = one-of (0 ∷ 31 ∷ []) 31 tt
 
@@ -45,7 +45,7 @@ name-shown text n = shown-if (leb (n .start + n .size) (length text)) (record { 
 
 value-of-shown : (text : List ℕ) (s : Slot) (value : ℕ) → Shown (show-value-of text s value)
 unfolding show-value-of
-value-of-shown text s value = shown-if (has-value (s .count) value) (show-name text (getD (s .values) (value - 1) no-name)) (name-shown text _)
+value-of-shown text s value = shown-if (has-value (s .count) value) (show-name text (getD (s .values) (value - 1) zero-name)) (name-shown text _)
 
 -- The tally after a refusal.
 counts : (t : Table) (y : Tally) (card slip : List ℕ) (rooms : Rooms) (k s : ℕ) → answer-to t y card slip rooms ≡ refused k s → ¬ (k ≡ 32) → response-to t y card slip rooms .tally ≡ one-refused y
@@ -70,13 +70,13 @@ demand-1 = record {
       (only-more (OneOf of-card) (OneOf (31 ∷ of-card)) (one-of-more of-card (31 ∷ of-card) tt) (read-card (value-counts t) ys) (card-refused (value-counts t) ys));
   slip-unpacked = λ t ys. sound-first (31 ∷ of-slip) t (read-slip (value-counts t) ys) (one-of (31 ∷ of-slip) 31 tt)
       (only-more (OneOf of-slip) (OneOf (31 ∷ of-slip)) (one-of-more of-slip (31 ∷ of-slip) tt) (read-slip (value-counts t) ys) (slip-refused (value-counts t) ys));
-  card-packed = λ t c room. sound-first of-card-packed t (write-card (value-counts t) (values-of c) room) (one-of of-card-packed 31 tt) (card-write-refused (value-counts t) (values-of c) room);
+  card-packed = λ t c room. sound-first of-card-packed t (write-card (value-counts t) (card-values c) room) (one-of of-card-packed 31 tt) (card-write-refused (value-counts t) (card-values c) room);
   slip-packed = λ t c room. sound-first of-slip-packed t (write-slip (value-counts t) (changes-of c) room) (one-of of-slip-packed 31 tt) (slip-write-refused (value-counts t) (changes-of c) room);
   output-kept = λ u k s out e. ap (λ (w : OrRefused (List ℕ)). output-of w out) e;
-  answered = response-refused;
+  responded = response-refused;
   outputs-kept = λ t y card slip rooms k s o e. ap (λ w. outputs-after w o) e;
   counted = counts;
   not-counted = λ t y card slip rooms s e. rw (is-true (is-full y) (only-full t y card slip rooms s e)) refl;
-  slot-shown = λ text t slot. shown-if (has-slot (t .width) slot) (show-name text (getD (t .slots) slot no-slot .name)) (name-shown text _);
-  value-shown = λ text t slot value. shown-if (has-slot (t .width) slot) (show-value-of text (getD (t .slots) slot no-slot) value) (value-of-shown text _ value);
+  slot-shown = λ text t slot. shown-if (has-slot (t .width) slot) (show-name text (getD (t .slots) slot zero-slot .name)) (name-shown text _);
+  value-shown = λ text t slot value. shown-if (has-slot (t .width) slot) (show-value-of text (getD (t .slots) slot zero-slot) value) (value-of-shown text _ value);
 }

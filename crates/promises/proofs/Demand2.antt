@@ -63,8 +63,8 @@ demand-2 = record {
   accepted = reading-accepted-iff;
   no-strata = reading-no-strata-iff;
   circle = reading-18-iff;
-  answered = λ text f h o y card slip rooms a e. answer text f h o card slip a (demand-3 text f h o .where-answered y card slip rooms a e);
-  conflicting = λ text f h o y card slip rooms s e. conflict text f h o card slip s (demand-3 text f h o .where-40 y card slip rooms s e);
+  each-answer = λ text f h o y card slip rooms a e. answer text f h o card slip a (demand-3 text f h o .where-answered y card slip rooms a e);
+  each-conflict = λ text f h o y card slip rooms s e. conflict text f h o card slip s (demand-3 text f h o .where-40 y card slip rooms s e);
   card-back = unpack-pack-card;
   slip-back = unpack-pack-slip;
 }

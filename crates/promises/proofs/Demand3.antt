@@ -25,7 +25,7 @@ use Rattle.promises.proofs.Rearranged.{unmoved}
 pub demand-3 : (text : List ℕ) (f : File) → Is-file text f → reading text .outcome ≡ Accepted → Demand3 text f
 unfolding answer-by-firing
 demand-3 text f h o = record {
-  where-answered = λ y card slip rooms a e. answered card slip a (response-ends text f h o y card slip rooms (taken a) tt e);
+  where-answered = λ y card slip rooms a e. shows-answer card slip a (response-ends text f h o y card slip rooms (taken a) tt e);
   where-40 = λ y card slip rooms s e. conflicting card slip s (response-ends text f h o y card slip rooms (refused 40 s) refl e);
   where-rearranged = unmoved text f h o;
 }
@@ -33,8 +33,8 @@ demand-3 text f h o = record {
     declared : Declared-file f
     declared = file-declared text f h
 
-    answered : (card slip : List ℕ) (a : Answer) → Ended f card slip (taken a) → Agreed f card slip (λ S I ns. Shows f S I a ns)
-    answered card slip a e =
+    shows-answer : (card slip : List ℕ) (a : Answer) → Ended f card slip (taken a) → Agreed f card slip (λ S I ns. Shows f S I a ns)
+    shows-answer card slip a e =
         let c = card-tested (slot-counts (f .slots)) card (e .S) (e .card-is) in
         let i = slip-tested (slot-counts (f .slots)) slip (e .I) (e .slip-is) in
         let z = file-no-circle text f h o in

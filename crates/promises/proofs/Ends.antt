@@ -30,7 +30,7 @@ use Rattle.laws.specs.Answers.{OrRefused, taken, refused}
 use Rattle.cards.specs.Forms.{card-bits, read-card, read-slip}
 use Rattle.tally.specs.declared.Tally.{Tally}
 use Rattle.response.specs.Ending.{Answer, answer-of, unless-conflict, answer-by-firing}
-use Rattle.response.specs.Respond.{_then_, Rooms, changes-room, if-room, answer-by-rules, answer-by-table, answer-to}
+use Rattle.response.specs.Respond.{_and-then_, Rooms, changes-room, if-room, answer-by-rules, answer-by-table, answer-to}
 use Rattle.tally.specs.Counting.{is-full}
 use Rattle.promises.specs.Agreement.{responds}
 use Rattle.promises.specs.Refusals.{Only, OneOf, of-card, of-slip}
@@ -58,8 +58,8 @@ abbrev pub Final : OrRefused Answer → Type 0
 Final (taken a) = Unit
 Final (refused k s) = k ≡ 40
 
-then-back : {A : Type 0} (u : OrRefused A) (f : A → OrRefused Answer) (w : OrRefused Answer) → Final w → Only (Other 40) u → (u then f) ≡ w → (a : A) × (u ≡ taken a) × (f a ≡ w)
-unfolding _then_
+then-back : {A : Type 0} (u : OrRefused A) (f : A → OrRefused Answer) (w : OrRefused Answer) → Final w → Only (Other 40) u → (u and-then f) ≡ w → (a : A) × (u ≡ taken a) × (f a ≡ w)
+unfolding _and-then_
 then-back (taken a) f w l h e = (a, refl, e)
 then-back (refused k s) f w l h e = absurd (h (subst Final (sym e) l))
 

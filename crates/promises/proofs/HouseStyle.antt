@@ -17,7 +17,7 @@ use Rattle.soundness.specs.Sound.{sound}
 use Rattle.grammar.specs.Limits.{max-text}
 use Rattle.grammar.specs.Files.{File}
 use Rattle.grammar.specs.Meaning.{Is-file}
-use Rattle.grammar.specs.Reading.{accepted, read}
+use Rattle.grammar.specs.Reading.{accepted, parse}
 use Rattle.grammar.proofs.Accepts.{accepts-iff, one-meaning}
 use Rattle.style.specs.Layout.{by-letters}
 use Rattle.style.specs.Printed.{print, Agree}
@@ -28,7 +28,7 @@ use Rattle.reader.specs.declared.Outcome.the-variants.{Accepted}
 use Rattle.rule_file.specs.Whole.{reading}
 use Rattle.rule_file.specs.Carries.{Carries}
 use Rattle.rule_file.proofs.Answers.{reading-accepted-iff, reading-carries, reading-passes}
-use Rattle.printing.specs.Printing.{print-of, printed}
+use Rattle.printing.specs.Printing.{print-of, print-into}
 use Rattle.printing.proofs.Fitting.{print-is, refused-first}
 use Rattle.cards.specs.Cards.{if-sound}
 use Rattle.tally.specs.declared.Tally.{Tally}
@@ -39,7 +39,7 @@ use Rattle.promises.proofs.Outcomes.{comes-34, comes-33, comes-whole, i
 use Rattle.promises.proofs.Alike.{agree-alike, alike-agree}
 
 -- The print of every accepted text is in the style, whatever its length.
-style : (text : List ℕ) → reading text .outcome ≡ Accepted → InStyle text (print-of (read text))
+style : (text : List ℕ) → reading text .outcome ≡ Accepted → InStyle text (print-of (parse text))
 unfolding print
 style text o =
     let c = reading-carries text o in
@@ -55,7 +55,7 @@ style text o =
     }
 
 -- Two accepted texts print alike exactly when they are alike.
-alike-iff : (text text′ : List ℕ) → reading text .outcome ≡ Accepted → reading text′ .outcome ≡ Accepted → (print-of (read text) ≡ print-of (read text′)) ↔ Alike text text′
+alike-iff : (text text′ : List ℕ) → reading text .outcome ≡ Accepted → reading text′ .outcome ≡ Accepted → (print-of (parse text) ≡ print-of (parse text′)) ↔ Alike text text′
 alike-iff text text′ o o′ = (there, back)
   where
     c : Carries text (reading text .table)
@@ -70,16 +70,16 @@ alike-iff text text′ o o′ = (there, back)
     g : File
     g = c′ .file
 
-    there : print-of (read text) ≡ print-of (read text′) → Alike text text′
+    there : print-of (parse text) ≡ print-of (parse text′) → Alike text text′
     there e = agree-alike text text′ c c′
         (print-agree text text′ f g (accepts-iff text f .1 (c .is-file)) (accepts-iff text′ g .1 (c′ .is-file)) (sym (print-is text f (c .is-file)) ∙ e ∙ print-is text′ g (c′ .is-file)))
 
-    back : Alike text text′ → print-of (read text) ≡ print-of (read text′)
+    back : Alike text text′ → print-of (parse text) ≡ print-of (parse text′)
     back a = print-is text f (c .is-file) ∙ agree-print f g (alike-agree text text′ c c′ a) ∙ sym (print-is text′ g (c′ .is-file))
 
 -- A print within the limit is accepted, and alike.
-reads-back : (text : List ℕ) → reading text .outcome ≡ Accepted → length (print-of (read text)) ≤ max-text
-    → (reading (print-of (read text)) .outcome ≡ Accepted) × Alike text (print-of (read text))
+reads-back : (text : List ℕ) → reading text .outcome ≡ Accepted → length (print-of (parse text)) ≤ max-text
+    → (reading (print-of (parse text)) .outcome ≡ Accepted) × Alike text (print-of (parse text))
 reads-back text o l = subst (λ (b : List ℕ). (reading b .outcome ≡ Accepted) × Alike text b) (sym p) (o′, agree-alike text (print f) c c′ (subst (Agree f) (one-meaning (print f) g (c′ .file) h (c′ .is-file)) (r .2)))
   where
     c : Carries text (reading text .table)
@@ -88,10 +88,10 @@ reads-back text o l = subst (λ (b : List ℕ). (reading b .outcome ≡ Accepted
     f : File
     f = c .file
 
-    p : print-of (read text) ≡ print f
+    p : print-of (parse text) ≡ print f
     p = print-is text f (c .is-file)
 
-    r : (g : File) × (read (print f) ≡ accepted g) × Agree f g
+    r : (g : File) × (parse (print f) ≡ accepted g) × Agree f g
     r = print-read text f (accepts-iff text f .1 (c .is-file)) (subst (λ (b : List ℕ). length b ≤ max-text) p l)
 
     g : File
@@ -110,11 +110,11 @@ reads-back text o l = subst (λ (b : List ℕ). (reading b .outcome ≡ Accepted
     c′ = reading-carries (print f) o′
 
 -- What is printed is the text's print, and so all that is said of it.
-module _ (text : List ℕ) (room : ℕ) (bytes : List ℕ) (e : printed text room ≡ taken bytes) where
+module _ (text : List ℕ) (room : ℕ) (bytes : List ℕ) (e : print-into text room ≡ taken bytes) where
   is-accepted : reading text .outcome ≡ Accepted
   is-accepted = is-whole text room bytes e .0
 
-  is-print : bytes ≡ print-of (read text)
+  is-print : bytes ≡ print-of (parse text)
   is-print = is-whole text room bytes e .1
 
   short : length bytes ≤ max-text
@@ -123,15 +123,15 @@ module _ (text : List ℕ) (room : ℕ) (bytes : List ℕ) (e : printed text roo
   back : (reading bytes .outcome ≡ Accepted) × Alike text bytes
   back = subst (λ (b : List ℕ). (reading b .outcome ≡ Accepted) × Alike text b) (sym is-print) (reads-back text is-accepted (subst (λ (b : List ℕ). length b ≤ max-text) is-print short))
 
-  once-more : (room′ : ℕ) → length bytes ≤ room′ → printed bytes room′ ≡ taken bytes
+  once-more : (room′ : ℕ) → length bytes ≤ room′ → print-into bytes room′ ≡ taken bytes
   once-more room′ l =
-      let p : print-of (read bytes) ≡ bytes = sym (alike-iff text bytes is-accepted (back .0) .1 (back .1)) ∙ sym is-print in
+      let p : print-of (parse bytes) ≡ bytes = sym (alike-iff text bytes is-accepted (back .0) .1 (back .1)) ∙ sym is-print in
       comes-whole bytes room′ (back .0, rw p short, rw p l) ∙ ap taken p
 
-  other : (text′ : List ℕ) → reading text′ .outcome ≡ Accepted → (printed text′ room ≡ taken bytes) ↔ Alike text text′
+  other : (text′ : List ℕ) → reading text′ .outcome ≡ Accepted → (print-into text′ room ≡ taken bytes) ↔ Alike text text′
   other text′ o′ = (λ d. alike-iff text text′ is-accepted o′ .0 (sym is-print ∙ is-whole text′ room bytes d .1), λ a. same (is-print ∙ alike-iff text text′ is-accepted o′ .1 a))
     where
-      same : bytes ≡ print-of (read text′) → printed text′ room ≡ taken bytes
+      same : bytes ≡ print-of (parse text′) → print-into text′ room ≡ taken bytes
       same p = comes-whole text′ room (o′, subst (λ (b : List ℕ). length b ≤ max-text) p short, subst (λ (b : List ℕ). length b ≤ room) p (is-whole text room bytes e .3)) ∙ ap taken (sym p)
 
 -- Tables that have the same counts and rules, and pass 31, answer alike.
@@ -156,6 +156,6 @@ house-style = record {
   exactly-printed = λ text room bytes. (is-whole text room bytes, λ h. full text room bytes h);
 }
   where
-    full : (text : List ℕ) (room : ℕ) (bytes : List ℕ) → (reading text .outcome ≡ Accepted) × (bytes ≡ print-of (read text)) × (length bytes ≤ max-text) × (length bytes ≤ room) → printed text room ≡ taken bytes
+    full : (text : List ℕ) (room : ℕ) (bytes : List ℕ) → (reading text .outcome ≡ Accepted) × (bytes ≡ print-of (parse text)) × (length bytes ≤ max-text) × (length bytes ≤ room) → print-into text room ≡ taken bytes
     full text room bytes h =
         comes-whole text room (h .0, subst (λ (b : List ℕ). length b ≤ max-text) (h .1) (h .2), subst (λ (b : List ℕ). length b ≤ room) (h .1) (h .3)) ∙ ap taken (sym (h .1))

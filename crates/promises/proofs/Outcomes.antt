@@ -18,7 +18,7 @@ use Rattle.table.specs.Empty.{empty-table}
 use Rattle.grammar.specs.Limits.{max-text}
 use Rattle.grammar.specs.Files.{File}
 use Rattle.grammar.specs.Reading as grammar
-use Rattle.grammar.specs.Reading.{Answer, accepted, read}
+use Rattle.grammar.specs.Reading.{Parsed, accepted, parse}
 use Rattle.grammar.specs.Refusals.{Fault, no-token, no-place, ends-inside, too-long, in-place}
 use Rattle.grammar.proofs.Refusals.{refusal-stands}
 use Rattle.strata.specs.Layered.{with-strata}
@@ -26,7 +26,7 @@ use Rattle.reader.specs.Tables.{table-for}
 use Rattle.reader.specs.declared.Outcome.the-variants.{Accepted, Refused}
 use Rattle.reader.specs.declared.FileRead.{FileRead}
 use Rattle.rule_file.specs.Whole.{layered, answered-whole, reading}
-use Rattle.printing.specs.Printing.{print-of, printed}
+use Rattle.printing.specs.Printing.{print-of, print-into}
 use Rattle.printing.proofs.Fitting.{fitted-34, fitted-33, fitted-all, refused-first, then-fitted}
 use Rattle.promises.specs.Refusals.{OneOf, Only, of-file, of-print}
 use Rattle.promises.proofs.Refusals.{one-of, one-of-more, one-of-other}
@@ -57,16 +57,16 @@ file-comes f = go (eqb (circle-of weak (f .rules)) 0)
 
 pub text-comes : (text : List ℕ) → Reads (reading text)
 unfolding reading answered-whole
-text-comes text = go (read text) refl
+text-comes text = go (parse text) refl
   where
-    go : (a : Answer) → read text ≡ a → Reads (answered-whole a)
+    go : (a : Parsed) → parse text ≡ a → Reads (answered-whole a)
     go (accepted f) e = file-comes f
     go (grammar.refused k n) e = inr (k, n, ⊎-elim (λ h. rw (h .0) (one-of of-file 10 tt)) (λ h. fault-number k (h .1 .before) (h .1 .after) (h .1 .fault)) (refusal-stands text k n e), refl)
 
 module _ (text : List ℕ) (room : ℕ) where
   -- The print of the text, whatever its length.
   abbrev whole : List ℕ
-  whole = print-of (read text)
+  whole = print-of (parse text)
 
   -- What a print can come to, and where.
   data Prints : OrRefused (List ℕ) → Type 0 where
@@ -75,19 +75,19 @@ module _ (text : List ℕ) (room : ℕ) where
     short : reading text .outcome ≡ Accepted → length whole ≤ max-text → room < length whole → Prints (refused 33 0)
     all : reading text .outcome ≡ Accepted → length whole ≤ max-text → length whole ≤ room → Prints (taken whole)
 
-  pub comes-34 : (reading text .outcome ≡ Accepted) × (max-text < length whole) → printed text room ≡ refused 34 0
+  pub comes-34 : (reading text .outcome ≡ Accepted) × (max-text < length whole) → print-into text room ≡ refused 34 0
   comes-34 h = then-fitted text room (h .0) ∙ fitted-34 whole room (h .1)
 
-  pub comes-33 : (reading text .outcome ≡ Accepted) × (length whole ≤ max-text) × (room < length whole) → printed text room ≡ refused 33 0
+  pub comes-33 : (reading text .outcome ≡ Accepted) × (length whole ≤ max-text) × (room < length whole) → print-into text room ≡ refused 33 0
   comes-33 h = then-fitted text room (h .0) ∙ fitted-33 whole room (h .1) (h .2)
 
-  pub comes-whole : (reading text .outcome ≡ Accepted) × (length whole ≤ max-text) × (length whole ≤ room) → printed text room ≡ taken whole
+  pub comes-whole : (reading text .outcome ≡ Accepted) × (length whole ≤ max-text) × (length whole ≤ room) → print-into text room ≡ taken whole
   comes-whole h = then-fitted text room (h .0) ∙ fitted-all whole room (h .1) (h .2)
 
-  prints : Prints (printed text room)
+  prints : Prints (print-into text room)
   prints = ⊎-elim accepts (λ w. rw (refused-first text room (w .0) (w .1) (ap (λ (r : FileRead). r .outcome) (w .3))) (own-refusal (w .2) (ap (λ (r : FileRead). r .outcome) (w .3)))) (text-comes text)
     where
-      accepts : reading text .outcome ≡ Accepted → Prints (printed text room)
+      accepts : reading text .outcome ≡ Accepted → Prints (print-into text room)
       accepts o =
           ⊎-elim (λ l. ⊎-elim (λ s. rw (comes-whole (o, l, s)) (all o l s)) (λ s. rw (comes-33 (o, l, s)) (short o l s)) (le-or-lt (length whole) room))
           (λ l. rw (comes-34 (o, l)) (over o l)) (le-or-lt (length whole) max-text)
@@ -111,14 +111,14 @@ module _ (text : List ℕ) (room : ℕ) where
   from-taken u bytes (short o l s) e = absurd (let z : _≡_ {A = ℕ} 0 1 = cc in omega arith)
   from-taken u bytes (all o l s) e = let z : bytes ≡ whole = cc in rw z (o, refl, l, s)
 
-  pub is-34 : printed text room ≡ refused 34 0 → (reading text .outcome ≡ Accepted) × (max-text < length whole)
-  is-34 e = from-34 (printed text room) prints e
+  pub is-34 : print-into text room ≡ refused 34 0 → (reading text .outcome ≡ Accepted) × (max-text < length whole)
+  is-34 e = from-34 (print-into text room) prints e
 
-  pub is-33 : printed text room ≡ refused 33 0 → (reading text .outcome ≡ Accepted) × (length whole ≤ max-text) × (room < length whole)
-  is-33 e = from-33 (printed text room) prints e
+  pub is-33 : print-into text room ≡ refused 33 0 → (reading text .outcome ≡ Accepted) × (length whole ≤ max-text) × (room < length whole)
+  is-33 e = from-33 (print-into text room) prints e
 
-  pub is-whole : (bytes : List ℕ) → printed text room ≡ taken bytes → (reading text .outcome ≡ Accepted) × (bytes ≡ whole) × (length bytes ≤ max-text) × (length bytes ≤ room)
-  is-whole bytes e = from-taken (printed text room) bytes prints e
+  pub is-whole : (bytes : List ℕ) → print-into text room ≡ taken bytes → (reading text .outcome ≡ Accepted) × (bytes ≡ whole) × (length bytes ≤ max-text) × (length bytes ≤ room)
+  is-whole bytes e = from-taken (print-into text room) bytes prints e
 
   only-prints : (u : OrRefused (List ℕ)) → Prints u → Only (OneOf of-print) u
   only-prints u (own-refusal {k = k} h o) = one-of-more of-file of-print tt k h
@@ -133,8 +133,8 @@ module _ (text : List ℕ) (room : ℕ) where
   from-own u k s (all o l q) e m = absurd (let z : _≡_ {A = ℕ} 0 1 = cc in omega arith)
 
   -- A refusal of 10 to 18 is the reading's.
-  pub is-own : (k s : ℕ) → printed text room ≡ refused k s → OneOf of-file k → reading text .outcome ≡ Refused k s
-  is-own k s e m = from-own (printed text room) k s prints e m
+  pub is-own : (k s : ℕ) → print-into text room ≡ refused k s → OneOf of-file k → reading text .outcome ≡ Refused k s
+  is-own k s e m = from-own (print-into text room) k s prints e m
 
   no-seconds : (u : OrRefused (List ℕ)) (k s : ℕ) → Prints u → u ≡ refused k s → OneOf (34 ∷ 33 ∷ []) k → s ≡ 0
   no-seconds u k s (own-refusal {k = j} {n = n} h o) e m =
@@ -145,9 +145,9 @@ module _ (text : List ℕ) (room : ℕ) where
   no-seconds u k s (all o l q) e m = absurd (let z : _≡_ {A = ℕ} 0 1 = cc in omega arith)
 
 -- A print is its bytes or one refusal from the list,
-pub print-refused : (text : List ℕ) (room : ℕ) → Only (OneOf of-print) (printed text room)
-print-refused text room = only-prints text room (printed text room) (prints text room)
+pub print-refused : (text : List ℕ) (room : ℕ) → Only (OneOf of-print) (print-into text room)
+print-refused text room = only-prints text room (print-into text room) (prints text room)
 
 -- and 34 and 33 have second number 0.
-pub print-second : (text : List ℕ) (room k s : ℕ) → printed text room ≡ refused k s → OneOf (34 ∷ 33 ∷ []) k → s ≡ 0
-print-second text room k s e m = no-seconds text room (printed text room) k s (prints text room) e m
+pub print-second : (text : List ℕ) (room k s : ℕ) → print-into text room ≡ refused k s → OneOf (34 ∷ 33 ∷ []) k → s ≡ 0
+print-second text room k s e m = no-seconds text room (print-into text room) k s (prints text room) e m

@@ -26,7 +26,7 @@ use Rattle.model.proofs.Rearranged.{accepted-too, whole-too, rearranged-respons
 use Rattle.table.specs.Limits.{row}
 use Rattle.grammar.specs.Files.{File, slot-counts}
 use Rattle.grammar.specs.Meaning.{Is-file}
-use Rattle.grammar.specs.Reading.{accepted, read}
+use Rattle.grammar.specs.Reading.{accepted, parse}
 use Rattle.grammar.specs.Pieces.{Rearranges}
 use Rattle.grammar.proofs.Accepts.{accepts-iff}
 use Rattle.grammar.proofs.Rearranged.{rearranged-text}
@@ -40,7 +40,7 @@ use Rattle.response.specs.declared.Outcome.{Outcome}
 use Rattle.response.specs.declared.Outcome.the-variants.{Answered}
 use Rattle.results.specs.Record.{ones-in}
 use Rattle.response.specs.Ending.{Answer, fired-record, answer-of, unless-conflict, answer-by-firing}
-use Rattle.response.specs.Respond.{_then_, Rooms, changes-room, if-room, answer-by-rules, outcome-of, counted, tally-after, response-to}
+use Rattle.response.specs.Respond.{_and-then_, Rooms, changes-room, if-room, answer-by-rules, outcome-of, counted, tally-after, response-to}
 use Rattle.tally.specs.Counting.{is-full}
 use Rattle.promises.specs.Agreement.{bit-of, responds, SameResponse, same-refusal, same-answer, Unmoved}
 use Rattle.promises.proofs.FiredBits.{record-bit, record-ones}
@@ -51,8 +51,8 @@ module _ (place : ℕ → ℕ) where
   same-cond true k s u v h = same-refusal
   same-cond false k s u v h = h
 
-  same-then : {A : Type 0} (u : OrRefused A) (f g : A → OrRefused Answer) → ((a : A) → SameResponse place (f a) (g a)) → SameResponse place (u then f) (u then g)
-  unfolding _then_
+  same-then : {A : Type 0} (u : OrRefused A) (f g : A → OrRefused Answer) → ((a : A) → SameResponse place (f a) (g a)) → SameResponse place (u and-then f) (u and-then g)
+  unfolding _and-then_
   same-then (taken a) f g h = h a
   same-then (refused k s) f g h = same-refusal
 
@@ -133,7 +133,7 @@ unmoved text f h o text′ R = record {
     place : ℕ → ℕ
     place = under (goes (R .rules))
 
-    moved : (rules′ : List Rule) × (read text′ ≡ accepted (record { slots = f .slots; rules = rules′ })) × (q : Perm (f .rules) rules′) × ((i : ℕ) → goes q i ≡ goes (R .rules) i)
+    moved : (rules′ : List Rule) × (parse text′ ≡ accepted (record { slots = f .slots; rules = rules′ })) × (q : Perm (f .rules) rules′) × ((i : ℕ) → goes q i ≡ goes (R .rules) i)
     moved = rearranged-text text text′ f (accepts-iff text f .1 h) R
 
     z : circle-of weak (f .rules) ≡ 0

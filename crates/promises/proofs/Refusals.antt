@@ -22,7 +22,7 @@ use Rattle.laws.specs.Answers.{Verdict, passed, fault, OrRefused, taken, refuse
 use Rattle.cards.specs.Forms.{count-in, card-bits, slip-bits, padding, values-in, changes-in, values-test, card-test, change-fault, changes-test, slip-test, card-bytes, slip-bytes, read-card, read-slip, write-card, write-slip}
 use Rattle.response.specs.Ending.{answer-of, unless-conflict, answer-by-firing}
 use Rattle.tally.specs.declared.Tally.{Tally}
-use Rattle.response.specs.Respond.{_then_, Rooms, changes-room, if-room, answer-by-rules, answer-by-table, answer-to}
+use Rattle.response.specs.Respond.{_and-then_, Rooms, changes-room, if-room, answer-by-rules, answer-by-table, answer-to}
 use Rattle.tally.specs.Counting.{is-full}
 use Rattle.promises.specs.Refusals.{OneOf, Only, of-card, of-slip, of-card-packed, of-slip-packed, of-rules, of-response}
 
@@ -47,8 +47,8 @@ unfolding after
 only-after P passed u g h = h
 only-after P (fault k s) u g h = g
 
-pub only-then : {A B : Type 0} (P : ℕ → Type 0) (u : OrRefused A) (f : A → OrRefused B) → Only P u → ((a : A) → Only P (f a)) → Only P (u then f)
-unfolding _then_
+pub only-then : {A B : Type 0} (P : ℕ → Type 0) (u : OrRefused A) (f : A → OrRefused B) → Only P u → ((a : A) → Only P (f a)) → Only P (u and-then f)
+unfolding _and-then_
 only-then P (taken a) f g h = h a
 only-then P (refused k s) f g h = g
 

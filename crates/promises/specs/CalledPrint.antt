@@ -5,21 +5,21 @@ use mathlib.Core.List.{List, [], _∷_}
 use lib.ListN.{length}
 use Rattle.laws.specs.Answers.{written, output-of}
 use Rattle.grammar.specs.Limits.{max-text}
-use Rattle.grammar.specs.Reading.{read}
+use Rattle.grammar.specs.Reading.{parse}
 use Rattle.reader.specs.declared.Outcome.the-variants.{Accepted}
 use Rattle.reader.specs.Tables as reader
 use Rattle.rule_file.specs.Whole.{reading}
 use Rattle.printing.specs.declared.Printing.{Printing}
-use Rattle.printing.specs.Printing.{print-of, printed, printing-of, printing-refusal, printing-second, printing-length}
+use Rattle.printing.specs.Printing.{print-of, print-into, printing-of, printing-refusal, printing-second, printing-length}
 use Rattle.promises.specs.Refusals.{OneOf, of-file, of-print}
 use Rattle.promises.specs.HouseStyle.{Alike, InStyle}
 
 -- What `print` answers for a text and an output, and what the output holds afterwards, by its contract.
 abbrev pub print-told : List ℕ → List ℕ → Printing
-print-told text out = printing-of (printed text (length out))
+print-told text out = printing-of (print-into text (length out))
 
 abbrev pub print-left : List ℕ → List ℕ → List ℕ
-print-left text out = output-of (printed text (length out)) out
+print-left text out = output-of (print-into text (length out)) out
 
 -- No refusal: the output holds, at its front, as many bytes as are told, and beyond them what it held. They are in the style what the text says, and are read as what it is read as.
 pub record PrintGiven (text out : List ℕ) : Type 0 where
@@ -38,10 +38,10 @@ pub record PrintRefused (text out : List ℕ) : Type 0 where
   pub no-length : printing-length (print-told text out) ≡ 0
   pub listed : OneOf of-print (printing-refusal (print-told text out))
   pub own : OneOf of-file (printing-refusal (print-told text out))
-      → (printing-refusal (print-told text out) ≡ reader.refusal-number (reading text .outcome)) × (printing-second (print-told text out) ≡ reader.second-number (reading text .outcome))
+      → (printing-refusal (print-told text out) ≡ reader.reading-refusal (reading text .outcome)) × (printing-second (print-told text out) ≡ reader.reading-second (reading text .outcome))
   pub no-second : OneOf (34 ∷ 33 ∷ []) (printing-refusal (print-told text out)) → printing-second (print-told text out) ≡ 0
-  pub where-34 : printing-refusal (print-told text out) ≡ 34 → (reading text .outcome ≡ Accepted) × (max-text < length (print-of (read text)))
-  pub where-33 : printing-refusal (print-told text out) ≡ 33 → (reading text .outcome ≡ Accepted) × (length (print-of (read text)) ≤ max-text) × (length out < length (print-of (read text)))
+  pub where-34 : printing-refusal (print-told text out) ≡ 34 → (reading text .outcome ≡ Accepted) × (max-text < length (print-of (parse text)))
+  pub where-33 : printing-refusal (print-told text out) ≡ 33 → (reading text .outcome ≡ Accepted) × (length (print-of (parse text)) ≤ max-text) × (length out < length (print-of (parse text)))
 
 -- Any text, into any output.
 pub record CalledPrint (text out : List ℕ) : Type 0 where

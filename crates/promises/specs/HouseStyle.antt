@@ -11,7 +11,7 @@ use Rattle.grammar.specs.Limits.{max-text}
 use Rattle.grammar.specs.Files.{File}
 use Rattle.grammar.specs.Grammar.{FileTree, spell}
 use Rattle.grammar.specs.Meaning.{Means, Is-file}
-use Rattle.grammar.specs.Reading.{read}
+use Rattle.grammar.specs.Reading.{parse}
 use Rattle.table.specs.Link.{rules-of, carried-strata, value-counts}
 use Rattle.names.specs.Names.{show-slot, show-value}
 use Rattle.style.specs.Layout.{layout, by-letters}
@@ -19,7 +19,7 @@ use Rattle.style.specs.Printed.{canonical}
 use Rattle.style.specs.Tidy.{Tidy}
 use Rattle.reader.specs.declared.Outcome.the-variants.{Accepted, Refused}
 use Rattle.rule_file.specs.Whole.{reading}
-use Rattle.printing.specs.Printing.{print-of, printed}
+use Rattle.printing.specs.Printing.{print-of, print-into}
 use Rattle.tally.specs.declared.Tally.{Tally}
 use Rattle.response.specs.Respond.{Rooms}
 use Rattle.promises.specs.Agreement.{responds}
@@ -46,24 +46,24 @@ pub record InStyle (text bytes : List ℕ) : Type 0 where
 
 pub record HouseStyle : Type 0 where
   -- The print of an accepted text is in the style, also where it is over the limit. What an output is given is this print, where it is within the limit and fits (exactly-printed).
-  pub in-style : (text : List ℕ) → reading text .outcome ≡ Accepted → InStyle text (print-of (read text))
+  pub in-style : (text : List ℕ) → reading text .outcome ≡ Accepted → InStyle text (print-of (parse text))
   -- Reading what is given yields the same slots, names, rules and strata.
-  pub read-back : (text : List ℕ) (room : ℕ) (bytes : List ℕ) → printed text room ≡ taken bytes → (reading bytes .outcome ≡ Accepted) × Alike text bytes
+  pub read-back : (text : List ℕ) (room : ℕ) (bytes : List ℕ) → print-into text room ≡ taken bytes → (reading bytes .outcome ≡ Accepted) × Alike text bytes
   -- Printing it changes nothing.
-  pub again : (text : List ℕ) (room : ℕ) (bytes : List ℕ) → printed text room ≡ taken bytes → (room′ : ℕ) → length bytes ≤ room′ → printed bytes room′ ≡ taken bytes
+  pub again : (text : List ℕ) (room : ℕ) (bytes : List ℕ) → print-into text room ≡ taken bytes → (room′ : ℕ) → length bytes ≤ room′ → print-into bytes room′ ≡ taken bytes
   -- Two accepted texts print alike exactly when they are alike, also where the prints are over the limit.
-  pub print-alike : (text text′ : List ℕ) → reading text .outcome ≡ Accepted → reading text′ .outcome ≡ Accepted → (print-of (read text) ≡ print-of (read text′)) ↔ Alike text text′
+  pub print-alike : (text text′ : List ℕ) → reading text .outcome ≡ Accepted → reading text′ .outcome ≡ Accepted → (print-of (parse text) ≡ print-of (parse text′)) ↔ Alike text text′
   -- So a text that is accepted gets the print of another exactly when they are alike.
-  pub same-print : (text text′ : List ℕ) (room : ℕ) (bytes : List ℕ) → printed text room ≡ taken bytes → reading text′ .outcome ≡ Accepted → (printed text′ room ≡ taken bytes) ↔ Alike text text′
+  pub same-print : (text text′ : List ℕ) (room : ℕ) (bytes : List ℕ) → print-into text room ≡ taken bytes → reading text′ .outcome ≡ Accepted → (print-into text′ room ≡ taken bytes) ↔ Alike text text′
   -- Texts that are alike get the same bytes or the same refusal for every card and slip. What is told, the tally after it and the outputs are functions of these.
   pub same-answers : (text text′ : List ℕ) → Alike text text′ → (y : Tally) (card slip : List ℕ) (rooms : Rooms) → responds text y card slip rooms ≡ responds text′ y card slip rooms
   -- So texts with equal prints do.
-  pub print-answers : (text text′ : List ℕ) → reading text .outcome ≡ Accepted → reading text′ .outcome ≡ Accepted → print-of (read text) ≡ print-of (read text′)
+  pub print-answers : (text text′ : List ℕ) → reading text .outcome ≡ Accepted → reading text′ .outcome ≡ Accepted → print-of (parse text) ≡ print-of (parse text′)
       → (y : Tally) (card slip : List ℕ) (rooms : Rooms) → responds text y card slip rooms ≡ responds text′ y card slip rooms
   -- The reading's own refusals come first, with both their numbers; then 34, then 33, each exactly where it is due; else the whole print.
-  pub own-refusal : (text : List ℕ) (room k n : ℕ) → reading text .outcome ≡ Refused k n → printed text room ≡ refused k n
-  pub exactly-34 : (text : List ℕ) (room : ℕ) → (printed text room ≡ refused 34 0) ↔ ((reading text .outcome ≡ Accepted) × (max-text < length (print-of (read text))))
+  pub own-refusal : (text : List ℕ) (room k n : ℕ) → reading text .outcome ≡ Refused k n → print-into text room ≡ refused k n
+  pub exactly-34 : (text : List ℕ) (room : ℕ) → (print-into text room ≡ refused 34 0) ↔ ((reading text .outcome ≡ Accepted) × (max-text < length (print-of (parse text))))
   pub exactly-33 : (text : List ℕ) (room : ℕ)
-      → (printed text room ≡ refused 33 0) ↔ ((reading text .outcome ≡ Accepted) × (length (print-of (read text)) ≤ max-text) × (room < length (print-of (read text))))
+      → (print-into text room ≡ refused 33 0) ↔ ((reading text .outcome ≡ Accepted) × (length (print-of (parse text)) ≤ max-text) × (room < length (print-of (parse text))))
   pub exactly-printed : (text : List ℕ) (room : ℕ) (bytes : List ℕ)
-      → (printed text room ≡ taken bytes) ↔ ((reading text .outcome ≡ Accepted) × (bytes ≡ print-of (read text)) × (length bytes ≤ max-text) × (length bytes ≤ room))
+      → (print-into text room ≡ taken bytes) ↔ ((reading text .outcome ≡ Accepted) × (bytes ≡ print-of (parse text)) × (length bytes ≤ max-text) × (length bytes ≤ room))

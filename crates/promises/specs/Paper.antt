@@ -58,9 +58,9 @@ pub record Demand2 : Type 0 where
   -- and these are exactly the texts of files with a circle through a NOT, of which it names the lowest rule.
   pub circle : (text : List ℕ) (k : ℕ) → (reading text .outcome ≡ Refused 18 k) ↔ ((f : File) × Is-file text f × LowestThroughNot (f .rules) k)
   -- Each answer, and each conflict, by an accepted file.
-  pub answered : (text : List ℕ) (f : File) → Is-file text f → reading text .outcome ≡ Accepted → (y : Tally) (card slip : List ℕ) (rooms : Rooms) (a : Answer)
+  pub each-answer : (text : List ℕ) (f : File) → Is-file text f → reading text .outcome ≡ Accepted → (y : Tally) (card slip : List ℕ) (rooms : Rooms) (a : Answer)
       → responds text y card slip rooms ≡ taken a → PaperAnswer f card slip a
-  pub conflicting : (text : List ℕ) (f : File) → Is-file text f → reading text .outcome ≡ Accepted → (y : Tally) (card slip : List ℕ) (rooms : Rooms) (s : ℕ)
+  pub each-conflict : (text : List ℕ) (f : File) → Is-file text f → reading text .outcome ≡ Accepted → (y : Tally) (card slip : List ℕ) (rooms : Rooms) (s : ℕ)
       → responds text y card slip rooms ≡ refused 40 s → PaperConflict f card slip s
   -- The same bytes back, for any table of the shape that a table has.
   pub card-back : (t : Table) → Shaped t → (ys vs : List ℕ) (room : ℕ) → Bytes ys → length ys ≤ room → unpacked-card t ys ≡ taken vs → packed-card t (card-of vs) room ≡ taken ys

@@ -13,7 +13,7 @@ use Rattle.laws.specs.Answers.{OrRefused, taken, refused, output-of}
 use Rattle.cards.specs.Cards.{unpacked-card, unpacked-slip, packed-card, packed-slip}
 use Rattle.reader.specs.declared.Outcome.the-variants.{Accepted, Refused}
 use Rattle.rule_file.specs.Whole.{reading}
-use Rattle.printing.specs.Printing.{printed}
+use Rattle.printing.specs.Printing.{print-into}
 use Rattle.tally.specs.declared.Tally.{Tally}
 use Rattle.tally.specs.Counting.{one-refused}
 use Rattle.response.specs.Respond.{Rooms, Outputs, answer-to, response-to, outputs-after}
@@ -61,8 +61,8 @@ pub record Demand1 : Type 0 where
   -- A rule file: accepted, or one refusal and the table without slots or rules.
   pub rule-file : (text : List ℕ) → (reading text .outcome ≡ Accepted) ⊎ ((k : ℕ) × (n : ℕ) × OneOf of-file k × (reading text ≡ record { outcome = Refused k n; table = empty-table }))
   -- A rule file that is printed; 34 and 33 have no second number.
-  pub file-printed : (text : List ℕ) (room : ℕ) → Only (OneOf of-print) (printed text room)
-  pub no-second : (text : List ℕ) (room k s : ℕ) → printed text room ≡ refused k s → OneOf (34 ∷ 33 ∷ []) k → s ≡ 0
+  pub file-printed : (text : List ℕ) (room : ℕ) → Only (OneOf of-print) (print-into text room)
+  pub no-second : (text : List ℕ) (room k s : ℕ) → print-into text room ≡ refused k s → OneOf (34 ∷ 33 ∷ []) k → s ≡ 0
   -- Unpacking.
   pub card-unpacked : (t : Table) (ys : List ℕ) → Only (OneOf (31 ∷ of-card)) (unpacked-card t ys)
   pub slip-unpacked : (t : Table) (ys : List ℕ) → Only (OneOf (31 ∷ of-slip)) (unpacked-slip t ys)
@@ -71,7 +71,7 @@ pub record Demand1 : Type 0 where
   pub slip-packed : (t : Table) (c : Slip) (room : ℕ) → Only (OneOf of-slip-packed) (packed-slip t c room)
   pub output-kept : (u : OrRefused (List ℕ)) (k s : ℕ) (out : List ℕ) → u ≡ refused k s → output-of u out ≡ out
   -- A response, whose three outputs keep their contents after a refusal; the tally counts the refusal, but for 32.
-  pub answered : (t : Table) (y : Tally) (card slip : List ℕ) (rooms : Rooms) → Only (OneOf of-response) (answer-to t y card slip rooms)
+  pub responded : (t : Table) (y : Tally) (card slip : List ℕ) (rooms : Rooms) → Only (OneOf of-response) (answer-to t y card slip rooms)
   pub outputs-kept : (t : Table) (y : Tally) (card slip : List ℕ) (rooms : Rooms) (k s : ℕ) (o : Outputs) → answer-to t y card slip rooms ≡ refused k s
       → outputs-after (answer-to t y card slip rooms) o ≡ o
   pub counted : (t : Table) (y : Tally) (card slip : List ℕ) (rooms : Rooms) (k s : ℕ) → answer-to t y card slip rooms ≡ refused k s → ¬ (k ≡ 32)

@@ -11,7 +11,7 @@ use Rattle.text.specs.Tokens.{tokens, tokens-from}
 use Rattle.model.specs.Rules as model
 use Rattle.grammar.specs.Limits.{max-text}
 use Rattle.grammar.specs.Files.{Slot, File}
-use Rattle.grammar.specs.Reading.{Answer, accepted, refused, read, read-tokens, read-lines}
+use Rattle.grammar.specs.Reading.{Parsed, accepted, refused, parse, read-tokens, read-lines}
 use Rattle.table.specs.Limits.{slot-limit, rule-limit, pair-places, row}
 use Rattle.table.specs.Empty.{empty-table}
 use Rattle.table.specs.Link.{rule-of}
@@ -23,7 +23,7 @@ use Rattle.lines.specs.Index.{Indexed, span-slot, slot-by, slot-for}
 use Rattle.lines.specs.Lines.{Remainder, Values-lie}
 use Rattle.reader.specs.Rules.{Plain-rule}
 use Rattle.reader.specs.Statements.{read-on}
-use Rattle.reader.specs.Tables.{rule-for, table-for, answered}
+use Rattle.reader.specs.Tables.{rule-for, table-for, file-read}
 use Rattle.reader.specs.declared.Outcome.the-variants as outcome
 use Rattle.lines.proofs.Index.{indexed-none, indexed-more, slot-placed}
 use Rattle.lines.proofs.LineLaws.{remainder-whole, remainder-next}
@@ -108,15 +108,15 @@ halfway-rule text slotspans valuespans rest t base next r H h p e =
     }
 
 -- The end of the text, and a refusal.
-pub answer-end : (a : Answer) (f : File) (t : Table) → a ≡ accepted f → t ≡ table-for f → record { outcome = outcome.Accepted; table = t } ≡ answered a
-unfolding answered
+pub answer-end : (a : Parsed) (f : File) (t : Table) → a ≡ accepted f → t ≡ table-for f → record { outcome = outcome.Accepted; table = t } ≡ file-read a
+unfolding file-read
 answer-end a f t e g = rw (e, g)
 
-pub answer-refused : (a : Answer) (k n m : ℕ) (t : Table) → a ≡ refused k n → m ≡ n → t ≡ empty-table → record { outcome = outcome.Refused k m; table = t } ≡ answered a
-unfolding answered
+pub answer-refused : (a : Parsed) (k n m : ℕ) (t : Table) → a ≡ refused k n → m ≡ n → t ≡ empty-table → record { outcome = outcome.Refused k m; table = t } ≡ file-read a
+unfolding file-read
 answer-refused a k n m t e g h = rw (e, g, h)
 
 -- A text over the limit, and one within it.
-pub read-long : (text : List ℕ) → max-text < length text → read text ≡ refused 10 0
-unfolding read
+pub read-long : (text : List ℕ) → max-text < length text → parse text ≡ refused 10 0
+unfolding parse
 read-long text h = rw (lt-leb (length text) max-text h)

@@ -14,7 +14,7 @@ use Rattle.steps.specs.declared.step.Step.{Step}
 use Rattle.steps.specs.declared.step.Step.the-variants as step
 use Rattle.laws.proofs.Filled.{filled-none}
 use Rattle.table.specs.Limits.{literal-limit, assignment-limit}
-use Rattle.table.specs.Shape.{no-literal, no-assignment}
+use Rattle.table.specs.Shape.{zero-literal, zero-assignment}
 use Rattle.table.specs.Empty.{unused-rule}
 use Rattle.table.specs.Link.{rule-of}
 use Rattle.table.specs.declared.Rule as ruled
@@ -128,4 +128,4 @@ rest-no-assign slots p ts t1 ls k e f = rw (e, f)
 
 -- A rule's place that is not used is a plain rule.
 pub unused-plain : Plain-rule unused-rule
-unused-plain = record { literals-filled = filled-none literal-limit no-literal; assignments-filled = filled-none assignment-limit no-assignment; no-stratum = refl }
+unused-plain = record { literals-filled = filled-none literal-limit zero-literal; assignments-filled = filled-none assignment-limit zero-assignment; no-stratum = refl }

@@ -12,7 +12,7 @@ use Rattle.laws.proofs.Lists.{map-append}
 use Rattle.model.specs.Rules as model
 use Rattle.table.specs.Link.{literal-of, assignment-of, rule-of}
 use Rattle.table.specs.Limits.{slot-limit, rule-limit, literal-limit, assignment-limit}
-use Rattle.table.specs.Shape.{no-literal, no-assignment}
+use Rattle.table.specs.Shape.{zero-literal, zero-assignment}
 use Rattle.table.specs.Empty.{unused-rule, unused-slot, empty-table}
 use Rattle.table.specs.declared.Literal.{Literal}
 use Rattle.table.specs.declared.Assignment.{Assignment}
@@ -48,9 +48,9 @@ rule-kept r P =
     let x = G .used in
     let y = G .size in
     made (r .slot) (r .value) _ _ _ (r .literals) _ (r .assignments) (r .tested) (r .assigned) 0 (r .stratum)
-    (ap (filled literal-limit no-literal) (literals-back (take (r .tested) (r .literals))) ∙ sym (filled-is literal-limit no-literal (r .literals) (r .tested) F))
+    (ap (filled literal-limit zero-literal) (literals-back (take (r .tested) (r .literals))) ∙ sym (filled-is literal-limit zero-literal (r .literals) (r .tested) F))
     (length-map (take (r .tested) (r .literals)) literal-of ∙ length-take-le (r .tested) (r .literals) (omega arith))
-    (ap (filled assignment-limit no-assignment) (assignments-back (take (r .assigned) (r .assignments))) ∙ sym (filled-is assignment-limit no-assignment (r .assignments) (r .assigned) G))
+    (ap (filled assignment-limit zero-assignment) (assignments-back (take (r .assigned) (r .assignments))) ∙ sym (filled-is assignment-limit zero-assignment (r .assignments) (r .assigned) G))
     (length-map (take (r .assigned) (r .assignments)) assignment-of ∙ length-take-le (r .assigned) (r .assignments) (omega arith))
     (sym (P .no-stratum))
 

@@ -9,7 +9,7 @@ use Rattle.grammar.specs.Reading.{Part, took, stop, _then_, expects, read-slot,
 use Rattle.model.specs.Result.{pair}
 use Rattle.laws.specs.Filled.{Filled}
 use Rattle.table.specs.Limits.{literal-limit, assignment-limit}
-use Rattle.table.specs.Shape.{no-literal, no-assignment}
+use Rattle.table.specs.Shape.{zero-literal, zero-assignment}
 use Rattle.table.specs.declared.Rule as ruled
 use Rattle.steps.specs.Places.{tokens-past}
 use Rattle.clauses.specs.declared.conditions.Literals.{Literals}
@@ -52,8 +52,8 @@ read-rest slots p ts =
 
 -- A rule in its places whose unused places are zero, and which has no stratum yet.
 pub record Plain-rule (r : ruled.Rule) : Type 0 where
-  pub literals-filled : Filled literal-limit no-literal (r .literals) (r .tested)
-  pub assignments-filled : Filled assignment-limit no-assignment (r .assignments) (r .assigned)
+  pub literals-filled : Filled literal-limit zero-literal (r .literals) (r .tested)
+  pub assignments-filled : Filled assignment-limit zero-assignment (r .assignments) (r .assigned)
   pub no-stratum : r .stratum ≡ 0
 
 -- A rule of its parts.

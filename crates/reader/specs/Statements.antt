@@ -8,7 +8,7 @@ use Rattle.text.specs.Tokens.{Token, SLOT}
 use Rattle.model.specs.Rules.{Rule}
 use Rattle.grammar.specs.Limits.{max-slots, max-rules}
 use Rattle.grammar.specs.Files.{Slot}
-use Rattle.grammar.specs.Reading.{Answer, accepted, refused, begins-with, read-lines, read-rules}
+use Rattle.grammar.specs.Reading.{Parsed, accepted, refused, begins-with, read-lines, read-rules}
 use Rattle.table.specs.Limits.{slot-limit, rule-limit}
 use Rattle.table.specs.Link.{rule-of}
 use Rattle.table.specs.declared.Rule as ruled
@@ -23,7 +23,7 @@ use Rattle.reader.specs.declared.statements.Kind.the-variants as kind
 use Rattle.reader.specs.declared.statements.Statement.{Statement}
 
 -- What the tokens left come to after these slots and rules: slot lines may still come while there is no rule.
-unfoldable pub read-on : List Slot → List Rule → List Token → Answer
+unfoldable pub read-on : List Slot → List Rule → List Token → Parsed
 read-on slots [] ts = read-lines (max-slots - length slots) slots ts
 read-on slots (r ∷ rs) ts = read-rules (max-rules - length (r ∷ rs)) slots (r ∷ rs) ts
 
@@ -38,13 +38,13 @@ Rule-next [] (t ∷ ts) = begins-with SLOT (t ∷ ts) ≡ false
 Rule-next (r ∷ rs) (t ∷ ts) = Unit
 
 -- What the reading comes to by the statement that stood next.
-abbrev pub kind-answer : List ℕ → List ℕ → ℕ → List Slot → List Rule → Kind → Line → ruled.Rule → Answer
+abbrev pub kind-answer : List ℕ → List ℕ → ℕ → List Slot → List Rule → Kind → Line → ruled.Rule → Parsed
 kind-answer text rest base slots rules kind.End line rule = accepted (record { slots = slots; rules = rules })
 kind-answer text rest base slots rules (kind.Slot next) line rule = read-on (slots ++ span-slot text (line .name) (line .spans) (line .count) ∷ []) rules (tokens-past rest base next)
 kind-answer text rest base slots rules (kind.Rule next) line rule = read-on slots (rules ++ rule-of rule ∷ []) (tokens-past rest base next)
 kind-answer text rest base slots rules (kind.Refused k) line rule = refused k (length rules)
 
-abbrev pub statement-answer : List ℕ → List ℕ → ℕ → List Slot → List Rule → Statement → Answer
+abbrev pub statement-answer : List ℕ → List ℕ → ℕ → List Slot → List Rule → Statement → Parsed
 statement-answer text rest base slots rules s = kind-answer text rest base slots rules (s .kind) (s .line) (s .rule)
 
 -- What is known of the statement: the position after it moves on and stays in the remainder; a slot line comes where there is no rule and room for it, a rule where there is room.

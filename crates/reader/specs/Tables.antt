@@ -5,13 +5,13 @@ use lib.ListN.{length}
 use Rattle.laws.specs.Filled.{filled}
 use Rattle.model.specs.Rules as model
 use Rattle.table.specs.Limits.{slot-limit, rule-limit, literal-limit, assignment-limit}
-use Rattle.table.specs.Shape.{no-literal, no-assignment}
+use Rattle.table.specs.Shape.{zero-literal, zero-assignment}
 use Rattle.table.specs.Empty.{unused-rule, unused-slot, empty-table}
 use Rattle.table.specs.declared.Literal as code
 use Rattle.table.specs.declared.Rule as ruled
 use Rattle.table.specs.declared.Table.{Table}
 use Rattle.grammar.specs.Files.{File}
-use Rattle.grammar.specs.Reading.{Answer, accepted, refused}
+use Rattle.grammar.specs.Reading.{Parsed, accepted, refused}
 use Rattle.lines.specs.Index.{slot-for}
 use Rattle.clauses.specs.Assignments.{assignment-for}
 use Rattle.reader.specs.declared.Outcome.{Outcome}
@@ -26,9 +26,9 @@ abbrev pub rule-for : model.Rule → ruled.Rule
 rule-for r = record {
   slot = r .trigger .slot;
   value = r .trigger .value;
-  literals = filled literal-limit no-literal (map literal-for (r .literals));
+  literals = filled literal-limit zero-literal (map literal-for (r .literals));
   tested = length (r .literals);
-  assignments = filled assignment-limit no-assignment (map assignment-for (r .assignments));
+  assignments = filled assignment-limit zero-assignment (map assignment-for (r .assignments));
   assigned = length (r .assignments);
   stratum = 0;
 }
@@ -43,15 +43,15 @@ table-for f = record {
 }
 
 -- What the code answers for an answer of the reading.
-unfoldable pub answered : Answer → FileRead
-answered (accepted f) = record { outcome = outcome.Accepted; table = table-for f }
-answered (refused k n) = record { outcome = outcome.Refused k n; table = empty-table }
+unfoldable pub file-read : Parsed → FileRead
+file-read (accepted f) = record { outcome = outcome.Accepted; table = table-for f }
+file-read (refused k n) = record { outcome = outcome.Refused k n; table = empty-table }
 
 -- The number of a refusal, 0 for none, and its second number.
-abbrev pub refusal-number : Outcome → ℕ
-refusal-number outcome.Accepted = 0
-refusal-number (outcome.Refused k n) = k
+abbrev pub reading-refusal : Outcome → ℕ
+reading-refusal outcome.Accepted = 0
+reading-refusal (outcome.Refused k n) = k
 
-abbrev pub second-number : Outcome → ℕ
-second-number outcome.Accepted = 0
-second-number (outcome.Refused k n) = n
+abbrev pub reading-second : Outcome → ℕ
+reading-second outcome.Accepted = 0
+reading-second (outcome.Refused k n) = n

@@ -4,8 +4,8 @@ ghost use Prim.Native.Nat.{_≤_};
 ghost use lib.ListN.{length};
 ghost use Rattle.text.specs.Tokens.{tokens};
 ghost use Rattle.grammar.specs.Limits.{max-text};
-ghost use Rattle.grammar.specs.Reading.{read, read-tokens};
-ghost use Rattle.reader.specs.Tables.{answered};
+ghost use Rattle.grammar.specs.Reading.{parse, read-tokens};
+ghost use Rattle.reader.specs.Tables.{file-read};
 use crate::statements::Kind;
 use crate::statements::statement_next;
 use lines::enter;
@@ -35,7 +35,7 @@ pub struct FileRead {
 // The statements of a text one after the other; after each the remainder is handed on.
 fn read_statements(text: &[u8]) -> FileRead
     requires { ⌜ length (now text) ≤ max-text ⌝ }
-    ensures { λ r. ⌜ r ≡ answered (read-tokens (tokens (now (text .entry)))) ⌝ }
+    ensures { λ r. ⌜ r ≡ file-read (read-tokens (tokens (now (text .entry)))) ⌝ }
 {
     let mut t = table::empty_table();
     let mut slotspans: [usize; SLOTS] = [0; SLOTS];
@@ -83,7 +83,7 @@ fn read_statements(text: &[u8]) -> FileRead
 
 // The reading of any bytes of any length, all but refusal 18.
 pub fn read_text(text: &[u8]) -> FileRead
-    ensures { λ r. ⌜ r ≡ answered (read (now (text .entry))) ⌝ }
+    ensures { λ r. ⌜ r ≡ file-read (parse (now (text .entry))) ⌝ }
 {
     if TEXT_LIMIT < text.len() {
         return FileRead {

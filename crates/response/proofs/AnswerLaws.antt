@@ -37,12 +37,12 @@ use Rattle.cards.specs.declared.Card.{Card}
 use Rattle.cards.specs.declared.Slip.{Slip}
 use Rattle.laws.specs.Answers.{taken, refused, written}
 use Rattle.cards.specs.Forms.{card-bits, slip-bits, card-bytes, slip-bytes}
-use Rattle.cards.specs.Cards.{CardFits, SlipFits, no-change, pair-of, change-of, values-of, changes-of, card-of, slip-of}
+use Rattle.cards.specs.Cards.{CardFits, SlipFits, no-change, pair-of, change-of, card-values, changes-of, card-of, slip-of}
 use Rattle.cards.proofs.Formed.{slip-length}
 use Rattle.cards.proofs.EntryTrips.{card-of-values, slip-of-changes}
 use Rattle.cards.proofs.Written.{card-bytes-length, slip-bytes-length}
 use Rattle.firing.specs.declared.Firing.{Firing}
-use Rattle.firing.specs.Firing.{firing-of}
+use Rattle.firing.specs.Firing.{table-firing}
 use Rattle.results.specs.Record.{fired-bits, ones-in}
 use Rattle.results.specs.Record as firing
 use Rattle.results.specs.Ending.{new-places}
@@ -53,8 +53,8 @@ use Rattle.response.specs.InOrder.{InOrder}
 use Rattle.response.proofs.Fired.{AllPlaced, fired-changes, fired-rules}
 
 -- A card whose places beyond its count are empty has the values of its places.
-pub values-same : (c : Card) → ((s : ℕ) → c .count ≤ s → getD (c .values) s 0 ≡ 0) → SameCard (c .values) (values-of c)
-unfolding SameCard values-of
+pub values-same : (c : Card) → ((s : ℕ) → c .count ≤ s → getD (c .values) s 0 ≡ 0) → SameCard (c .values) (card-values c)
+unfolding SameCard card-values
 values-same c rest s =
     ⊎-elim (λ h. rest s h ∙ sym (List·getD-eq-default (tabulate (λ i. getD (c .values) i 0) (c .count)) 0 (rw (tabulate-length (λ i. getD (c .values) i 0) (c .count)) h)))
     (λ h. sym (tabulate-at (λ i. getD (c .values) i 0) (c .count) s 0 h)) (le-or-lt (c .count) s)
@@ -89,9 +89,9 @@ module _ (rs : List Rule) (width : ℕ) (S : List ℕ) (I : List Pair) where
   by-firing-answer h = rw (le-ltb (conflict-slot width row C) width h) refl
 
 -- The card of so many values in their places has them.
-pub card-values : (width : ℕ) (xs : List ℕ) → length xs ≡ width → values-of (record { values = filled slot-limit 0 xs; count = width }) ≡ xs
+pub card-values-back : (width : ℕ) (xs : List ℕ) → length xs ≡ width → card-values (record { values = filled slot-limit 0 xs; count = width }) ≡ xs
 unfolding card-of
-card-values width xs l = ap (λ (n : ℕ). values-of (record { values = filled slot-limit 0 xs; count = n })) (sym l) ∙ card-of-values xs
+card-values-back width xs l = ap (λ (n : ℕ). card-values (record { values = filled slot-limit 0 xs; count = n })) (sym l) ∙ card-of-values xs
 
 -- The new card by places is that by the card's values.
 pub new-card-same : (width : ℕ) (D E : Pairs) (values S : List ℕ) → D ≡ E → SameCard values S → new-card width row D values ≡ new-card width row E S
@@ -186,18 +186,18 @@ front-is ys out n e = rw e refl
 
 -- What the code leaves where no slot is in conflict.
 module _ (t : Table) (card : Card) (slip : Slip) (O : InOrder t card slip) (sh : Shaped t) (g : Firing)
-    (fires : g ≡ firing-of t (card .values) (add-pairs (changes-of slip) (replicate pair-places false))) where
+    (fires : g ≡ table-firing t (card .values) (add-pairs (changes-of slip) (replicate pair-places false))) where
   abbrev fired-in-order : List ℕ
-  fired-in-order = response weak (rules-of t) (values-of card) (changes-of slip)
+  fired-in-order = response weak (rules-of t) (card-values card) (changes-of slip)
 
   abbrev ends-with : Pairs
   ends-with = changes (rules-of t) (changes-of slip) fired-in-order
 
   pub same-changes : set-of (g .changes) ≡ ends-with
-  same-changes = fired-changes t (O .fireable) sh (card .values) (values-of card) (changes-of slip) (values-same card (O .rest-empty)) (slip-placed slip (O .slip-fits)) g fires
+  same-changes = fired-changes t (O .fireable) sh (card .values) (card-values card) (changes-of slip) (values-same card (O .rest-empty)) (slip-placed slip (O .slip-fits)) g fires
 
   same-rules : g .fired ≡ tabulate (λ i. names fired-in-order (suc i)) rule-limit
-  same-rules = fired-rules t (O .fireable) sh (card .values) (values-of card) (changes-of slip) (values-same card (O .rest-empty)) (slip-placed slip (O .slip-fits)) g fires
+  same-rules = fired-rules t (O .fireable) sh (card .values) (card-values card) (changes-of slip) (values-same card (O .rest-empty)) (slip-placed slip (O .slip-fits)) g fires
 
   few-rules : t .count ≤ rule-limit
   few-rules = O .fireable .fits .rules-fit
@@ -207,18 +207,18 @@ module _ (t : Table) (card : Card) (slip : Slip) (O : InOrder t card slip) (sh :
 
   -- 40 leaves the outputs.
   pub conflict-ends : (slot : ℕ) (o : Outputs) → slot ≡ conflict-slot (t .width) row (set-of (g .changes)) → slot < t .width
-      → Ends (answer-by-firing (rules-of t) (t .width) (values-of card) (changes-of slip)) (Refused 40 slot) o o
+      → Ends (answer-by-firing (rules-of t) (t .width) (card-values card) (changes-of slip)) (Refused 40 slot) o o
   unfolding outcome-of outputs-after
   conflict-ends slot o e h =
       let w : slot ≡ conflict-slot (t .width) row ends-with = e ∙ ap (conflict-slot (t .width) row) same-changes in
-      rw (by-firing-conflict (rules-of t) (t .width) (values-of card) (changes-of slip) (omega (arith, w, h)), w) (refl, refl)
+      rw (by-firing-conflict (rules-of t) (t .width) (card-values card) (changes-of slip) (omega (arith, w, h)), w) (refl, refl)
 
   -- The new card in its places, and its values.
-  pub next-values : values-of (record { values = new-places (t .width) (g .changes) (card .values); count = t .width }) ≡ new-card (t .width) row ends-with (values-of card)
+  pub next-values : card-values (record { values = new-places (t .width) (g .changes) (card .values); count = t .width }) ≡ new-card (t .width) row ends-with (card-values card)
   unfolding new-places
   next-values =
-      card-values (t .width) (new-card (t .width) row (set-of (g .changes)) (card .values)) (new-card-length (t .width) (set-of (g .changes)) (card .values))
-      ∙ new-card-same (t .width) (set-of (g .changes)) ends-with (card .values) (values-of card) same-changes (values-same card (O .rest-empty))
+      card-values-back (t .width) (new-card (t .width) row (set-of (g .changes)) (card .values)) (new-card-length (t .width) (set-of (g .changes)) (card .values))
+      ∙ new-card-same (t .width) (set-of (g .changes)) ends-with (card .values) (card-values card) same-changes (values-same card (O .rest-empty))
 
   pub next-in-order : CardFits (record { values = new-places (t .width) (g .changes) (card .values); count = t .width })
   unfolding new-places
@@ -228,15 +228,15 @@ module _ (t : Table) (card : Card) (slip : Slip) (O : InOrder t card slip) (sh :
 
   -- The answer is written.
   pub answer-ends : (slot n m : ℕ) (a b c a′ b′ c′ : List ℕ) → slot ≡ conflict-slot (t .width) row (set-of (g .changes)) → t .width ≤ slot
-      → a′ ≡ card-bytes (values-of (record { values = new-places (t .width) (g .changes) (card .values); count = t .width })) ++ drop (byte-count (card-bits (t .width))) a
+      → a′ ≡ card-bytes (card-values (record { values = new-places (t .width) (g .changes) (card .values); count = t .width })) ++ drop (byte-count (card-bits (t .width))) a
       → (s : Slip) → s ≡ slip-of (changes-slip (t .width) row (set-of (g .changes)))
       → n ≡ byte-count (slip-bits (s .count)) → b′ ≡ slip-bytes (changes-of s) ++ drop (byte-count (slip-bits (s .count))) b
       → c′ ≡ firing.flag-record (g .fired) (t .count) ++ drop (byte-count (t .count)) c → m ≡ ones-in (take (byte-count (t .count)) c′)
-      → Ends (answer-by-firing (rules-of t) (t .width) (values-of card) (changes-of slip)) (Answered n m) (outputs a b c) (outputs a′ b′ c′)
+      → Ends (answer-by-firing (rules-of t) (t .width) (card-values card) (changes-of slip)) (Answered n m) (outputs a b c) (outputs a′ b′ c′)
   unfolding outcome-of outputs-after answer-of
   answer-ends slot n m a b c a′ b′ c′ e h ea s es en eb ec em =
       let w : slot ≡ conflict-slot (t .width) row ends-with = e ∙ ap (conflict-slot (t .width) row) same-changes in
-      let x = by-firing-answer (rules-of t) (t .width) (values-of card) (changes-of slip) (omega (arith, w, h)) in
+      let x = by-firing-answer (rules-of t) (t .width) (card-values card) (changes-of slip) (omega (arith, w, h)) in
       rw x (ap₂ (λ (i j : ℕ). Answered i j) (en ∙ changes-size) (em ∙ ap ones-in fired-front), λ i. outputs (card-part i) (changes-part i) (fired-part i))
     where
       listed : changes-of s ≡ changes-slip (t .width) row ends-with
@@ -259,11 +259,11 @@ module _ (t : Table) (card : Card) (slip : Slip) (O : InOrder t card slip) (sh :
           ap (take (byte-count (t .count))) ec ∙ ap (λ (k : ℕ). take k (firing.flag-record (g .fired) (t .count) ++ drop (byte-count (t .count)) c)) (sym record-size)
           ∙ take-append-seam (firing.flag-record (g .fired) (t .count)) (drop (byte-count (t .count)) c) ∙ record-is
 
-      card-part : a′ ≡ written (card-bytes (new-card (t .width) row ends-with (values-of card))) a
+      card-part : a′ ≡ written (card-bytes (new-card (t .width) row ends-with (card-values card))) a
       card-part =
           ea ∙ ap (λ (vs : List ℕ). card-bytes vs ++ drop (byte-count (card-bits (t .width))) a) next-values
-          ∙ front-is (card-bytes (new-card (t .width) row ends-with (values-of card))) a (byte-count (card-bits (t .width)))
-          (card-bytes-length (new-card (t .width) row ends-with (values-of card)) ∙ ap (λ (k : ℕ). byte-count (card-bits k)) (new-card-length (t .width) ends-with (values-of card)))
+          ∙ front-is (card-bytes (new-card (t .width) row ends-with (card-values card))) a (byte-count (card-bits (t .width)))
+          (card-bytes-length (new-card (t .width) row ends-with (card-values card)) ∙ ap (λ (k : ℕ). byte-count (card-bits k)) (new-card-length (t .width) ends-with (card-values card)))
 
       changes-part : b′ ≡ written (slip-bytes (changes-slip (t .width) row ends-with)) b
       changes-part =

@@ -32,7 +32,7 @@ use Rattle.tally.specs.declared.Tally.{Tally}
 use Rattle.response.specs.declared.Outcome.{Outcome}
 use Rattle.response.specs.declared.Outcome.the-variants as response
 use Rattle.response.specs.Ending.{Answer, answer-by-firing}
-use Rattle.response.specs.Respond.{Rooms, Outputs, changes-room, _then_, if-room, answer-by-rules, answer-by-table, counted, tally-after, outcome-of, outputs-after, answer-to, response-to, Ends}
+use Rattle.response.specs.Respond.{Rooms, Outputs, changes-room, _and-then_, if-room, answer-by-rules, answer-by-table, counted, tally-after, outcome-of, outputs-after, answer-to, response-to, Ends}
 use Rattle.tally.specs.Counting.{is-full, one-answered, one-refused}
 use Rattle.response.specs.InOrder.{InOrder}
 
@@ -75,16 +75,16 @@ by-table-on t card slip rooms e = rw e refl
 module _ (counts : List ℕ) (rs : List Rule) (card slip : List ℕ) (rooms : Rooms) where
   -- 20 to 23, 24 to 28, or what comes after them.
   pub by-rules-card : (k s : ℕ) → read-card counts card ≡ refused k s → answer-by-rules counts rs card slip rooms ≡ refused k s
-  unfolding answer-by-rules _then_
+  unfolding answer-by-rules _and-then_
   by-rules-card k s e = rw e refl
 
   pub by-rules-slip : (S : List ℕ) (k s : ℕ) → read-card counts card ≡ taken S → read-slip counts slip ≡ refused k s → answer-by-rules counts rs card slip rooms ≡ refused k s
-  unfolding answer-by-rules _then_
+  unfolding answer-by-rules _and-then_
   by-rules-slip S k s e f = rw (e, f) refl
 
   pub by-rules-on : (S : List ℕ) (I : List Pair) → read-card counts card ≡ taken S → read-slip counts slip ≡ taken I
       → answer-by-rules counts rs card slip rooms ≡ if-room (length counts) (length rs) rooms (answer-by-firing rs (length counts) S I)
-  unfolding answer-by-rules _then_
+  unfolding answer-by-rules _and-then_
   by-rules-on S I e f = rw (e, f) refl
 
 -- 30, the first output that is too short, or what comes after it.

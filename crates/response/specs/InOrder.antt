@@ -9,12 +9,12 @@ use Rattle.cards.specs.declared.Card.{Card}
 use Rattle.cards.specs.declared.Slip.{Slip}
 use Rattle.cards.specs.Forms.{card-bits}
 use Rattle.cards.specs.Cards.{CardFits, SlipFits}
-use Rattle.firing.specs.Firing.{Fireable}
+use Rattle.firing.specs.Firing.{CanFire}
 use Rattle.response.specs.Respond.{Rooms, changes-room}
 
 -- The table passed 31, and so can be fired; the card counts its slots, in 4 bits each, and is empty beyond them; the slip's changes go into 5 and 4 bits.
 pub record InOrder (t : Table) (card : Card) (slip : Slip) : Type 0 where
-  pub fireable : Fireable t
+  pub fireable : CanFire t
   pub few-slots : t .width ≤ slot-limit
   pub same-width : card .count ≡ t .width
   pub card-fits : CardFits card

@@ -22,10 +22,10 @@ use Rattle.results.specs.Record.{ones-in}
 use Rattle.response.specs.Ending.{Answer, answer-by-firing}
 
 -- First one thing is taken, then another by it; a refusal stays.
-infixl 20 _then_
-unfoldable pub _then_ : {A B : Type 0} → OrRefused A → (A → OrRefused B) → OrRefused B
-taken a then f = f a
-refused k s then f = refused k s
+infixl 20 _and-then_
+unfoldable pub _and-then_ : {A B : Type 0} → OrRefused A → (A → OrRefused B) → OrRefused B
+taken a and-then f = f a
+refused k s and-then f = refused k s
 
 -- The lengths of the three outputs.
 pub record Rooms : Type 0 where
@@ -46,8 +46,8 @@ if-room width count rooms u =
 -- By rules over slots of so many values each: 20 to 28, 30, then the response.
 unfoldable pub answer-by-rules : List ℕ → List Rule → List ℕ → List ℕ → Rooms → OrRefused Answer
 answer-by-rules counts rs card slip rooms =
-    read-card counts card then λ S.
-    read-slip counts slip then λ I.
+    read-card counts card and-then λ S.
+    read-slip counts slip and-then λ I.
     if-room (length counts) (length rs) rooms (answer-by-firing rs (length counts) S I)
 
 -- 31 before them.
@@ -98,10 +98,10 @@ abbrev pub Ends : OrRefused Answer → Outcome → Outputs → Outputs → Type 
 Ends u r before after = (r ≡ outcome-of u) × (after ≡ outputs-after u before)
 
 -- The number of a refusal, 0 for none, and its second number.
-abbrev pub refusal-number : Outcome → ℕ
-refusal-number (Answered n f) = 0
-refusal-number (Refused k s) = k
+abbrev pub response-refusal : Outcome → ℕ
+response-refusal (Answered n f) = 0
+response-refusal (Refused k s) = k
 
-abbrev pub second-number : Outcome → ℕ
-second-number (Answered n f) = 0
-second-number (Refused k s) = s
+abbrev pub response-second : Outcome → ℕ
+response-second (Answered n f) = 0
+response-second (Refused k s) = s

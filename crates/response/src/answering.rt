@@ -1,7 +1,7 @@
 // The answer to a card and a slip that are in order. These are not entry points: table, card, slip and outputs were tested before.
 ghost use lib.ListN.{length};
 ghost use Rattle.table.specs.Link.{rules-of};
-ghost use Rattle.cards.specs.Cards.{values-of, changes-of};
+ghost use Rattle.cards.specs.Cards.{card-values, changes-of};
 ghost use Rattle.response.specs.Ending.{answer-by-firing};
 ghost use Rattle.response.specs.Respond.{outputs, rooms-of, if-room, Ends};
 ghost use Rattle.response.specs.InOrder.{InOrder, HasRoom};
@@ -29,7 +29,7 @@ fn settle(
     fired: &mut [u8],
 ) -> Outcome
     requires { ⌜ InOrder t card slip × HasRoom (t .width) (t .count) (rooms-of (now renewed) (now changes) (now fired)) ⌝ }
-    ensures { λ r. ⌜ Ends (answer-by-firing (rules-of t) (t .width) (values-of card) (changes-of slip)) r
+    ensures { λ r. ⌜ Ends (answer-by-firing (rules-of t) (t .width) (card-values card) (changes-of slip)) r
         (outputs (now (renewed .entry)) (now (changes .entry)) (now (fired .entry))) (outputs (now (renewed .exit)) (now (changes .exit)) (now (fired .exit))) ⌝ }
 {
     let width = t.width;
@@ -69,7 +69,7 @@ pub fn finish(
     fired: &mut [u8],
 ) -> Outcome
     requires { ⌜ InOrder t card slip ⌝ }
-    ensures { λ r. ⌜ Ends (if-room (t .width) (length (rules-of t)) (rooms-of (now (renewed .entry)) (now (changes .entry)) (now (fired .entry))) (answer-by-firing (rules-of t) (t .width) (values-of card) (changes-of slip))) r
+    ensures { λ r. ⌜ Ends (if-room (t .width) (length (rules-of t)) (rooms-of (now (renewed .entry)) (now (changes .entry)) (now (fired .entry))) (answer-by-firing (rules-of t) (t .width) (card-values card) (changes-of slip))) r
         (outputs (now (renewed .entry)) (now (changes .entry)) (now (fired .entry))) (outputs (now (renewed .exit)) (now (changes .exit)) (now (fired .exit))) ⌝ }
 {
     let width = t.width;

@@ -22,7 +22,7 @@ use Rattle.table.specs.Link.{rules-of}
 use Rattle.text.specs.Tokens.{Token}
 use Rattle.grammar.specs.Files.{File}
 use Rattle.grammar.specs.Meaning.{Is-file}
-use Rattle.grammar.specs.Reading.{Answer, accepted, refused, read}
+use Rattle.grammar.specs.Reading.{Parsed, accepted, refused, parse}
 use Rattle.grammar.specs.Refusals.{Fault, no-token, no-place, ends-inside, too-long, in-place}
 use Rattle.grammar.proofs.Accepts.{accepts-iff}
 use Rattle.grammar.proofs.Declared.{file-declared}
@@ -37,7 +37,7 @@ use Rattle.soundness.specs.Sound.{sound}
 use Rattle.soundness.proofs.WellFormed.{well-formed-fits}
 use Rattle.strata.proofs.Written.{same-rules, same-counts, stratum-now}
 use Rattle.soundness.proofs.Passes.{layer-passes, empty-passes}
-use Rattle.reader.specs.Tables.{table-for, answered, refusal-number}
+use Rattle.reader.specs.Tables.{table-for, file-read, reading-refusal}
 use Rattle.reader.specs.declared.Outcome.{Outcome}
 use Rattle.reader.specs.declared.Outcome.the-variants.{Accepted, Refused}
 use Rattle.reader.specs.declared.FileRead.{FileRead}
@@ -65,44 +65,44 @@ layered-table f = rw (file-rules f) (go (eqb (circle-of weak (f .rules)) 0))
     go true = refl
     go false = refl
 
-reading-file : (text : List ℕ) (f : File) → read text ≡ accepted f → reading text ≡ layered f
+reading-file : (text : List ℕ) (f : File) → parse text ≡ accepted f → reading text ≡ layered f
 unfolding reading answered-whole
 reading-file text f e = ap answered-whole e
 
-reading-refused : (text : List ℕ) (k n : ℕ) → read text ≡ refused k n → reading text ≡ record { outcome = Refused k n; table = empty-table }
+reading-refused : (text : List ℕ) (k n : ℕ) → parse text ≡ refused k n → reading text ≡ record { outcome = Refused k n; table = empty-table }
 unfolding reading answered-whole
 reading-refused text k n e = ap answered-whole e
 
 -- Where the first part of the reading accepts, there is a file and this is its table.
-pub accepted-file : (text : List ℕ) (q : FileRead) → q ≡ answered (read text) → q .outcome ≡ Accepted → (f : File) × (read text ≡ accepted f) × (q .table ≡ table-for f)
-unfolding answered
-accepted-file text q e o = go (read text) refl e
+pub accepted-file : (text : List ℕ) (q : FileRead) → q ≡ file-read (parse text) → q .outcome ≡ Accepted → (f : File) × (parse text ≡ accepted f) × (q .table ≡ table-for f)
+unfolding file-read
+accepted-file text q e o = go (parse text) refl e
   where
-    go : (a : Answer) → read text ≡ a → q ≡ answered a → (f : File) × (read text ≡ accepted f) × (q .table ≡ table-for f)
+    go : (a : Parsed) → parse text ≡ a → q ≡ file-read a → (f : File) × (parse text ≡ accepted f) × (q .table ≡ table-for f)
     go (accepted f) r s = (f, r, ap (λ (x : FileRead). x .table) s)
     go (refused k n) r s = absurd (clash (sym o ∙ ap (λ (x : FileRead). x .outcome) s))
       where
         clash : Accepted ≡ Refused k n → ⊥
         clash c = let z : _≡_ {A = ℕ} 0 1 = cc in omega arith
 
-pub file-fits : (text : List ℕ) (q : FileRead) → q ≡ answered (read text) → q .outcome ≡ Accepted → TableFits (q .table)
+pub file-fits : (text : List ℕ) (q : FileRead) → q ≡ file-read (parse text) → q .outcome ≡ Accepted → TableFits (q .table)
 file-fits text q e o =
     let w = accepted-file text q e o in
     let D = file-declared text (w .0) (accepts-iff text (w .0) .0 (w .1)) in
     rw (w .2) (well-formed-fits (table-for (w .0)) (file-shaped (w .0) D) (file-well-formed (w .0) D))
 
-pub whole-layered : (text : List ℕ) (q : FileRead) (l : Layering) (o : found.Outcome) → q ≡ answered (read text) → q .outcome ≡ Accepted → l ≡ layering (q .table) → l .outcome ≡ o
+pub whole-layered : (text : List ℕ) (q : FileRead) (l : Layering) (o : found.Outcome) → q ≡ file-read (parse text) → q .outcome ≡ Accepted → l ≡ layering (q .table) → l .outcome ≡ o
     → record { outcome = outcome-for o; table = l .table } ≡ reading text
 whole-layered text q l o e a s t =
     let w = accepted-file text q e a in
     ap (λ (x : found.Outcome). record { outcome = outcome-for x; table = l .table }) (sym t)
     ∙ ap answer-for (s ∙ ap layering (w .2)) ∙ layered-table (w .0) ∙ sym (reading-file text (w .0) (w .1))
 
-pub whole-refused : (text : List ℕ) (q : FileRead) (k n : ℕ) → q ≡ answered (read text) → q .outcome ≡ Refused k n → record { outcome = Refused k n; table = q .table } ≡ reading text
-unfolding answered
-whole-refused text q k n e o = go (read text) refl e
+pub whole-refused : (text : List ℕ) (q : FileRead) (k n : ℕ) → q ≡ file-read (parse text) → q .outcome ≡ Refused k n → record { outcome = Refused k n; table = q .table } ≡ reading text
+unfolding file-read
+whole-refused text q k n e o = go (parse text) refl e
   where
-    go : (a : Answer) → read text ≡ a → q ≡ answered a → record { outcome = Refused k n; table = q .table } ≡ reading text
+    go : (a : Parsed) → parse text ≡ a → q ≡ file-read a → record { outcome = Refused k n; table = q .table } ≡ reading text
     go (accepted f) r s = absurd (clash (sym o ∙ ap (λ (x : FileRead). x .outcome) s))
       where
         clash : Refused k n ≡ Accepted → ⊥
@@ -127,7 +127,7 @@ fault-range k before after (ends-inside o) = (omega arith, omega arith)
 fault-range k before after (too-long o) = (omega arith, omega arith)
 fault-range k before after (in-place l h o) = (omega (arith, l), h)
 
-refused-range : (text : List ℕ) (k n : ℕ) → read text ≡ refused k n → (10 ≤ k) × (k ≤ 17)
+refused-range : (text : List ℕ) (k n : ℕ) → parse text ≡ refused k n → (10 ≤ k) × (k ≤ 17)
 refused-range text k n e = ⊎-elim (λ w. (omega (arith, w .0), omega (arith, w .0))) (λ w. fault-range k _ _ (w .1 .fault)) (refusal-stands text k n e)
 
 outcomes-differ : (k n : ℕ) → Accepted ≡ Refused k n → ⊥
@@ -135,14 +135,14 @@ outcomes-differ k n c = let z : _≡_ {A = ℕ} 0 1 = cc in omega arith
 
 -- A text is accepted exactly where it is a file whose rules have strata.
 pub reading-accepted-iff : (text : List ℕ) → ((f : File) × Is-file text f × ((u : ℕ → ℕ) × Strata weak (f .rules) u)) ↔ (reading text .outcome ≡ Accepted)
-reading-accepted-iff text = (there, λ o. back o (read text) refl)
+reading-accepted-iff text = (there, λ o. back o (parse text) refl)
   where
     there : (f : File) × Is-file text f × ((u : ℕ → ℕ) × Strata weak (f .rules) u) → reading text .outcome ≡ Accepted
     there w =
         let z = no-circle weak (w .0 .rules) (w .2 .0) (w .2 .1) in
         ap (λ (a : FileRead). a .outcome) (reading-file text (w .0) (accepts-iff text (w .0) .1 (w .1)) ∙ layered-zero (w .0) z)
 
-    back : reading text .outcome ≡ Accepted → (a : Answer) → read text ≡ a → (f : File) × Is-file text f × ((u : ℕ → ℕ) × Strata weak (f .rules) u)
+    back : reading text .outcome ≡ Accepted → (a : Parsed) → parse text ≡ a → (f : File) × Is-file text f × ((u : ℕ → ℕ) × Strata weak (f .rules) u)
     back o (accepted f) e = by-circle (eqb (circle-of weak (f .rules)) 0) refl
       where
         by-circle : (b : Bool) → eqb (circle-of weak (f .rules)) 0 ≡ b → (f : File) × Is-file text f × ((u : ℕ → ℕ) × Strata weak (f .rules) u)
@@ -156,7 +156,7 @@ unfolding with-strata show-slot show-value
 with-strata-shown text t = (λ s. refl, λ s v. refl)
 
 -- An accepted text is read as a file; its table is the file's with the least strata, and has the file's rules.
-pub accepted-table : (text : List ℕ) → reading text .outcome ≡ Accepted → (f : File) × (read text ≡ accepted f) × (reading text .table ≡ with-strata (table-for f)) × (rules-of (reading text .table) ≡ f .rules)
+pub accepted-table : (text : List ℕ) → reading text .outcome ≡ Accepted → (f : File) × (parse text ≡ accepted f) × (reading text .table ≡ with-strata (table-for f)) × (rules-of (reading text .table) ≡ f .rules)
 accepted-table text o =
     let w = reading-accepted-iff text .1 o in
     let f = w .0 in
@@ -190,7 +190,7 @@ reading-carries text o =
 -- A text is refused with 18 exactly where it is a file whose rules have a circle through a NOT; the second number is the lowest rule on such a circle.
 pub reading-18-iff : (text : List ℕ) (k : ℕ) → (reading text .outcome ≡ Refused 18 k) ↔ ((f : File) × Is-file text f × LowestThroughNot (f .rules) k)
 unfolding NoCircle
-reading-18-iff text k = (λ o. there o (read text) refl, back)
+reading-18-iff text k = (λ o. there o (parse text) refl, back)
   where
     seconds : (a b : ℕ) → Refused 18 a ≡ Refused 18 b → a ≡ b
     seconds a b c = let z : a ≡ b = cc in z
@@ -198,7 +198,7 @@ reading-18-iff text k = (λ o. there o (read text) refl, back)
     numbers : (a b m : ℕ) → Refused 18 a ≡ Refused b m → b ≡ 18
     numbers a b m c = let z : b ≡ 18 = cc in z
 
-    there : reading text .outcome ≡ Refused 18 k → (a : Answer) → read text ≡ a → (f : File) × Is-file text f × LowestThroughNot (f .rules) k
+    there : reading text .outcome ≡ Refused 18 k → (a : Parsed) → parse text ≡ a → (f : File) × Is-file text f × LowestThroughNot (f .rules) k
     there o (accepted f) e = by-circle (eqb (circle-of weak (f .rules)) 0) refl
       where
         by-circle : (b : Bool) → eqb (circle-of weak (f .rules)) 0 ≡ b → (f : File) × Is-file text f × LowestThroughNot (f .rules) k
@@ -237,26 +237,26 @@ reading-no-strata-iff text = (there, back)
 
 -- Every table that the reading hands out passes 31.
 pub reading-passes : (text : List ℕ) → T (sound (reading text .table))
-reading-passes text = go (read text) refl
+reading-passes text = go (parse text) refl
   where
-    go : (a : Answer) → read text ≡ a → T (sound (reading text .table))
+    go : (a : Parsed) → parse text ≡ a → T (sound (reading text .table))
     go (accepted f) e =
         let D = file-declared text f (accepts-iff text f .0 e) in
         rw (reading-file text f e ∙ sym (layered-table f)) (layer-passes (table-for f) (file-shaped f D) (file-well-formed f D))
     go (refused k n) e = rw (reading-refused text k n e) empty-passes
 
 -- A text is accepted exactly where the number of its refusal is 0.
-pub reading-no-refusal : (text : List ℕ) → refusal-number (reading text .outcome) ≡ 0 → reading text .outcome ≡ Accepted
-reading-no-refusal text e = go (read text) refl
+pub reading-no-refusal : (text : List ℕ) → reading-refusal (reading text .outcome) ≡ 0 → reading text .outcome ≡ Accepted
+reading-no-refusal text e = go (parse text) refl
   where
-    go : (a : Answer) → read text ≡ a → reading text .outcome ≡ Accepted
+    go : (a : Parsed) → parse text ≡ a → reading text .outcome ≡ Accepted
     go (accepted f) r = by-circle (eqb (circle-of weak (f .rules)) 0) refl
       where
         by-circle : (b : Bool) → eqb (circle-of weak (f .rules)) 0 ≡ b → reading text .outcome ≡ Accepted
         by-circle true q = ap (λ (a : FileRead). a .outcome) (reading-file text f r ∙ layered-zero f (eqb-true (circle-of weak (f .rules)) 0 q))
         by-circle false q =
-            let z = ap (λ (a : FileRead). refusal-number (a .outcome)) (reading-file text f r ∙ layered-circle f (eqb-false (circle-of weak (f .rules)) 0 q)) in
+            let z = ap (λ (a : FileRead). reading-refusal (a .outcome)) (reading-file text f r ∙ layered-circle f (eqb-false (circle-of weak (f .rules)) 0 q)) in
             absurd (omega (arith, z, e))
     go (refused k n) r =
-        let z = ap (λ (a : FileRead). refusal-number (a .outcome)) (reading-refused text k n r) in
+        let z = ap (λ (a : FileRead). reading-refusal (a .outcome)) (reading-refused text k n r) in
         absurd (omega (arith, z, e, refused-range text k n r .0))

@@ -20,7 +20,7 @@ use Rattle.table.specs.declared.Literal.{Literal}
 use Rattle.table.specs.declared.Rule.{Rule}
 use Rattle.table.specs.declared.Slot.{Slot}
 use Rattle.table.specs.Limits.{slot-limit, value-limit, rule-limit, literal-limit, assignment-limit}
-use Rattle.table.specs.Shape.{no-literal, no-assignment, no-rule, no-slot, no-name, LiteralShaped, AssignmentShaped, RuleShaped, SlotShaped, Shaped}
+use Rattle.table.specs.Shape.{zero-literal, zero-assignment, zero-rule, zero-slot, zero-name, LiteralShaped, AssignmentShaped, RuleShaped, SlotShaped, Shaped}
 use Rattle.table.specs.Empty.{unused-rule, unused-slot}
 use Rattle.table.specs.Link.{literal-of, assignment-of, rule-of, rules-of, value-counts}
 use Rattle.names.specs.Names.{has-slot, has-value}
@@ -55,10 +55,10 @@ image-at n unused d f xs i e h =
     used-at n unused (map f xs) i d l ∙ any-default (map f xs) i d (f e) l ∙ List·getD-map f xs i e
 
 literals-back : (r : model.Rule) → rule-of (rule-for r) .literals ≡ r .literals
-literals-back r = ap (map literal-of) (used-of literal-limit no-literal literal-for (r .literals)) ∙ literals-kept (r .literals)
+literals-back r = ap (map literal-of) (used-of literal-limit zero-literal literal-for (r .literals)) ∙ literals-kept (r .literals)
 
 assignments-back : (r : model.Rule) → rule-of (rule-for r) .assignments ≡ r .assignments
-assignments-back r = ap (map assignment-of) (used-of assignment-limit no-assignment assignment-for (r .assignments)) ∙ assignments-kept (r .assignments)
+assignments-back r = ap (map assignment-of) (used-of assignment-limit zero-assignment assignment-for (r .assignments)) ∙ assignments-kept (r .assignments)
 
 rule-back : (r : model.Rule) → rule-of (rule-for r) ≡ r
 rule-back r = λ i. record { trigger = r .trigger; literals = literals-back r i; assignments = assignments-back r i }
@@ -99,10 +99,10 @@ rule-for-shaped r few-l few-a t ls ps =
     record {
       slot-byte = t .0;
       value-byte = t .1;
-      literal-places = filled-length literal-limit no-literal (map literal-for (r .literals)) (omega (arith, few-l, sized));
-      each-literal = filled-each LiteralShaped literal-limit no-literal (map literal-for (r .literals)) no-literal (omega (arith, few-l, sized)) (record { slot-byte = omega arith; value-byte = omega arith }) literal;
-      assignment-places = filled-length assignment-limit no-assignment (map assignment-for (r .assignments)) (omega (arith, few-a, counted));
-      each-assignment = filled-each AssignmentShaped assignment-limit no-assignment (map assignment-for (r .assignments)) no-assignment (omega (arith, few-a, counted)) (record { slot-byte = omega arith; value-byte = omega arith }) assignment;
+      literal-places = filled-length literal-limit zero-literal (map literal-for (r .literals)) (omega (arith, few-l, sized));
+      each-literal = filled-each LiteralShaped literal-limit zero-literal (map literal-for (r .literals)) zero-literal (omega (arith, few-l, sized)) (record { slot-byte = omega arith; value-byte = omega arith }) literal;
+      assignment-places = filled-length assignment-limit zero-assignment (map assignment-for (r .assignments)) (omega (arith, few-a, counted));
+      each-assignment = filled-each AssignmentShaped assignment-limit zero-assignment (map assignment-for (r .assignments)) zero-assignment (omega (arith, few-a, counted)) (record { slot-byte = omega arith; value-byte = omega arith }) assignment;
       stratum-byte = omega arith;
     }
   where
@@ -112,12 +112,12 @@ rule-for-shaped r few-l few-a t ls ps =
     counted : length (map assignment-for (r .assignments)) ≡ length (r .assignments)
     counted = length-map (r .assignments) assignment-for
 
-    literal : (i : ℕ) → i < length (map literal-for (r .literals)) → LiteralShaped (getD (map literal-for (r .literals)) i no-literal)
+    literal : (i : ℕ) → i < length (map literal-for (r .literals)) → LiteralShaped (getD (map literal-for (r .literals)) i zero-literal)
     literal i h =
         let s = each-at (λ (l : model.Literal). Small (l .pair)) (r .literals) i no-test ls (omega (arith, h, sized)) in
         rw (List·getD-map literal-for (r .literals) i no-test) (record { slot-byte = s .0; value-byte = s .1 })
 
-    assignment : (i : ℕ) → i < length (map assignment-for (r .assignments)) → AssignmentShaped (getD (map assignment-for (r .assignments)) i no-assignment)
+    assignment : (i : ℕ) → i < length (map assignment-for (r .assignments)) → AssignmentShaped (getD (map assignment-for (r .assignments)) i zero-assignment)
     assignment i h =
         let s = each-at Small (r .assignments) i no-pair ps (omega (arith, h, counted)) in
         rw (List·getD-map assignment-for (r .assignments) i no-pair) (record { slot-byte = s .0; value-byte = s .1 })
@@ -160,20 +160,20 @@ module _ (f : File) (D : Declared-file f) where
   rule-declared : (i : ℕ) → i < length (f .rules) → Declared-rule (f .slots) (getD (f .rules) i orders.no-rule)
   rule-declared i h = each-at (Declared-rule (f .slots)) (f .rules) i orders.no-rule (D .each-rule) h
 
-  declared-shaped : (i : ℕ) → i < length (map rule-for (f .rules)) → RuleShaped (getD (map rule-for (f .rules)) i no-rule)
+  declared-shaped : (i : ℕ) → i < length (map rule-for (f .rules)) → RuleShaped (getD (map rule-for (f .rules)) i zero-rule)
   unfolding max-literals max-assignments
   declared-shaped i h =
       let r : model.Rule = getD (f .rules) i orders.no-rule in
       let d = rule-declared i (omega (arith, h, length-map (f .rules) rule-for)) in
-      rw (any-default (map rule-for (f .rules)) i no-rule (rule-for orders.no-rule) h, List·getD-map rule-for (f .rules) i orders.no-rule)
+      rw (any-default (map rule-for (f .rules)) i zero-rule (rule-for orders.no-rule) h, List·getD-map rule-for (f .rules) i orders.no-rule)
       (rule-for-shaped r (d .few-literals) (d .few-assignments) (small (r .trigger) (d .trigger-declared))
       (each-imply (λ (l : model.Literal). Declared-pair (f .slots) (l .pair)) (λ (l : model.Literal). Small (l .pair)) (r .literals) (λ l. small (l .pair)) (d .literals-declared)) (each-imply (Declared-pair (f .slots)) Small (r .assignments) small (d .assignments-declared)))
 
-  slot-shaped : (i : ℕ) → i < length (map slot-for (f .slots)) → SlotShaped (getD (map slot-for (f .slots)) i no-slot)
+  slot-shaped : (i : ℕ) → i < length (map slot-for (f .slots)) → SlotShaped (getD (map slot-for (f .slots)) i zero-slot)
   slot-shaped i h =
       let k : i < length (f .slots) = omega (arith, h, length-map (f .slots) slot-for) in
-      rw (any-default (map slot-for (f .slots)) i no-slot (slot-for files.no-slot) h, List·getD-map slot-for (f .slots) i files.no-slot)
-      (record { value-places = filled-length value-limit no-name (map name-for (getD (f .slots) i files.no-slot .values)) (omega (arith, slot-some i k .1, length-map (getD (f .slots) i files.no-slot .values) name-for)) })
+      rw (any-default (map slot-for (f .slots)) i zero-slot (slot-for files.no-slot) h, List·getD-map slot-for (f .slots) i files.no-slot)
+      (record { value-places = filled-length value-limit zero-name (map name-for (getD (f .slots) i files.no-slot .values)) (omega (arith, slot-some i k .1, length-map (getD (f .slots) i files.no-slot .values) name-for)) })
 
   -- The table's places are full.
   pub file-shaped : Shaped (table-for f)
@@ -183,15 +183,15 @@ module _ (f : File) (D : Declared-file f) where
       let r = length-map (f .rules) rule-for in
       record {
         slot-places = filled-length slot-limit unused-slot (map slot-for (f .slots)) (omega (arith, s, D .few-slots));
-        each-slot = filled-each SlotShaped slot-limit unused-slot (map slot-for (f .slots)) no-slot (omega (arith, s, D .few-slots)) (record { value-places = refl }) slot-shaped;
+        each-slot = filled-each SlotShaped slot-limit unused-slot (map slot-for (f .slots)) zero-slot (omega (arith, s, D .few-slots)) (record { value-places = refl }) slot-shaped;
         rule-places = filled-length rule-limit unused-rule (map rule-for (f .rules)) (omega (arith, r, D .few-rules));
-        each-rule = filled-each RuleShaped rule-limit unused-rule (map rule-for (f .rules)) no-rule (omega (arith, r, D .few-rules)) unused-shaped declared-shaped;
+        each-rule = filled-each RuleShaped rule-limit unused-rule (map rule-for (f .rules)) zero-rule (omega (arith, r, D .few-rules)) unused-shaped declared-shaped;
       }
 
   -- The rule at a place used, and the number of values of a slot.
-  rule-here : (i : ℕ) → i < length (f .rules) → getD (table-for f .rules) i no-rule ≡ rule-for (getD (f .rules) i orders.no-rule)
+  rule-here : (i : ℕ) → i < length (f .rules) → getD (table-for f .rules) i zero-rule ≡ rule-for (getD (f .rules) i orders.no-rule)
   unfolding table-for
-  rule-here i h = image-at rule-limit unused-rule no-rule rule-for (f .rules) i orders.no-rule h
+  rule-here i h = image-at rule-limit unused-rule zero-rule rule-for (f .rules) i orders.no-rule h
 
   same-width : table-for f .width ≡ length (f .slots)
   unfolding table-for
@@ -201,7 +201,7 @@ module _ (f : File) (D : Declared-file f) where
   unfolding table-for
   same-count = refl
 
-  values-here : (i : ℕ) → i < length (f .slots) → getD (table-for f .slots) i no-slot .count ≡ length (getD (f .slots) i files.no-slot .values)
+  values-here : (i : ℕ) → i < length (f .slots) → getD (table-for f .slots) i zero-slot .count ≡ length (getD (f .slots) i files.no-slot .values)
   values-here i h =
       sym (count-is (table-for f) i (omega (arith, h, same-width))) ∙ ap (λ (ns : List ℕ). getD ns i 0) (file-counts f)
       ∙ List·getD-map (λ (s : files.Slot). length (s .values)) (f .slots) i files.no-slot

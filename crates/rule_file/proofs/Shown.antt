@@ -15,9 +15,9 @@ use Rattle.grammar.specs.Files.{File, values-of}
 use Rattle.grammar.specs.Standing.{Named-by, Slots-stand}
 use Rattle.table.specs.declared.Slot.{Slot}
 use Rattle.table.specs.Limits.{slot-limit, value-limit}
-use Rattle.table.specs.Shape.{no-name, no-slot}
+use Rattle.table.specs.Shape.{zero-name, zero-slot}
 use Rattle.table.specs.Empty.{unused-slot}
-use Rattle.names.specs.Names.{refused, has-slot, has-value, show-name, show-slot, show-value-of, show-value}
+use Rattle.names.specs.Names.{not-shown, has-slot, has-value, show-name, show-slot, show-value-of, show-value}
 use Rattle.names.proofs.Names.{slot-inside, value-inside, name-inside}
 use Rattle.lines.specs.Index.{name-for, slot-for}
 use Rattle.reader.specs.Tables.{table-for}
@@ -28,9 +28,9 @@ module _ (text : List ℕ) (f : File) (stands : Slots-stand text (f .slots)) whe
   name-shown : (n : Name) → Stands text n → show-name text (name-for n) ≡ record { code = 0; part = n .letters }
   name-shown n h = name-inside text (name-for n) (h .inside) ∙ ap (λ (l : List ℕ). record { code = 0; part = l }) (h .there)
 
-  slot-here : (s : ℕ) → s < length (f .slots) → getD (table-for f .slots) s no-slot ≡ slot-for (getD (f .slots) s files.no-slot)
+  slot-here : (s : ℕ) → s < length (f .slots) → getD (table-for f .slots) s zero-slot ≡ slot-for (getD (f .slots) s files.no-slot)
   unfolding table-for
-  slot-here s h = image-at slot-limit unused-slot no-slot slot-for (f .slots) s files.no-slot h
+  slot-here s h = image-at slot-limit unused-slot zero-slot slot-for (f .slots) s files.no-slot h
 
   names-here : (s : ℕ) → s < length (f .slots) → Named-by (Stands text) (getD (f .slots) s files.no-slot)
   names-here s h = each-at (Named-by (Stands text)) (f .slots) s files.no-slot stands h
@@ -41,18 +41,18 @@ module _ (text : List ℕ) (f : File) (stands : Slots-stand text (f .slots)) whe
   slots-show s = go (has-slot (length (f .slots)) s) refl
     where
       go : (b : Bool) → has-slot (length (f .slots)) s ≡ b
-          → cond b (show-name text (getD (table-for f .slots) s no-slot .name)) refused ≡ cond b (record { code = 0; part = getD (f .slots) s files.no-slot .name .letters }) refused
+          → cond b (show-name text (getD (table-for f .slots) s zero-slot .name)) not-shown ≡ cond b (record { code = 0; part = getD (f .slots) s files.no-slot .name .letters }) not-shown
       go true e =
           let h = slot-inside (length (f .slots)) s e .1 in
           ap (λ (t : Slot). show-name text (t .name)) (slot-here s h) ∙ name-shown (getD (f .slots) s files.no-slot .name) (names-here s h .0)
       go false e = refl
 
   value-here : (ns : List Name) (v : ℕ) → Each (Stands text) ns → has-value (length ns) v ≡ true
-      → show-name text (getD (slot-for (record { name = files.no-slot .name; values = ns }) .values) (v - 1) no-name) ≡ record { code = 0; part = getD ns (v - 1) (files.no-slot .name) .letters }
+      → show-name text (getD (slot-for (record { name = files.no-slot .name; values = ns }) .values) (v - 1) zero-name) ≡ record { code = 0; part = getD ns (v - 1) (files.no-slot .name) .letters }
   value-here ns v h e =
       let i = value-inside (length ns) v e in
       let l : v - 1 < length ns = omega (arith, i .0, i .1 .1) in
-      ap (show-name text) (image-at value-limit no-name no-name name-for ns (v - 1) (files.no-slot .name) l)
+      ap (show-name text) (image-at value-limit zero-name zero-name name-for ns (v - 1) (files.no-slot .name) l)
       ∙ name-shown (getD ns (v - 1) (files.no-slot .name)) (each-at (Stands text) ns (v - 1) (files.no-slot .name) h l)
 
   -- The name of each value.
@@ -61,14 +61,14 @@ module _ (text : List ℕ) (f : File) (stands : Slots-stand text (f .slots)) whe
   values-show s v = go (has-slot (length (f .slots)) s) refl
     where
       within : (ns : List Name) (b : Bool) → has-value (length ns) v ≡ b → Each (Stands text) ns
-          → cond b (show-name text (getD (slot-for (record { name = files.no-slot .name; values = ns }) .values) (v - 1) no-name)) refused
-          ≡ cond b (record { code = 0; part = getD ns (v - 1) (files.no-slot .name) .letters }) refused
+          → cond b (show-name text (getD (slot-for (record { name = files.no-slot .name; values = ns }) .values) (v - 1) zero-name)) not-shown
+          ≡ cond b (record { code = 0; part = getD ns (v - 1) (files.no-slot .name) .letters }) not-shown
       within ns true e h = value-here ns v h e
       within ns false e h = refl
 
       go : (b : Bool) → has-slot (length (f .slots)) s ≡ b
-          → cond b (show-value-of text (getD (table-for f .slots) s no-slot) v) refused
-          ≡ cond b (cond (has-value (length (values-of (f .slots) s)) v) (record { code = 0; part = getD (values-of (f .slots) s) (v - 1) (files.no-slot .name) .letters }) refused) refused
+          → cond b (show-value-of text (getD (table-for f .slots) s zero-slot) v) not-shown
+          ≡ cond b (cond (has-value (length (values-of (f .slots) s)) v) (record { code = 0; part = getD (values-of (f .slots) s) (v - 1) (files.no-slot .name) .letters }) not-shown) not-shown
       go true e =
           let h = slot-inside (length (f .slots)) s e .1 in
           ap (λ (t : Slot). show-value-of text t v) (slot-here s h)

@@ -12,7 +12,7 @@ use Rattle.model.specs.Strata.{weak, Strata}
 use Rattle.model.specs.Least.{LeastStrata}
 use Rattle.table.specs.declared.Table.{Table}
 use Rattle.table.specs.Limits.{slot-limit, value-limit}
-use Rattle.table.specs.Shape.{no-slot, Shaped}
+use Rattle.table.specs.Shape.{zero-slot, Shaped}
 use Rattle.table.specs.Link.{rules-of, stratum-at}
 use Rattle.table.specs.Fits.{TableFits}
 use Rattle.soundness.specs.Sound.{within-limits, well-formed, sound}
@@ -26,7 +26,7 @@ sound-width t e =
     leb→le (t .width) slot-limit (and-l (leb (t .width) slot-limit) _ (and-l _ _ (and-l _ _ (and-l _ _ (and-l _ _ (and-l _ _ (sound-parts t (from-true (sound t) e) .0)))))))
 
 -- Each slot has 1 to 15 values.
-pub sound-values : (t : Table) → Shaped t → sound t ≡ true → (i : ℕ) → i < t .width → (1 ≤ getD (t .slots) i no-slot .count) × (getD (t .slots) i no-slot .count ≤ value-limit)
+pub sound-values : (t : Table) → Shaped t → sound t ≡ true → (i : ℕ) → i < t .width → (1 ≤ getD (t .slots) i zero-slot .count) × (getD (t .slots) i zero-slot .count ≤ value-limit)
 sound-values t sh e i h =
     let w = well-formed-e t sh (sound-parts t (from-true (sound t) e) .0) in
     (w .some-value i h, w .few-values i h)

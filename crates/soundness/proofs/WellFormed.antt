@@ -19,7 +19,7 @@ use Rattle.table.specs.declared.Rule.{Rule}
 use Rattle.table.specs.declared.Slot.{Slot}
 use Rattle.table.specs.declared.Table.{Table}
 use Rattle.table.specs.Limits.{slot-limit, value-limit, rule-limit, literal-limit, assignment-limit}
-use Rattle.table.specs.Shape.{no-literal, no-assignment, no-rule, no-slot, RuleShaped, Shaped}
+use Rattle.table.specs.Shape.{zero-literal, zero-assignment, zero-rule, zero-slot, RuleShaped, Shaped}
 use Rattle.table.specs.Link.{literal-of, assignment-of, rule-of, literals-of, assignments-of, slots-of, used-rules, value-counts}
 use Rattle.names.specs.Names.{has-slot}
 use Rattle.table.specs.Flat.{Placed}
@@ -52,18 +52,18 @@ right-e width counts r t =
 -- A well-formed table.
 pub record WellFormed (t : Table) : Type 0 where
   pub few-slots : t .width ≤ slot-limit
-  pub some-value : (i : ℕ) → i < t .width → 1 ≤ getD (t .slots) i no-slot .count
-  pub few-values : (i : ℕ) → i < t .width → getD (t .slots) i no-slot .count ≤ value-limit
+  pub some-value : (i : ℕ) → i < t .width → 1 ≤ getD (t .slots) i zero-slot .count
+  pub few-values : (i : ℕ) → i < t .width → getD (t .slots) i zero-slot .count ≤ value-limit
   pub few-rules : t .count ≤ rule-limit
-  pub each-right : (i : ℕ) → i < t .count → T (rule-right (t .width) (value-counts t) (getD (t .rules) i no-rule))
+  pub each-right : (i : ℕ) → i < t .count → T (rule-right (t .width) (value-counts t) (getD (t .rules) i zero-rule))
 
 module _ (t : Table) where
   -- A test of all slots used, and of all rules used.
-  slots-i : (f : Slot → Bool) → ((i : ℕ) → i < t .width → T (f (getD (t .slots) i no-slot))) → T (all-of f (slots-of t))
-  slots-i f h = all-i f (slots-of t) no-slot (λ i l. let k : i < t .width = omega (arith, l, length-take (t .width) (t .slots)) in rw (getD-take (t .width) (t .slots) i no-slot k) (h i k))
+  slots-i : (f : Slot → Bool) → ((i : ℕ) → i < t .width → T (f (getD (t .slots) i zero-slot))) → T (all-of f (slots-of t))
+  slots-i f h = all-i f (slots-of t) zero-slot (λ i l. let k : i < t .width = omega (arith, l, length-take (t .width) (t .slots)) in rw (getD-take (t .width) (t .slots) i zero-slot k) (h i k))
 
-  rules-i : (f : Rule → Bool) → ((i : ℕ) → i < t .count → T (f (getD (t .rules) i no-rule))) → T (all-of f (used-rules t))
-  rules-i f h = all-i f (used-rules t) no-rule (λ i l. let k : i < t .count = omega (arith, l, length-take (t .count) (t .rules)) in rw (getD-take (t .count) (t .rules) i no-rule k) (h i k))
+  rules-i : (f : Rule → Bool) → ((i : ℕ) → i < t .count → T (f (getD (t .rules) i zero-rule))) → T (all-of f (used-rules t))
+  rules-i f h = all-i f (used-rules t) zero-rule (λ i l. let k : i < t .count = omega (arith, l, length-take (t .count) (t .rules)) in rw (getD-take (t .count) (t .rules) i zero-rule k) (h i k))
 
   pub well-formed-i : WellFormed t → T (well-formed t)
   unfolding well-formed within-limits slots-have-values names-its-own assigns-once
@@ -71,22 +71,22 @@ module _ (t : Table) where
       and-i _ _ (and-i _ _ (and-i _ _
       (and-i _ _ (and-i _ _ (and-i (leb (t .width) slot-limit) _ (le→leb (t .width) slot-limit (w .few-slots)) (slots-i (λ s. leb (s .count) value-limit) (λ i h. le→leb _ value-limit (w .few-values i h))))
       (le→leb (t .count) rule-limit (w .few-rules)))
-      (rules-i (λ r. leb (r .tested) literal-limit ∧ᵇ leb (r .assigned) assignment-limit) (λ i h. and-i (leb (getD (t .rules) i no-rule .tested) literal-limit) _ (le→leb _ literal-limit (right i h .few-literals)) (le→leb _ assignment-limit (right i h .few-assignments)))))
+      (rules-i (λ r. leb (r .tested) literal-limit ∧ᵇ leb (r .assigned) assignment-limit) (λ i h. and-i (leb (getD (t .rules) i zero-rule .tested) literal-limit) _ (le→leb _ literal-limit (right i h .few-literals)) (le→leb _ assignment-limit (right i h .few-assignments)))))
       (slots-i (λ s. leb 1 (s .count)) (λ i h. le→leb 1 _ (w .some-value i h))))
       (rules-i (λ r. all-of (has-pair (t .width) (value-counts t)) (named r)) (λ i h. right i h .names-own)))
       (rules-i (λ r. each-once (assignments-of r)) (λ i h. right i h .once))
     where
-      right : (i : ℕ) → i < t .count → RuleRight (t .width) (value-counts t) (getD (t .rules) i no-rule)
-      right i h = right-e (t .width) (value-counts t) (getD (t .rules) i no-rule) (w .each-right i h)
+      right : (i : ℕ) → i < t .count → RuleRight (t .width) (value-counts t) (getD (t .rules) i zero-rule)
+      right i h = right-e (t .width) (value-counts t) (getD (t .rules) i zero-rule) (w .each-right i h)
 
 module _ (t : Table) (sh : Shaped t) where
-  slots-e : (f : Slot → Bool) → t .width ≤ slot-limit → T (all-of f (slots-of t)) → (i : ℕ) → i < t .width → T (f (getD (t .slots) i no-slot))
+  slots-e : (f : Slot → Bool) → t .width ≤ slot-limit → T (all-of f (slots-of t)) → (i : ℕ) → i < t .width → T (f (getD (t .slots) i zero-slot))
   slots-e f w u i h =
-      rw (getD-take (t .width) (t .slots) i no-slot h) at (all-e f (slots-of t) no-slot u i (rw length-take (omega (arith, sh .slot-places))))
+      rw (getD-take (t .width) (t .slots) i zero-slot h) at (all-e f (slots-of t) zero-slot u i (rw length-take (omega (arith, sh .slot-places))))
 
-  rules-e : (f : Rule → Bool) → t .count ≤ rule-limit → T (all-of f (used-rules t)) → (i : ℕ) → i < t .count → T (f (getD (t .rules) i no-rule))
+  rules-e : (f : Rule → Bool) → t .count ≤ rule-limit → T (all-of f (used-rules t)) → (i : ℕ) → i < t .count → T (f (getD (t .rules) i zero-rule))
   rules-e f w u i h =
-      rw (getD-take (t .count) (t .rules) i no-rule h) at (all-e f (used-rules t) no-rule u i (rw length-take (omega (arith, sh .rule-places))))
+      rw (getD-take (t .count) (t .rules) i zero-rule h) at (all-e f (used-rules t) zero-rule u i (rw length-take (omega (arith, sh .rule-places))))
 
   pub well-formed-e : T (well-formed t) → WellFormed t
   unfolding well-formed within-limits slots-have-values names-its-own assigns-once rule-right
@@ -129,12 +129,12 @@ right-fits t w r sh g = record {
   trigger = has-placed t w (rule-of r .trigger) (parts .0);
   literals-fit = g .few-literals;
   assignments-fit = g .few-assignments;
-  literal = λ j h. has-placed t w (literal-of (getD (r .literals) j no-literal) .pair)
-      (rw (List·getD-map (λ l. l .pair) (literals-of r) j (literal-of no-literal), List·getD-map literal-of (take (r .tested) (r .literals)) j no-literal, getD-take (r .tested) (r .literals) j no-literal h)
-      at (all-e (has-pair (t .width) (value-counts t)) (map (λ l. l .pair) (literals-of r)) (literal-of no-literal .pair) (parts .1) j (rw (length-map, length-map, length-take) (omega (arith, g .few-literals, sh .literal-places)))));
-  assignment = λ j h. has-placed t w (assignment-of (getD (r .assignments) j no-assignment))
-      (rw (List·getD-map assignment-of (take (r .assigned) (r .assignments)) j no-assignment, getD-take (r .assigned) (r .assignments) j no-assignment h)
-      at (all-e (has-pair (t .width) (value-counts t)) (assignments-of r) (assignment-of no-assignment) (parts .2) j (rw (length-map, length-take) (omega (arith, g .few-assignments, sh .assignment-places)))));
+  literal = λ j h. has-placed t w (literal-of (getD (r .literals) j zero-literal) .pair)
+      (rw (List·getD-map (λ l. l .pair) (literals-of r) j (literal-of zero-literal), List·getD-map literal-of (take (r .tested) (r .literals)) j zero-literal, getD-take (r .tested) (r .literals) j zero-literal h)
+      at (all-e (has-pair (t .width) (value-counts t)) (map (λ l. l .pair) (literals-of r)) (literal-of zero-literal .pair) (parts .1) j (rw (length-map, length-map, length-take) (omega (arith, g .few-literals, sh .literal-places)))));
+  assignment = λ j h. has-placed t w (assignment-of (getD (r .assignments) j zero-assignment))
+      (rw (List·getD-map assignment-of (take (r .assigned) (r .assignments)) j zero-assignment, getD-take (r .assigned) (r .assignments) j zero-assignment h)
+      at (all-e (has-pair (t .width) (value-counts t)) (assignments-of r) (assignment-of zero-assignment) (parts .2) j (rw (length-map, length-take) (omega (arith, g .few-assignments, sh .assignment-places)))));
 }
   where
     parts : T (has-pair (t .width) (value-counts t) (rule-of r .trigger)) × T (all-of (has-pair (t .width) (value-counts t)) (map (λ l. l .pair) (literals-of r))) × T (all-of (has-pair (t .width) (value-counts t)) (assignments-of r))
@@ -146,15 +146,15 @@ well-formed-fits t sh u =
     let w = well-formed-e t sh u in
     record {
       rules-fit = w .few-rules;
-      each-fits = λ i h. right-fits t w (getD (t .rules) i no-rule) (sh .each-rule i (omega (arith, w .few-rules))) (right-e (t .width) (value-counts t) (getD (t .rules) i no-rule) (w .each-right i h));
+      each-fits = λ i h. right-fits t w (getD (t .rules) i zero-rule) (sh .each-rule i (omega (arith, w .few-rules))) (right-e (t .width) (value-counts t) (getD (t .rules) i zero-rule) (w .each-right i h));
     }
 
 -- The array of counts that the code gathers: that of each of the first k slots, with what the slots are asked for.
 pub record Counted (t : Table) (k : ℕ) (counts : List ℕ) : Type 0 where
   pub places : length counts ≡ slot-limit
-  pub same-count : (i : ℕ) → i < k → getD counts i 0 ≡ getD (t .slots) i no-slot .count
-  pub not-none : (i : ℕ) → i < k → 1 ≤ getD (t .slots) i no-slot .count
-  pub not-many : (i : ℕ) → i < k → getD (t .slots) i no-slot .count ≤ value-limit
+  pub same-count : (i : ℕ) → i < k → getD counts i 0 ≡ getD (t .slots) i zero-slot .count
+  pub not-none : (i : ℕ) → i < k → 1 ≤ getD (t .slots) i zero-slot .count
+  pub not-many : (i : ℕ) → i < k → getD (t .slots) i zero-slot .count ≤ value-limit
 
 pub counted-start : (t : Table) (counts : List ℕ) → length counts ≡ slot-limit → Counted t 0 counts
 counted-start t counts l = record { places = l; same-count = λ i h. absurd (omega arith); not-none = λ i h. absurd (omega arith); not-many = λ i h. absurd (omega arith) }
@@ -162,15 +162,15 @@ counted-start t counts l = record { places = l; same-count = λ i h. absurd (ome
 up-to : (P : ℕ → Type 0) (k : ℕ) → ((i : ℕ) → i < k → P i) → P k → (i : ℕ) → i < k + 1 → P i
 up-to P k f p i h = ⊎-elim (λ (e : i ≡ k). rw e p) (λ n. f i (⊎-elim (λ (l : k ≤ i). absurd (n (omega arith))) (λ (l : i < k). l) (le-or-lt k i))) (either i k)
 
-pub counted-step : (t : Table) (k : ℕ) (counts : List ℕ) → k < slot-limit → 1 ≤ getD (t .slots) k no-slot .count → getD (t .slots) k no-slot .count ≤ value-limit → Counted t k counts
-    → Counted t (k + 1) (set counts k (getD (t .slots) k no-slot .count))
+pub counted-step : (t : Table) (k : ℕ) (counts : List ℕ) → k < slot-limit → 1 ≤ getD (t .slots) k zero-slot .count → getD (t .slots) k zero-slot .count ≤ value-limit → Counted t k counts
+    → Counted t (k + 1) (set counts k (getD (t .slots) k zero-slot .count))
 counted-step t k counts h lo hi g = record {
   places = length-set counts k _ ∙ g .places;
-  same-count = up-to (λ i. getD (set counts k (getD (t .slots) k no-slot .count)) i 0 ≡ getD (t .slots) i no-slot .count) k
+  same-count = up-to (λ i. getD (set counts k (getD (t .slots) k zero-slot .count)) i 0 ≡ getD (t .slots) i zero-slot .count) k
       (λ i l. getD-set-other counts k i _ 0 (λ (e : i ≡ k). omega arith) ∙ g .same-count i l)
       (getD-set-same counts k _ 0 (omega (arith, g .places)));
-  not-none = up-to (λ i. 1 ≤ getD (t .slots) i no-slot .count) k (g .not-none) lo;
-  not-many = up-to (λ i. getD (t .slots) i no-slot .count ≤ value-limit) k (g .not-many) hi;
+  not-none = up-to (λ i. 1 ≤ getD (t .slots) i zero-slot .count) k (g .not-none) lo;
+  not-many = up-to (λ i. getD (t .slots) i zero-slot .count ≤ value-limit) k (g .not-many) hi;
 }
 
 -- With it the tests of a rule are those with the table's own counts.
@@ -186,15 +186,15 @@ right-same t counts g r = rw (all-same (has-pair (t .width) counts) (has-pair (t
 
 -- The answers of the code.
 pub RightUpTo : Table → List ℕ → ℕ → Type 0
-RightUpTo t counts i = (m : ℕ) → m < i → T (rule-right (t .width) counts (getD (t .rules) m no-rule))
+RightUpTo t counts i = (m : ℕ) → m < i → T (rule-right (t .width) counts (getD (t .rules) m zero-rule))
 
 pub right-start : (t : Table) (counts : List ℕ) → RightUpTo t counts 0
 unfolding RightUpTo
 right-start t counts m h = absurd (omega arith)
 
-pub right-more : (t : Table) (counts : List ℕ) (i : ℕ) → rule-right (t .width) counts (getD (t .rules) i no-rule) ≡ true → RightUpTo t counts i → RightUpTo t counts (i + 1)
+pub right-more : (t : Table) (counts : List ℕ) (i : ℕ) → rule-right (t .width) counts (getD (t .rules) i zero-rule) ≡ true → RightUpTo t counts i → RightUpTo t counts (i + 1)
 unfolding RightUpTo
-right-more t counts i e h = up-to (λ m. T (rule-right (t .width) counts (getD (t .rules) m no-rule))) i h (from-true _ e)
+right-more t counts i e h = up-to (λ m. T (rule-right (t .width) counts (getD (t .rules) m zero-rule))) i h (from-true _ e)
 
 module _ (t : Table) (sh : Shaped t) where
   no : (T (well-formed t) → ⊥) → false ≡ well-formed t
@@ -203,17 +203,17 @@ module _ (t : Table) (sh : Shaped t) where
   pub many-slots : slot-limit < t .width → false ≡ well-formed t
   many-slots h = no (λ u. omega (arith, well-formed-e t sh u .few-slots))
 
-  pub no-values : (k : ℕ) → k < t .width → getD (t .slots) k no-slot .count < 1 → false ≡ well-formed t
+  pub no-values : (k : ℕ) → k < t .width → getD (t .slots) k zero-slot .count < 1 → false ≡ well-formed t
   no-values k h l = no (λ u. omega (arith, well-formed-e t sh u .some-value k h))
 
-  pub many-values : (k : ℕ) → k < t .width → value-limit < getD (t .slots) k no-slot .count → false ≡ well-formed t
+  pub many-values : (k : ℕ) → k < t .width → value-limit < getD (t .slots) k zero-slot .count → false ≡ well-formed t
   many-values k h l = no (λ u. omega (arith, well-formed-e t sh u .few-values k h))
 
   pub many-rules : rule-limit < t .count → false ≡ well-formed t
   many-rules h = no (λ u. omega (arith, well-formed-e t sh u .few-rules))
 
-  pub wrong-rule : (counts : List ℕ) → Counted t (t .width) counts → (i : ℕ) → i < t .count → rule-right (t .width) counts (getD (t .rules) i no-rule) ≡ false → false ≡ well-formed t
-  wrong-rule counts g i h e = no (λ u. rw (← (right-same t counts g (getD (t .rules) i no-rule)), e) at (well-formed-e t sh u .each-right i h))
+  pub wrong-rule : (counts : List ℕ) → Counted t (t .width) counts → (i : ℕ) → i < t .count → rule-right (t .width) counts (getD (t .rules) i zero-rule) ≡ false → false ≡ well-formed t
+  wrong-rule counts g i h e = no (λ u. rw (← (right-same t counts g (getD (t .rules) i zero-rule)), e) at (well-formed-e t sh u .each-right i h))
 
   pub all-right : (counts : List ℕ) → Counted t (t .width) counts → t .width ≤ slot-limit → t .count ≤ rule-limit → RightUpTo t counts (t .count) → true ≡ well-formed t
   unfolding RightUpTo
@@ -223,7 +223,7 @@ module _ (t : Table) (sh : Shaped t) where
         some-value = g .not-none;
         few-values = g .not-many;
         few-rules = n;
-        each-right = λ i h. rw (right-same t counts g (getD (t .rules) i no-rule)) at (f i h);
+        each-right = λ i h. rw (right-same t counts g (getD (t .rules) i zero-rule)) at (f i h);
       })) (λ u. tt)
 
 -- 31 of a well-formed table is the test of its strata; a table that is not well-formed does not pass.

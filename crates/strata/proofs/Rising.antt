@@ -27,7 +27,7 @@ use Rattle.model.proofs.Strata.{no-circle, least-strata, least-top, least-e}
 use Rattle.table.specs.declared.Rule.{Rule}
 use Rattle.table.specs.declared.Table.{Table}
 use Rattle.table.specs.Limits.{rule-limit, pair-places}
-use Rattle.table.specs.Shape.{no-rule, Shaped}
+use Rattle.table.specs.Shape.{zero-rule, Shaped}
 use Rattle.table.specs.Link.{assignments-of, rule-of, rules-of}
 use Rattle.table.specs.Flat.{place-of}
 use Rattle.table.specs.Fits.{RuleFits, TableFits}
@@ -158,15 +158,15 @@ module _ (t : Table) (fits : TableFits t) (sh : Shaped t) where
       one-pair n p q jn a b w =
           same-place q p (assigned-placed r q f b .in-row) (tested-in t fits sh n p jn a .in-row) w
 
-  rising-step : (i : ℕ) (ns hs : List ℕ) (s : ℕ) → i < t .count → s ≡ asked-at hs (rule-of (getD (t .rules) i no-rule)) → s ≤ t .count
-      → Rising t ns hs → Rising t (set ns i s) (raise-all (assignments-of (getD (t .rules) i no-rule)) s hs)
-  rising-step i ns hs s l e top g = raised i ns hs (getD (t .rules) i no-rule) s l (rule-at-is t i l) (fits .each-fits i l) e top g
+  rising-step : (i : ℕ) (ns hs : List ℕ) (s : ℕ) → i < t .count → s ≡ asked-at hs (rule-of (getD (t .rules) i zero-rule)) → s ≤ t .count
+      → Rising t ns hs → Rising t (set ns i s) (raise-all (assignments-of (getD (t .rules) i zero-rule)) s hs)
+  rising-step i ns hs s l e top g = raised i ns hs (getD (t .rules) i zero-rule) s l (rule-at-is t i l) (fits .each-fits i l) e top g
 
   pub quiet-start : (ns hs : List ℕ) → Quiet t 0 ns hs
   unfolding Quiet
   quiet-start ns hs m le i = absurd (omega (arith, i .first))
 
-  quiet-more : (i : ℕ) (ns hs : List ℕ) (s : ℕ) → i < t .count → s ≡ asked-at hs (rule-of (getD (t .rules) i no-rule)) → s ≤ getD ns i 0
+  quiet-more : (i : ℕ) (ns hs : List ℕ) (s : ℕ) → i < t .count → s ≡ asked-at hs (rule-of (getD (t .rules) i zero-rule)) → s ≤ getD ns i 0
       → Quiet t i ns hs → Quiet t (i + 1) ns hs
   unfolding Quiet number-of
   quiet-more i ns hs s l e lt q = λ m le im. ⊎-elim
@@ -174,8 +174,8 @@ module _ (t : Table) (fits : TableFits t) (sh : Shaped t) where
       (λ (z : m < suc i). q m (omega arith) im)
       (eq-or-lt-of-le (let w : m ≤ suc i = omega arith in w))
 
-  pub kept-raise : (ns₀ : List ℕ) (i s : ℕ) (ns hs : List ℕ) (moved : Bool) → i < t .count → s ≡ asked-at hs (rule-of (getD (t .rules) i no-rule)) → s ≤ t .count → getD ns i 0 < s
-      → Kept t ns₀ i ns hs moved → Kept t ns₀ (i + 1) (set ns i s) (raise-all (assignments-of (getD (t .rules) i no-rule)) s hs) true
+  pub kept-raise : (ns₀ : List ℕ) (i s : ℕ) (ns hs : List ℕ) (moved : Bool) → i < t .count → s ≡ asked-at hs (rule-of (getD (t .rules) i zero-rule)) → s ≤ t .count → getD ns i 0 < s
+      → Kept t ns₀ i ns hs moved → Kept t ns₀ (i + 1) (set ns i s) (raise-all (assignments-of (getD (t .rules) i zero-rule)) s hs) true
   kept-raise ns₀ i s ns hs moved l e top lt k =
       let z = sum-set ns i s (omega (arith, k .rising .numbers-length, fits .rules-fit)) in
       record {
@@ -185,7 +185,7 @@ module _ (t : Table) (fits : TableFits t) (sh : Shaped t) where
         more = λ w. omega (arith, z, k .not-less);
       }
 
-  pub kept-over : (ns₀ : List ℕ) (i s : ℕ) (ns hs : List ℕ) (moved : Bool) → i < t .count → s ≡ asked-at hs (rule-of (getD (t .rules) i no-rule)) → s ≤ getD ns i 0
+  pub kept-over : (ns₀ : List ℕ) (i s : ℕ) (ns hs : List ℕ) (moved : Bool) → i < t .count → s ≡ asked-at hs (rule-of (getD (t .rules) i zero-rule)) → s ≤ getD ns i 0
       → Kept t ns₀ i ns hs moved → Kept t ns₀ (i + 1) ns hs moved
   kept-over ns₀ i s ns hs moved l e le k = record {
     rising = k .rising;
@@ -226,7 +226,7 @@ module _ (t : Table) (fits : TableFits t) (sh : Shaped t) where
       by-count i (inr lt) = rw (lt-ltb i (t .count) lt) (least-e weak (rules-of t) (number-of ns) (record { strata = rest-strata ns hs g q; least = λ u s n j. g .below u s n j }) (suc i) (number t fits sh i lt))
 
   -- A number above the number of rules is no least stratum, so there is a circle.
-  pub above-circled : (i s : ℕ) (ns hs : List ℕ) → Rising t ns hs → i < t .count → s ≡ asked-at hs (rule-of (getD (t .rules) i no-rule)) → t .count < s → circle-of weak (rules-of t) ≡ 0 → ⊥
+  pub above-circled : (i s : ℕ) (ns hs : List ℕ) → Rising t ns hs → i < t .count → s ≡ asked-at hs (rule-of (getD (t .rules) i zero-rule)) → t .count < s → circle-of weak (rules-of t) ≡ 0 → ⊥
   above-circled i s ns hs g l e top z =
       let L = least-strata weak (rules-of t) z in
       omega (

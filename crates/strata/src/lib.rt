@@ -5,6 +5,7 @@ ghost use mathlib.Core.Path.{_≡_};
 ghost use Rattle.table.specs.Fits.{TableFits};
 ghost use Rattle.strata.specs.Layered.{layering};
 use table::RuleNumber;
+use table::Stratum;
 use table::Table;
 
 // Whether strata exist; if not, the lowest rule on a circle through a NOT.
@@ -40,7 +41,7 @@ pub fn layer(t: Table) -> Layering
     while i < n {
         let s = numbers[i];
         let mut r = u.rules[i];
-        r.stratum = s as RuleNumber;
+        r.stratum = s as Stratum;
         u.rules[i] = r;
         i += 1;
     }

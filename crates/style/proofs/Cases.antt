@@ -6,7 +6,7 @@ use mathlib.Core.Path.{_≡_, refl}
 use mathlib.Core.List.{List, [], _∷_, _++_}
 use Rattle.laws.specs.Quoted.{bytes}
 use Rattle.text.specs.Covering.{spelling}
-use Rattle.grammar.specs.Reading.{Answer, accepted, refused, read}
+use Rattle.grammar.specs.Reading.{Parsed, accepted, refused, parse}
 use Rattle.grammar.proofs.Cases.{reads}
 use Rattle.style.specs.Layout.{token-bytes, tight, gap, layout}
 use Rattle.style.specs.Printed.{print}
@@ -17,7 +17,7 @@ unfolding reads spelling token-bytes tight gap layout print
 prints = tt
 
 -- What was read is a file, and these bytes are its print.
-abbrev Printed-as : Answer → List ℕ → Type 0
+abbrev Printed-as : Parsed → List ℕ → Type 0
 Printed-as (accepted f) ys = print f ≡ ys
 Printed-as (refused k n) ys = ⊥
 
@@ -39,17 +39,17 @@ tidied =
     ∷ "WHEN x *= 1 IF y |= 0 AND NOT x *= 0 THEN { y := 1-a, x := 0 };"
     ∷ "WHEN y *= 0 IF NOT y |= 0 AND NOT y |= 0 THEN x := 1;" ∷ [])
 
-pub case-untidy : Printed-as (read untidy) tidied
+pub case-untidy : Printed-as (parse untidy) tidied
 unfolding prints
 case-untidy = refl
 
 -- The print of the print.
-pub case-again : Printed-as (read tidied) tidied
+pub case-again : Printed-as (parse tidied) tidied
 unfolding prints
 case-again = refl
 
 -- Nothing but white prints as no bytes.
-pub case-empty : Printed-as (read []) [] × Printed-as (read (bytes "  ")) []
+pub case-empty : Printed-as (parse []) [] × Printed-as (parse (bytes "  ")) []
 unfolding prints
 case-empty = (refl, refl)
 
@@ -79,7 +79,7 @@ dialect =
     ∷ "WHEN label *= dated IF page |= set THEN page := proof;"
     ∷ "WHEN spelling *= old IF class |= noun AND NOT page *= proof THEN register := plain;" ∷ [])
 
-pub case-dialect : Printed-as (read dialect)
+pub case-dialect : Printed-as (parse dialect)
     (lines ("SLOT class { noun, verb, adjective };"
     ∷ "SLOT first-attested { before-1600, 1600s, 1700s, 1800s, 1900s };"
     ∷ "SLOT last-attested { before-1800, 1800s, 1900s, in-use };"

@@ -11,8 +11,8 @@ use Rattle.laws.proofs.Lists.{map-append}
 use Rattle.text.specs.Tokens.{Name, Token, word, name, SLOT, WHEN, IF, THEN, AND, NOT, TRUE, OPEN, CLOSE, COMMA, SEMICOLON, BECOMES, HAS, GETS}
 use Rattle.model.specs.Rules.{Pair, Literal, Rule}
 use Rattle.grammar.specs.Files.{Slot, File, slot-named, value-named}
-use Rattle.grammar.specs.Grammar.{RuleTree, ConditionTree, and-literal, one-literal, LiteralTree, not-literal, becomes-value, has-value, AssignTree, braces, AssignmentListTree, one-assignment, comma-assignment, AssignmentTree, ValueListTree, one-value, comma-value, LineTree, line, FileTree, grown, spell, spell-literal, spell-condition, spell-assignment, spell-assignments, spell-assign, spell-rule, spell-rules, spell-values, spell-lines}
-use Rattle.grammar.specs.Meaning.{Names, nots, turned, tests-change, slot-in, value-in, Means-literal, Means-condition, means-and, means-one, means-true, Means-assignment, means-assignment, Means-assignments, means-first, means-comma, Means-assign, means-alone, means-braces, means-trigger, Means-rule, means-rule, Means-rules, no-rules, more-rules, Means}
+use Rattle.grammar.specs.Grammar.{RuleTree, ConditionTree, and-literal, one-literal, LiteralTree, not-literal, becomes-value, holds-value, AssignTree, braces, AssignmentListTree, one-assignment, comma-assignment, AssignmentTree, ValueListTree, one-value, comma-value, LineTree, line, FileTree, grown, spell, spell-literal, spell-condition, spell-assignment, spell-assignments, spell-assign, spell-rule, spell-rules, spell-values, spell-lines}
+use Rattle.grammar.specs.Meaning.{Names, nots, turned, tests-change, tested-slot, tested-value, Means-literal, Means-condition, means-and, means-one, means-true, Means-assignment, means-assignment, Means-assignments, means-first, means-comma, Means-assign, means-alone, means-braces, means-trigger, Means-rule, means-rule, Means-rules, no-rules, more-rules, Means}
 use Rattle.grammar.proofs.Leftmost.{grown-last}
 use Rattle.grammar.proofs.Declared.{names-letters}
 use Rattle.style.specs.Layout.{layout, by-letters}
@@ -83,13 +83,13 @@ module _ (slots : List Slot) where
       let e = names-letters slots s v p n in
       name-first s (slot-named slots p) (e .0) (word-first w (name-first v (value-named slots p) (e .1) h))
 
-  plain-same : (l : LiteralTree) (p : Pair) → Names slots (slot-in l) (value-in l) p → nots l ≤ 1
+  plain-same : (l : LiteralTree) (p : Pair) → Names slots (tested-slot l) (tested-value l) p → nots l ≤ 1
       → Same (spell-literal l) (spell-literal (literal-tree slots (record { becomes = tests-change l; negated = turned (nots l) false; pair = p })))
   plain-same (not-literal (not-literal l)) p n t = absurd (omega arith)
   plain-same (not-literal (becomes-value s v)) p n t = λ r q h. word-first NOT (pair-same s v p BECOMES n r q h)
-  plain-same (not-literal (has-value s v)) p n t = λ r q h. word-first NOT (pair-same s v p HAS n r q h)
+  plain-same (not-literal (holds-value s v)) p n t = λ r q h. word-first NOT (pair-same s v p HAS n r q h)
   plain-same (becomes-value s v) p n t = pair-same s v p BECOMES n
-  plain-same (has-value s v) p n t = pair-same s v p HAS n
+  plain-same (holds-value s v) p n t = pair-same s v p HAS n
 
   literal-same : (l : LiteralTree) (m : Literal) → Means-literal slots l m → nots l ≤ 1 → Same (spell-literal l) (spell-literal (literal-tree slots m))
   literal-same l m h t =

@@ -18,7 +18,7 @@ use Rattle.model.proofs.Pairs.{same-eq}
 use Rattle.table.specs.declared.Literal.{Literal}
 use Rattle.table.specs.declared.Rule.{Rule}
 use Rattle.table.specs.declared.Table.{Table}
-use Rattle.table.specs.Shape.{no-literal, no-assignment, no-rule, Shaped}
+use Rattle.table.specs.Shape.{zero-literal, zero-assignment, zero-rule, Shaped}
 use Rattle.table.specs.Link.{literal-of, assignment-of, assignments-of, rule-of, rules-of}
 use Rattle.table.specs.Flat.{Placed}
 use Rattle.table.specs.Fits.{RuleFits, TableFits}
@@ -44,17 +44,17 @@ where-at (x ∷ xs) d p t =
 
 pub assigned-placed : (r : Rule) (p : Pair) → RuleFits r → T (among p (assignments-of r)) → Placed (p .slot) (p .value)
 assigned-placed r p f t =
-    let w = among-at assignment-of (take (r .assigned) (r .assignments)) no-assignment p t in
+    let w = among-at assignment-of (take (r .assigned) (r .assignments)) zero-assignment p t in
     let l : w .0 < r .assigned = omega (arith, w .1, length-take (r .assigned) (r .assignments)) in
-    rw (w .2, getD-take (r .assigned) (r .assignments) (w .0) no-assignment l) (f .assignment (w .0) l)
+    rw (w .2, getD-take (r .assigned) (r .assignments) (w .0) zero-assignment l) (f .assignment (w .0) l)
 
 pub tested-placed : (r : Rule) (p : Pair) → RuleFits r → T (among p (tested (rule-of r))) → Placed (p .slot) (p .value)
 unfolding tested among
 tested-placed r p f t = ⊎-elim
     (λ a. rw (same-eq p (rule-of r .trigger) a) (f .trigger))
-    (λ a. let w = where-at (take (r .tested) (r .literals)) no-literal p a in
+    (λ a. let w = where-at (take (r .tested) (r .literals)) zero-literal p a in
     let l : w .0 < r .tested = omega (arith, w .1, length-take (r .tested) (r .literals)) in
-    rw (w .2, getD-take (r .tested) (r .literals) (w .0) no-literal l) (f .literal (w .0) l))
+    rw (w .2, getD-take (r .tested) (r .literals) (w .0) zero-literal l) (f .literal (w .0) l))
     (or-e _ _ t)
 
 module _ (t : Table) (fits : TableFits t) (sh : Shaped t) where
@@ -68,7 +68,7 @@ module _ (t : Table) (fits : TableFits t) (sh : Shaped t) where
   -- Each of them is a rule of the table that fits.
   pub fits-at : (n : ℕ) → Numbered (length (rules-of t)) n → (r : Rule) × RuleFits r × (rule-at (rules-of t) n ≡ rule-of r)
   fits-at zero i = absurd (omega (arith, i .first))
-  fits-at (suc n) i = let h : n < t .count = omega (arith, i .last, count-of) in (getD (t .rules) n no-rule, fits .each-fits n h, rule-at-is t n h)
+  fits-at (suc n) i = let h : n < t .count = omega (arith, i .last, count-of) in (getD (t .rules) n zero-rule, fits .each-fits n h, rule-at-is t n h)
 
   -- What they test and what they assign has a place in an array indexed by pair.
   pub tested-in : (n : ℕ) (p : Pair) → Numbered (length (rules-of t)) n → T (among p (tested (rule-at (rules-of t) n))) → Placed (p .slot) (p .value)

@@ -16,7 +16,7 @@ use Rattle.table.specs.declared.Rule.{Rule}
 use Rattle.table.specs.declared.Slot.{Slot}
 use Rattle.table.specs.declared.Table.{Table}
 use Rattle.table.specs.Limits.{slot-limit, rule-limit, literal-limit, assignment-limit}
-use Rattle.table.specs.Shape.{no-literal, no-assignment, no-rule, no-slot, LiteralShaped, AssignmentShaped, RuleShaped, SlotShaped, Shaped}
+use Rattle.table.specs.Shape.{zero-literal, zero-assignment, zero-rule, zero-slot, LiteralShaped, AssignmentShaped, RuleShaped, SlotShaped, Shaped}
 use Rattle.table.proofs.Literal as literal
 use Rattle.table.proofs.Assignment as assignment
 use Rattle.table.proofs.Rule as rule
@@ -52,9 +52,9 @@ rule-shaped r vs g =
       slot-byte = g .1 .1 .0 .1;
       value-byte = g .1 .1 .1 .0 .1;
       literal-places = l;
-      each-literal = λ j h. (let k : j < length (r .literals) = omega arith in let e = each-at-map _ _ (r .literals) _ no-literal j k (g .1 .1 .1 .1 .0 .1 .1) in literal-shaped (getD (r .literals) j no-literal) (e .0 ∷ []) (e .1));
+      each-literal = λ j h. (let k : j < length (r .literals) = omega arith in let e = each-at-map _ _ (r .literals) _ zero-literal j k (g .1 .1 .1 .1 .0 .1 .1) in literal-shaped (getD (r .literals) j zero-literal) (e .0 ∷ []) (e .1));
       assignment-places = a;
-      each-assignment = λ j h. (let k : j < length (r .assignments) = omega arith in let e = each-at-map _ _ (r .assignments) _ no-assignment j k (g .1 .1 .1 .1 .1 .1 .0 .1 .1) in assignment-shaped (getD (r .assignments) j no-assignment) (e .0 ∷ []) (e .1));
+      each-assignment = λ j h. (let k : j < length (r .assignments) = omega arith in let e = each-at-map _ _ (r .assignments) _ zero-assignment j k (g .1 .1 .1 .1 .1 .1 .0 .1 .1) in assignment-shaped (getD (r .assignments) j zero-assignment) (e .0 ∷ []) (e .1));
       stratum-byte = g .1 .1 .1 .1 .1 .1 .1 .1 .0 .1;
     }
 
@@ -67,7 +67,7 @@ shaped t vs g =
     let r : length (t .rules) ≡ rule-limit = simp length-map at (g .1 .1 .1 .1 .0 .1 .0 .1) in
     record {
       slot-places = s;
-      each-slot = λ i h. (let k : i < length (t .slots) = omega arith in let e = each-at-map _ _ (t .slots) _ no-slot i k (g .1 .1 .0 .1 .1) in slot-shaped (getD (t .slots) i no-slot) (e .0 ∷ []) (e .1));
+      each-slot = λ i h. (let k : i < length (t .slots) = omega arith in let e = each-at-map _ _ (t .slots) _ zero-slot i k (g .1 .1 .0 .1 .1) in slot-shaped (getD (t .slots) i zero-slot) (e .0 ∷ []) (e .1));
       rule-places = r;
-      each-rule = λ i h. (let k : i < length (t .rules) = omega arith in let e = each-at-map _ _ (t .rules) _ no-rule i k (g .1 .1 .1 .1 .0 .1 .1) in rule-shaped (getD (t .rules) i no-rule) (e .0 ∷ []) (e .1));
+      each-rule = λ i h. (let k : i < length (t .rules) = omega arith in let e = each-at-map _ _ (t .rules) _ zero-rule i k (g .1 .1 .1 .1 .0 .1 .1) in rule-shaped (getD (t .rules) i zero-rule) (e .0 ∷ []) (e .1));
     }

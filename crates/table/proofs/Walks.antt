@@ -13,7 +13,7 @@ use Rattle.model.specs.Result.{pair}
 use Rattle.model.specs.Strata.{pairs-where, is-becomes, is-plain, is-under-not, tested, needed, barred}
 use Rattle.table.specs.declared.Rule.{Rule}
 use Rattle.table.specs.Limits.{literal-limit, assignment-limit}
-use Rattle.table.specs.Shape.{no-literal, no-assignment, RuleShaped}
+use Rattle.table.specs.Shape.{zero-literal, zero-assignment, RuleShaped}
 use Rattle.table.specs.Link.{literal-of, literals-of, assignment-of, assignments-of, rule-of}
 
 module _ (r : Rule) where
@@ -67,21 +67,21 @@ module _ (r : Rule) where
   assigned-end k h = used-end assignment-of (r .assigned) (r .assignments) k h
 
   module _ (sh : RuleShaped r) where
-    pub literals-next : (j : ℕ) → j < r .tested → r .tested ≤ literal-limit → literals-from j ≡ literal-of (getD (r .literals) j no-literal) ∷ literals-from (j + 1)
+    pub literals-next : (j : ℕ) → j < r .tested → r .tested ≤ literal-limit → literals-from j ≡ literal-of (getD (r .literals) j zero-literal) ∷ literals-from (j + 1)
     unfolding literals-from
-    literals-next j h k = used-next literal-of (r .tested) (r .literals) j no-literal h (omega (arith, sh .literal-places))
+    literals-next j h k = used-next literal-of (r .tested) (r .literals) j zero-literal h (omega (arith, sh .literal-places))
 
     -- A literal that passes gives its pair, another none.
-    pub picked-next : (f : model.Literal → Bool) (j : ℕ) → j < r .tested → r .tested ≤ literal-limit → f (literal-of (getD (r .literals) j no-literal)) ≡ true
-        → picked-from f j ≡ pair (getD (r .literals) j no-literal .slot) (getD (r .literals) j no-literal .value) ∷ picked-from f (j + 1)
+    pub picked-next : (f : model.Literal → Bool) (j : ℕ) → j < r .tested → r .tested ≤ literal-limit → f (literal-of (getD (r .literals) j zero-literal)) ≡ true
+        → picked-from f j ≡ pair (getD (r .literals) j zero-literal .slot) (getD (r .literals) j zero-literal .value) ∷ picked-from f (j + 1)
     unfolding picked-from pairs-where
     picked-next f j h k e = rw (literals-next j h k, e)
 
-    pub picked-over : (f : model.Literal → Bool) (j : ℕ) → j < r .tested → r .tested ≤ literal-limit → f (literal-of (getD (r .literals) j no-literal)) ≡ false → picked-from f j ≡ picked-from f (j + 1)
+    pub picked-over : (f : model.Literal → Bool) (j : ℕ) → j < r .tested → r .tested ≤ literal-limit → f (literal-of (getD (r .literals) j zero-literal)) ≡ false → picked-from f j ≡ picked-from f (j + 1)
     unfolding picked-from pairs-where
     picked-over f j h k e = rw (literals-next j h k, e)
 
     pub assigned-next : (k : ℕ) → k < r .assigned → r .assigned ≤ assignment-limit
-        → assigned-from k ≡ pair (getD (r .assignments) k no-assignment .slot) (getD (r .assignments) k no-assignment .value) ∷ assigned-from (k + 1)
+        → assigned-from k ≡ pair (getD (r .assignments) k zero-assignment .slot) (getD (r .assignments) k zero-assignment .value) ∷ assigned-from (k + 1)
     unfolding assigned-from
-    assigned-next k h l = used-next assignment-of (r .assigned) (r .assignments) k no-assignment h (omega (arith, sh .assignment-places))
+    assigned-next k h l = used-next assignment-of (r .assigned) (r .assignments) k zero-assignment h (omega (arith, sh .assignment-places))

@@ -53,8 +53,8 @@ abbrev pub slots-of : Table → List Slot
 slots-of t = take (t .width) (t .slots)
 
 -- The names of a slot's values, value 1 first.
-abbrev pub values-of : Slot → List Name
-values-of s = take (s .count) (s .values)
+abbrev pub value-names : Slot → List Name
+value-names s = take (s .count) (s .values)
 
 -- How many values each slot has.
 unfoldable pub value-counts : Table → List ℕ

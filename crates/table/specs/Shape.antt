@@ -13,24 +13,24 @@ use Rattle.table.specs.declared.Table.{Table}
 use Rattle.table.specs.Limits.{slot-limit, value-limit, rule-limit, literal-limit, assignment-limit}
 
 -- What reading a list of literals past its end gives.
-abbrev pub no-literal : Literal
-no-literal = record { becomes = false; negated = false; slot = 0; value = 0 }
+abbrev pub zero-literal : Literal
+zero-literal = record { becomes = false; negated = false; slot = 0; value = 0 }
 
 -- The same for assignments.
-abbrev pub no-assignment : Assignment
-no-assignment = record { slot = 0; value = 0 }
+abbrev pub zero-assignment : Assignment
+zero-assignment = record { slot = 0; value = 0 }
 
 -- The same for rules.
-abbrev pub no-rule : Rule
-no-rule = record { slot = 0; value = 0; literals = []; tested = 0; assignments = []; assigned = 0; stratum = 0 }
+abbrev pub zero-rule : Rule
+zero-rule = record { slot = 0; value = 0; literals = []; tested = 0; assignments = []; assigned = 0; stratum = 0 }
 
 -- The same for names.
-abbrev pub no-name : Name
-no-name = record { start = 0; size = 0 }
+abbrev pub zero-name : Name
+zero-name = record { start = 0; size = 0 }
 
 -- The same for slots.
-abbrev pub no-slot : Slot
-no-slot = record { name = no-name; values = []; count = 0 }
+abbrev pub zero-slot : Slot
+zero-slot = record { name = zero-name; values = []; count = 0 }
 
 -- A literal names its pair in bytes.
 pub record LiteralShaped (l : Literal) : Type 0 where
@@ -47,9 +47,9 @@ pub record RuleShaped (r : Rule) : Type 0 where
   pub slot-byte : r .slot < 256
   pub value-byte : r .value < 256
   pub literal-places : length (r .literals) ≡ literal-limit
-  pub each-literal : (j : ℕ) → j < literal-limit → LiteralShaped (getD (r .literals) j no-literal)
+  pub each-literal : (j : ℕ) → j < literal-limit → LiteralShaped (getD (r .literals) j zero-literal)
   pub assignment-places : length (r .assignments) ≡ assignment-limit
-  pub each-assignment : (j : ℕ) → j < assignment-limit → AssignmentShaped (getD (r .assignments) j no-assignment)
+  pub each-assignment : (j : ℕ) → j < assignment-limit → AssignmentShaped (getD (r .assignments) j zero-assignment)
   pub stratum-byte : r .stratum < 256
 
 -- A slot has fifteen places for names of values.
@@ -59,6 +59,6 @@ pub record SlotShaped (s : Slot) : Type 0 where
 -- A table has 32 places for slots and 255 for rules.
 pub record Shaped (t : Table) : Type 0 where
   pub slot-places : length (t .slots) ≡ slot-limit
-  pub each-slot : (i : ℕ) → i < slot-limit → SlotShaped (getD (t .slots) i no-slot)
+  pub each-slot : (i : ℕ) → i < slot-limit → SlotShaped (getD (t .slots) i zero-slot)
   pub rule-places : length (t .rules) ≡ rule-limit
-  pub each-rule : (i : ℕ) → i < rule-limit → RuleShaped (getD (t .rules) i no-rule)
+  pub each-rule : (i : ℕ) → i < rule-limit → RuleShaped (getD (t .rules) i zero-rule)

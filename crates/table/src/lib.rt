@@ -24,6 +24,9 @@ pub const PAIRS: usize = 512;
 // A rule's number, from 1.
 pub type RuleNumber = u8;
 
+// A stratum, from 1.
+pub type Stratum = u8;
+
 // A test in a condition: `slot *= value` (becomes) or `slot |= value`, plain or under NOT.
 #[repr(C)]
 pub struct Literal {
@@ -49,7 +52,7 @@ pub struct Rule {
     pub tested: usize,
     pub assignments: [Assignment; ASSIGNMENTS],
     pub assigned: usize,
-    pub stratum: RuleNumber,
+    pub stratum: Stratum,
 }
 
 // Where a name stands in the rule text.

@@ -12,7 +12,7 @@ use borrow.Author.Tests.{eqb-true, eqb-false, ne-eqb, ltb-true}
 use Rattle.laws.specs.Listed.{Each}
 use Rattle.classes.specs.Classes.{one-of, between, class-of}
 use Rattle.text.specs.Tokens.{word, long, bad, run, run-token, word-or-name, same-letters, one-further, place, reserved, mark-of, token-here, more-bytes, tokens-from, tokens}
-use Rattle.text.specs.Covering.{marks, spelling, Spells, Covers, done, white, token}
+use Rattle.text.specs.Covering.{marks, spelling, Spells, Covers, done, over-white, token}
 use Rattle.text.proofs.Cut.{bytes-le}
 use Rattle.text.proofs.Position.{tokens-skip}
 
@@ -151,7 +151,7 @@ covers-within (suc f) (x ∷ xs) p h =
     go : (t : Bool) → eqb (class-of x) 1 ≡ t → Covers (suc p) xs (tokens-from xs 0 (suc p))
         → Covers (suc p + more-bytes x xs) (drop (more-bytes x xs) xs) (tokens-from (drop (more-bytes x xs) xs) 0 (suc p + more-bytes x xs))
         → Covers p (x ∷ xs) (cond t (tokens-from xs (more-bytes x xs) (suc p)) (token-here p x xs ∷ tokens-from xs (more-bytes x xs) (suc p)))
-    go true e r c = let k = eqb-true (class-of x) 1 e in rw (white-alone x xs k) (white k r)
+    go true e r c = let k = eqb-true (class-of x) 1 e in rw (white-alone x xs k) (over-white k r)
     go false e r c = first-covers p x xs c
 
 -- THE TOKENS COVER THE TEXT: it is white bytes and the bytes of its tokens, in their order.

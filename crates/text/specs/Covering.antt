@@ -24,5 +24,5 @@ Spells p bad bytes = length bytes ≡ 1
 -- The text from place `p` on is white bytes and the bytes of these tokens, in their order, and nothing else.
 pub data Covers : ℕ → List ℕ → List Token → Type 0 where
   done : {p : ℕ} → Covers p [] []
-  white : {p x : ℕ} {xs : List ℕ} {ts : List Token} → class-of x ≡ 1 → Covers (suc p) xs ts → Covers p (x ∷ xs) ts
+  over-white : {p x : ℕ} {xs : List ℕ} {ts : List Token} → class-of x ≡ 1 → Covers (suc p) xs ts → Covers p (x ∷ xs) ts
   token : {p : ℕ} {t : Token} {ts : List Token} (bytes rest : List ℕ) → Spells p t bytes → 0 < length bytes → Covers (p + length bytes) rest ts → Covers p (bytes ++ rest) (t ∷ ts)

@@ -9,7 +9,7 @@ use Rattle.laws.specs.Quoted.{bytes}
 use Rattle.model.specs.Rules as model
 use Rattle.model.specs.Result.{pair}
 use Rattle.table.specs.declared.Rule.{Rule}
-use Rattle.table.specs.Shape.{no-literal, no-assignment, RuleShaped}
+use Rattle.table.specs.Shape.{zero-literal, zero-assignment, RuleShaped}
 use Rattle.table.specs.Limits.{literal-limit, assignment-limit}
 use Rattle.table.specs.Link.{literal-of, literals-of, assignments-of}
 use Rattle.table.proofs.Walks.{literals-from, literals-start, literals-next, literals-end, assigned-from, assigned-start, assigned-next, assigned-end}
@@ -18,14 +18,14 @@ use Rattle.writing.specs.Written.{Pairing, followed, separated, literal-
 module _ (paired : Pairing) (r : Rule) where
   -- A literal of the rule, and those from place j on, each after AND.
   abbrev pub literal-at : ℕ → List ℕ
-  literal-at j = literal-bytes paired (literal-of (getD (r .literals) j no-literal))
+  literal-at j = literal-bytes paired (literal-of (getD (r .literals) j zero-literal))
 
   unfoldable pub more-literals : ℕ → List ℕ
   more-literals j = followed (bytes " AND ") (map (literal-bytes paired) (literals-from r j))
 
   -- An assignment of the rule, and those from place j on, each after a comma.
   abbrev pub assignment-at : ℕ → List ℕ
-  assignment-at j = paired (bytes " := ") (pair (getD (r .assignments) j no-assignment .slot) (getD (r .assignments) j no-assignment .value))
+  assignment-at j = paired (bytes " := ") (pair (getD (r .assignments) j zero-assignment .slot) (getD (r .assignments) j zero-assignment .value))
 
   unfoldable pub more-assignments : ℕ → List ℕ
   more-assignments j = followed (bytes ", ") (map (paired (bytes " := ")) (assigned-from r j))
@@ -70,8 +70,8 @@ module _ (paired : Pairing) (r : Rule) where
     pub assign-one : r .assigned ≡ 1 → r .assigned ≤ assignment-limit → assign-bytes paired (assignments-of r) ≡ listed
     unfolding assign-bytes separated followed
     assign-one e k =
-        let a = sym (assigned-start r) ∙ assigned-next r sh 0 (omega arith) k ∙ ap (λ (ps : List model.Pair). pair (getD (r .assignments) 0 no-assignment .slot) (getD (r .assignments) 0 no-assignment .value) ∷ ps) (assigned-end r 1 (omega arith)) in
-        ap (assign-bytes paired) a ∙ sym (alone (pair (getD (r .assignments) 0 no-assignment .slot) (getD (r .assignments) 0 no-assignment .value)))
+        let a = sym (assigned-start r) ∙ assigned-next r sh 0 (omega arith) k ∙ ap (λ (ps : List model.Pair). pair (getD (r .assignments) 0 zero-assignment .slot) (getD (r .assignments) 0 zero-assignment .value) ∷ ps) (assigned-end r 1 (omega arith)) in
+        ap (assign-bytes paired) a ∙ sym (alone (pair (getD (r .assignments) 0 zero-assignment .slot) (getD (r .assignments) 0 zero-assignment .value)))
         ∙ ap (λ (ps : List model.Pair). separated (bytes ", ") (map (paired (bytes " := ")) ps)) (sym a)
       where
         alone : (p : model.Pair) → separated (bytes ", ") (map (paired (bytes " := ")) (p ∷ [])) ≡ paired (bytes " := ") p
@@ -80,5 +80,5 @@ module _ (paired : Pairing) (r : Rule) where
     pub assign-more : 2 ≤ r .assigned → r .assigned ≤ assignment-limit → assign-bytes paired (assignments-of r) ≡ bytes "{ " ++ (listed ++ bytes " }")
     unfolding assign-bytes
     assign-more h k =
-        let a = sym (assigned-start r) ∙ assigned-next r sh 0 (omega arith) k ∙ ap (λ (ps : List model.Pair). pair (getD (r .assignments) 0 no-assignment .slot) (getD (r .assignments) 0 no-assignment .value) ∷ ps) (assigned-next r sh 1 (omega arith) k) in
+        let a = sym (assigned-start r) ∙ assigned-next r sh 0 (omega arith) k ∙ ap (λ (ps : List model.Pair). pair (getD (r .assignments) 0 zero-assignment .slot) (getD (r .assignments) 0 zero-assignment .value) ∷ ps) (assigned-next r sh 1 (omega arith) k) in
         ap (assign-bytes paired) a ∙ ap (λ (ps : List model.Pair). bytes "{ " ++ (separated (bytes ", ") (map (paired (bytes " := ")) ps) ++ bytes " }")) (sym a)

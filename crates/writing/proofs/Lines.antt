@@ -13,10 +13,10 @@ use Rattle.laws.proofs.Tabulated.{tabulate-length, tabulate-at}
 use Rattle.laws.proofs.Listed.{used-next, used-end}
 use Rattle.model.specs.Rules as model
 use Rattle.table.specs.declared.Table.{Table}
-use Rattle.table.specs.Shape.{no-slot, no-rule, Shaped}
+use Rattle.table.specs.Shape.{zero-slot, zero-rule, Shaped}
 use Rattle.table.specs.Limits.{row, rule-limit}
 use Rattle.table.specs.Link.{rule-of, rules-of}
-use Rattle.writing.specs.Written.{followed, separated, rule-bytes, joined}
+use Rattle.writing.specs.Written.{followed, separated, rule-bytes, lines-joined}
 use Rattle.writing.specs.Spelled.{spelled, spelled-pair, spelled-values, spelled-line, spelled-lines, spelled-rules, spelled-file}
 
 -- A list by its rule, from a place on.
@@ -53,17 +53,17 @@ module _ (text vs : List ℕ) (slot count : ℕ) where
 module _ (text ss vs : List ℕ) (t : Table) where
   -- The line of a slot of the table, and those from slot i on.
   abbrev pub line-at : ℕ → List ℕ
-  line-at i = spelled-line text ss vs i (getD (t .slots) i no-slot .count)
+  line-at i = spelled-line text ss vs i (getD (t .slots) i zero-slot .count)
 
   unfoldable pub lines-from : ℕ → List ℕ
-  lines-from i = joined (drop i (spelled-lines text ss vs t))
+  lines-from i = lines-joined (drop i (spelled-lines text ss vs t))
 
   -- The line of a rule of the table, and those from place j on.
   abbrev pub rule-at : ℕ → List ℕ
-  rule-at j = rule-bytes (spelled-pair text ss vs) (rule-of (getD (t .rules) j no-rule))
+  rule-at j = rule-bytes (spelled-pair text ss vs) (rule-of (getD (t .rules) j zero-rule))
 
   unfoldable pub rules-from : ℕ → List ℕ
-  rules-from j = joined (map (rule-bytes (spelled-pair text ss vs)) (drop j (rules-of t)))
+  rules-from j = lines-joined (map (rule-bytes (spelled-pair text ss vs)) (drop j (rules-of t)))
 
   -- A file is its lines from the first on.
   pub file-lines : spelled-file text ss vs t ≡ lines-from 0 ++ rules-from 0
@@ -71,17 +71,17 @@ module _ (text ss vs : List ℕ) (t : Table) where
   file-lines = refl
 
   pub lines-on : (i : ℕ) → i < t .width → lines-from i ≡ line-at i ++ lines-from (i + 1)
-  unfolding joined lines-from spelled-lines
-  lines-on i h = ap joined (tabulate-from line-at (t .width) i [] h)
+  unfolding lines-joined lines-from spelled-lines
+  lines-on i h = ap lines-joined (tabulate-from line-at (t .width) i [] h)
 
   pub lines-over : (i : ℕ) → t .width ≤ i → lines-from i ≡ []
-  unfolding joined lines-from spelled-lines
-  lines-over i h = ap joined (tabulate-end line-at (t .width) i h)
+  unfolding lines-joined lines-from spelled-lines
+  lines-over i h = ap lines-joined (tabulate-end line-at (t .width) i h)
 
   pub rules-on : (j : ℕ) → Shaped t → j < t .count → t .count ≤ rule-limit → rules-from j ≡ rule-at j ++ rules-from (j + 1)
-  unfolding joined rules-from rules-of
-  rules-on j sh h k = ap (λ (rs : List model.Rule). joined (map (rule-bytes (spelled-pair text ss vs)) rs)) (used-next rule-of (t .count) (t .rules) j no-rule h (omega (arith, sh .rule-places)))
+  unfolding lines-joined rules-from rules-of
+  rules-on j sh h k = ap (λ (rs : List model.Rule). lines-joined (map (rule-bytes (spelled-pair text ss vs)) rs)) (used-next rule-of (t .count) (t .rules) j zero-rule h (omega (arith, sh .rule-places)))
 
   pub rules-over : (j : ℕ) → t .count ≤ j → rules-from j ≡ []
-  unfolding joined rules-from rules-of
-  rules-over j h = ap (λ (rs : List model.Rule). joined (map (rule-bytes (spelled-pair text ss vs)) rs)) (used-end rule-of (t .count) (t .rules) j h)
+  unfolding lines-joined rules-from rules-of
+  rules-over j h = ap (λ (rs : List model.Rule). lines-joined (map (rule-bytes (spelled-pair text ss vs)) rs)) (used-end rule-of (t .count) (t .rules) j h)

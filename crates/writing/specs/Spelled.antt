@@ -7,11 +7,11 @@ use lib.ListN.{length, getD}
 use Rattle.laws.specs.Tabulated.{tabulate}
 use Rattle.table.specs.declared.Table.{Table}
 use Rattle.table.specs.Limits.{slot-limit, value-limit, row}
-use Rattle.table.specs.Shape.{no-slot, no-rule}
+use Rattle.table.specs.Shape.{zero-slot, zero-rule}
 use Rattle.table.specs.Flat.{place-of}
 use Rattle.table.specs.Link.{rules-of}
 use Rattle.steps.specs.Spans.{span-letters}
-use Rattle.writing.specs.Written.{Pairing, rule-bytes, line-bytes, joined}
+use Rattle.writing.specs.Written.{Pairing, rule-bytes, line-bytes, lines-joined}
 
 -- The letters at a span; none where it does not lie in the text.
 unfoldable pub spelled : List ℕ → ℕ → List ℕ
@@ -31,7 +31,7 @@ spelled-line text slotspans valuespans slot count = line-bytes (spelled text (ge
 
 -- The lines of the slots of a table.
 unfoldable pub spelled-lines : List ℕ → List ℕ → List ℕ → Table → List (List ℕ)
-spelled-lines text slotspans valuespans t = tabulate (λ i. spelled-line text slotspans valuespans i (getD (t .slots) i no-slot .count)) (t .width)
+spelled-lines text slotspans valuespans t = tabulate (λ i. spelled-line text slotspans valuespans i (getD (t .slots) i zero-slot .count)) (t .width)
 
 -- Those of its rules.
 unfoldable pub spelled-rules : List ℕ → List ℕ → List ℕ → Table → List (List ℕ)
@@ -39,11 +39,11 @@ spelled-rules text slotspans valuespans t = map (rule-bytes (spelled-pair text s
 
 -- A table line by line.
 unfoldable pub spelled-file : List ℕ → List ℕ → List ℕ → Table → List ℕ
-spelled-file text slotspans valuespans t = joined (spelled-lines text slotspans valuespans t) ++ joined (spelled-rules text slotspans valuespans t)
+spelled-file text slotspans valuespans t = lines-joined (spelled-lines text slotspans valuespans t) ++ lines-joined (spelled-rules text slotspans valuespans t)
 
 -- The slots of a table are within the limits, each with values, and each rule assigns something.
 pub record LinesFit (t : Table) : Type 0 where
   pub few : t .width ≤ slot-limit
-  pub some : (i : ℕ) → i < t .width → 1 ≤ getD (t .slots) i no-slot .count
-  pub within : (i : ℕ) → i < t .width → getD (t .slots) i no-slot .count ≤ value-limit
-  pub assigns : (j : ℕ) → j < t .count → 1 ≤ getD (t .rules) j no-rule .assigned
+  pub some : (i : ℕ) → i < t .width → 1 ≤ getD (t .slots) i zero-slot .count
+  pub within : (i : ℕ) → i < t .width → getD (t .slots) i zero-slot .count ≤ value-limit
+  pub assigns : (j : ℕ) → j < t .count → 1 ≤ getD (t .rules) j zero-rule .assigned

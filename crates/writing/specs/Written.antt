@@ -50,6 +50,6 @@ unfoldable pub line-bytes : List ℕ → List (List ℕ) → List ℕ
 line-bytes name values = bytes "SLOT " ++ (name ++ (bytes " { " ++ (separated (bytes ", ") values ++ bytes " };\n")))
 
 -- Lines one after the other.
-unfoldable pub joined : List (List ℕ) → List ℕ
-joined [] = []
-joined (x ∷ xs) = x ++ joined xs
+unfoldable pub lines-joined : List (List ℕ) → List ℕ
+lines-joined [] = []
+lines-joined (x ∷ xs) = x ++ lines-joined xs

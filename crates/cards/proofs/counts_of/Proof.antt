@@ -6,7 +6,7 @@ use lib.ListN.{length, getD}
 use lib.Seq.{length-take-le, getD-take}
 use Rattle.table.specs.declared.Slot.{Slot}
 use Rattle.table.specs.Limits.{slot-limit}
-use Rattle.table.specs.Shape.{no-slot}
+use Rattle.table.specs.Shape.{zero-slot}
 use Rattle.table.specs.Link.{slots-of, value-counts}
 use Rattle.table.proofs.Shape.{shaped}
 use Rattle.cards.proofs.Taken.{Gathered, gathered-start, gathered-next, gathered-all}
@@ -54,8 +54,8 @@ loop-again c =
     let l = c .before in
     let a = l .before .before in
     let o = l .before .loop in
-    let e : getD (slots-of (a .args .t1)) (o .i) no-slot ≡ getD (a .args .t1 .slots) (o .i) no-slot = getD-take (a .args .t1 .width) (a .args .t1 .slots) (o .i) no-slot (omega arith) in
-    (omega arith, rw e at (gathered-next (λ (s : Slot). s .count) 0 (slots-of (a .args .t1)) (o .i) no-slot (o .counts) (omega (arith, slots a)) (inside l) (o .inv .1)))
+    let e : getD (slots-of (a .args .t1)) (o .i) zero-slot ≡ getD (a .args .t1 .slots) (o .i) zero-slot = getD-take (a .args .t1 .width) (a .args .t1 .slots) (o .i) zero-slot (omega arith) in
+    (omega arith, rw e at (gathered-next (λ (s : Slot). s .count) 0 (slots-of (a .args .t1)) (o .i) zero-slot (o .counts) (omega (arith, slots a)) (inside l) (o .inv .1)))
 
 returns : tie.Need-returns Inv-loop μ-loop
 unfolding value-counts

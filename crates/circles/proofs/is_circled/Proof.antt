@@ -4,7 +4,7 @@ use mathlib.Core.Path.{_≡_, sym, _∙_}
 use Prim.Native.Nat.{_+_, _-_, _≤_}
 use Rattle.table.proofs.Shape.{rule-shaped}
 use Rattle.model.specs.Strata.{is-becomes}
-use Rattle.table.specs.Shape.{RuleShaped, no-literal}
+use Rattle.table.specs.Shape.{RuleShaped, zero-literal}
 use Rattle.table.proofs.Walks.{picked-from, tested-start, picked-end, picked-next, picked-over}
 use lib.ListN.{getD}
 use borrow.Author.Tests.{not-true, not-false}
@@ -35,7 +35,7 @@ trigger s = pair (s .args .t1 .slot) (s .args .t1 .value)
 first : (c : tie.After-place2 Inv-literals μ-literals) →
     let a = c .before .before .before .before .before in
     let s = a .before .before .before .before in
-    some-leads (s .args .links .now) (s .args .flags .now) (pair (getD (s .args .t1 .literals) (a .literals .j) no-literal .slot) (getD (s .args .t1 .literals) (a .literals .j) no-literal .value) ∷ picked-from (s .args .t1) is-becomes (a .literals .j + 1)) (assignments-of (s .args .t1)) ≡ circled-by (s .args .links .now) (s .args .flags .now) (rule-of (s .args .t1))
+    some-leads (s .args .links .now) (s .args .flags .now) (pair (getD (s .args .t1 .literals) (a .literals .j) zero-literal .slot) (getD (s .args .t1 .literals) (a .literals .j) zero-literal .value) ∷ picked-from (s .args .t1) is-becomes (a .literals .j + 1)) (assignments-of (s .args .t1)) ≡ circled-by (s .args .links .now) (s .args .flags .now) (rule-of (s .args .t1))
 first c =
     let b = c .before .before in
     let a = b .before .before .before in

@@ -8,7 +8,7 @@ use Rattle.circles.proofs.Leading.{leads-here, leads-linked, leads-over
 use mathlib.Core.Path.{_≡_, refl, sym, _∙_, ap}
 use Prim.Native.Nat.{_+_, _-_, _≤_}
 use Rattle.table.proofs.Shape.{rule-shaped}
-use Rattle.table.specs.Shape.{RuleShaped, no-assignment}
+use Rattle.table.specs.Shape.{RuleShaped, zero-assignment}
 use Rattle.table.proofs.Walks.{assigned-from, assigned-start, assigned-end, assigned-next}
 use Rattle.circles.specs.Links.{linked, leads-to}
 use native.Mathlib.Omega.{arith}
@@ -32,7 +32,7 @@ shape c = rule-shaped (c .args .t1) _ (c .good .0)
 first : (c : tie.After-a Inv-loop μ-loop) →
     let a = c .before .before in
     let s = a .before in
-    leads-to (s .args .links .now) (s .args .p) (pair (getD (s .args .t1 .assignments) (a .loop .k) no-assignment .slot) (getD (s .args .t1 .assignments) (a .loop .k) no-assignment .value) ∷ assigned-from (s .args .t1) (a .loop .k + 1)) ≡ leads-to (s .args .links .now) (s .args .p) (assigned-from (s .args .t1) 0)
+    leads-to (s .args .links .now) (s .args .p) (pair (getD (s .args .t1 .assignments) (a .loop .k) zero-assignment .slot) (getD (s .args .t1 .assignments) (a .loop .k) zero-assignment .value) ∷ assigned-from (s .args .t1) (a .loop .k + 1)) ≡ leads-to (s .args .links .now) (s .args .p) (assigned-from (s .args .t1) 0)
 first c =
     let a = c .before .before in
     let s = a .before in

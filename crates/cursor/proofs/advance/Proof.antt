@@ -35,7 +35,7 @@ use denote.Triple.Walked.{says, Stays, stay-none, walkOf, goes-none, Walks, ends
 use denote.Exit.{yes}
 use denote.Triple.Clauses.{ensured}
 use Rattle.text.specs.declared.Next.{Next}
-use Rattle.cursor.specs.Readers.{next-of}
+use Rattle.cursor.specs.Readers.{peeked}
 use Rattle.cursor.specs.declared.Reader.{Reader}
 use Rattle.cursor.proofs.Reader.Laws as reader-laws
 use Rattle.cursor.proofs.Held.{Row, Shape, shape-laws, fields, Own, twice, Token-at, to-token-at, goes-token-at, token-at-said}
@@ -68,7 +68,7 @@ module _ {M : Type 1} (𝓤 : URA M) (H : Heap 𝓤) (A : Atoms 𝓤) (W : Given
   moved n = record { text = d .text; at = n .at }
 
   -- What is had when the result has landed is what the contract asks: the new position's facts take the place of the old one's.
-  exits : (n : Next) → n ≡ next-of d → n .at < 2 ^ 64 → ent 𝓤 (⋆ 𝓤 H A ((‵ (flft κ q) ⊛ ‵ ftrue) ∷ ‵ (Own κ d) ∷ [])) (Post (reader-laws.lowered (moved n)))
+  exits : (n : Next) → n ≡ peeked d → n .at < 2 ^ 64 → ent 𝓤 (⋆ 𝓤 H A ((‵ (flft κ q) ⊛ ‵ ftrue) ∷ ‵ (Own κ d) ∷ [])) (Post (reader-laws.lowered (moved n)))
   exits n e fits =
       qed W ((‵ (flft κ q) ⊛ ‵ ftrue) ∷ ‵ (Own κ d) ∷ []) ∵
       suffices ! _ (ends-at 𝓤 H A advance.ended stayed (advance.clauses 𝓤 H A mem run) W (((κ, tt), (q, tt), tt, (d, tt), (reader-laws.lowered d ∷ [], tt)), tt) (reader-laws.lowered (moved n)) (moved n) (tt, tt) (tt, tt)) $ says ! (ap moved e) $
@@ -86,7 +86,7 @@ module _ {M : Type 1} (𝓤 : URA M) (H : Heap 𝓤) (A : Atoms 𝓤) (W : Given
         move ! (14 ∷ []) $ use1 W (raw (Token-at 𝓤 H A mem run .pre to) ⊛ ‵ (Own κ d)) (goes-token-at 𝓤 H A W mem run κ q d (wt .1 .1 .0 .fits)) $ split ! $
         calls-at ! fm (Token-at 𝓤 H A mem run) known to (and-then ! (load ! (from ! (stop !)) (look ! 6 refl)) (and-then ! (load ! (from ! (stop !)) (look ! 4 refl)) (no-more !))) (λ u.
         use1 W (later (some (λ (n : Next). ((‵ (flft κ q) ⊛ ‵ ftrue) ⊛ ‵ (next.the-row .own n (u ∷ []))) ⊛ raw (ensured 𝓤 H A token-at.ended (token-at.clauses 𝓤 H A mem run) (κ, tt) (d .text, (d .at, tt)) tt n)))) (id⊢ 𝓤 _) $ await ! tt $ pick ! (λ n.
-        split ! $ move ! (1 ∷ []) $ use1 W (raw (fact 𝓤 (n ≡ next-of d))) (token-at-said 𝓤 H A W mem run κ q d n) $ heard ! (n ≡ next-of d) (λ e. split ! $ move ! (1 ∷ []) $
+        split ! $ move ! (1 ∷ []) $ use1 W (raw (fact 𝓤 (n ≡ peeked d))) (token-at-said 𝓤 H A W mem run κ q d n) $ heard ! (n ≡ peeked d) (λ e. split ! $ move ! (1 ∷ []) $
         -- [the result; the token; what the reader owns; room for _6; …; _5; …; _4; …; room for _3; …; room for _2; …; _1; …; room for _0; …]
         peeks ! next.the-row (Is next.the-row) (shows 𝓤 H A next.the-row) n (u ∷ []) (λ is.
         let fits : n .at < 2 ^ 64 = LL.owed next.the-type next-laws.the-laws n _ is .1 .0 .1 in

@@ -37,7 +37,7 @@ use denote.Triple.Walked.{says, Stays, stay-none, stay-none-slice, walkOf, goes-
 use denote.Exit.{yes}
 use denote.Triple.Clauses.{ensured, lasts}
 use Rattle.text.specs.declared.Next.{Next}
-use Rattle.cursor.specs.Readers.{next-of, advanced}
+use Rattle.cursor.specs.Readers.{peeked, advanced}
 use Rattle.cursor.specs.declared.Reader.{Reader}
 use Rattle.cursor.proofs.Reader as reader
 use Rattle.cursor.proofs.Reader.Laws as reader-laws
@@ -97,7 +97,7 @@ module _ {M : Type 1} (𝓤 : URA M) (H : Heap 𝓤) (A : Atoms 𝓤) (W : Given
   advance-said r = exE 𝓤 _ (λ ws. snd∗ 𝓤 (sem 𝓤 H A (lasts advance.ended (κ, tt) (made, tt) ws)) (fact 𝓤 (r ≡ advanced made)))
 
   -- What is had when the result has landed is what the contract asks.
-  exits : (n : Next) (u : Val) → p < 2 ^ 64 → n ≡ next-of (advanced made) → ent 𝓤 (⋆ 𝓤 H A (‵ (next.the-row .own n (u ∷ [])) ∷ (‵ (flft κ q) ⊛ ‵ ftrue) ∷ ‵ (Text-own κ s) ∷ [])) (Post u)
+  exits : (n : Next) (u : Val) → p < 2 ^ 64 → n ≡ peeked (advanced made) → ent 𝓤 (⋆ 𝓤 H A (‵ (next.the-row .own n (u ∷ [])) ∷ (‵ (flft κ q) ⊛ ‵ ftrue) ∷ ‵ (Text-own κ s) ∷ [])) (Post u)
   exits n u fits e =
       qed W (‵ (next.the-row .own n (u ∷ [])) ∷ (‵ (flft κ q) ⊛ ‵ ftrue) ∷ ‵ (Text-own κ s) ∷ []) ∵
       suffices ! _ (ends-at 𝓤 H A after.ended stayed (after.clauses 𝓤 H A mem run) W (((κ, tt), (q, tt), tt, (s, (p, tt)), vals), tt) u n (tt, (tt, tt)) (tt, (tt, tt))) $ says ! e $
@@ -121,13 +121,13 @@ module _ {M : Type 1} (𝓤 : URA M) (H : Heap 𝓤) (A : Atoms 𝓤) (W : Given
         use2 W (raw (Peek 𝓤 H A mem run .pre (to-peek 𝓤 H A W mem run κ q r u))) (goes-on 𝓤 H A W mem run κ q r u) $
         calls-at ! fm (Peek 𝓤 H A mem run) known-peek (to-peek 𝓤 H A W mem run κ q r u) (and-then ! (load ! (from ! (stop !)) (look ! 4 refl)) (no-more !)) (λ u′.
         use1 W (later (some (λ (n : Next). ((‵ (flft κ q) ⊛ ‵ ftrue) ⊛ ‵ (next.the-row .own n (u′ ∷ []))) ⊛ raw (ensured 𝓤 H A peek.ended (peek.clauses 𝓤 H A mem run) (κ, tt) (r, tt) tt n)))) (id⊢ 𝓤 _) $ await ! tt $ pick ! (λ n.
-        split ! $ move ! (1 ∷ []) $ use1 W (raw (fact 𝓤 (n ≡ next-of r))) (peek-said 𝓤 H A W mem run κ q r n) $ heard ! (n ≡ next-of r) (λ e′. split ! $ move ! (1 ∷ []) $
+        split ! $ move ! (1 ∷ []) $ use1 W (raw (fact 𝓤 (n ≡ peeked r))) (peek-said 𝓤 H A W mem run κ q r n) $ heard ! (n ≡ peeked r) (λ e′. split ! $ move ! (1 ∷ []) $
         -- [the result; the token; what the text owns; _4; …; _3; …; _2; …; _1; …; room for _0; …]
         peeks ! next.the-row (Is next.the-row) (shows 𝓤 H A next.the-row) n (u′ ∷ []) (λ is′.
         land ! (from ! (stop !)) (init ! 11 refl (LL.lawful next.the-type next-laws.the-laws 𝓤 H A W .typed n _ is′ .0)) $
         returns ! (look ! 11 refl) $ forget ! 3 refl $ forget ! 5 refl $ forget ! 7 refl $ forget ! 9 refl $ forget ! 11 refl $
         move ! (11 ∷ 12 ∷ []) $ free1 ! $ move ! (9 ∷ 10 ∷ []) $ free1 ! $ move ! (7 ∷ 8 ∷ []) $ free1 ! $ move ! (5 ∷ 6 ∷ []) $ free1 ! $ move ! (3 ∷ 4 ∷ []) $ free1 ! $ free0 ! $
-        by ! (exits n u′ fits (e′ ∙ ap next-of e)))))))))))))))
+        by ! (exits n u′ fits (e′ ∙ ap peeked e)))))))))))))))
 
 module _ {M : Type 1} (𝓤 : URA M) (H : Heap 𝓤) (A : Atoms 𝓤) (W : Given 𝓤 H A) (mem : Memory → SProp 𝓤) (run : Routine → Fun 𝓤) where
   -- The walk at all arguments.

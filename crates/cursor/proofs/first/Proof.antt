@@ -35,7 +35,7 @@ use denote.Exit.{yes}
 use denote.Triple.Clauses.{ensured, lasts}
 use Rattle.text.specs.Next.{next-at}
 use Rattle.text.specs.declared.Next.{Next}
-use Rattle.cursor.specs.Readers.{at-start, next-of}
+use Rattle.cursor.specs.Readers.{at-start, peeked}
 use Rattle.cursor.specs.declared.Reader.{Reader}
 use Rattle.cursor.proofs.Reader as reader
 use Rattle.cursor.proofs.Reader.Laws as reader-laws
@@ -107,12 +107,12 @@ module _ {M : Type 1} (𝓤 : URA M) (H : Heap 𝓤) (A : Atoms 𝓤) (W : Given
         use2 W (raw (Peek 𝓤 H A mem run .pre (to-peek 𝓤 H A W mem run κ q r u))) (goes-on 𝓤 H A W mem run κ q r u) $
         calls-at ! fm (Peek 𝓤 H A mem run) known-peek (to-peek 𝓤 H A W mem run κ q r u) (and-then ! (load ! (from ! (stop !)) (look ! 2 refl)) (no-more !)) (λ u′.
         use1 W (later (some (λ (n : Next). ((‵ (flft κ q) ⊛ ‵ ftrue) ⊛ ‵ (next.the-row .own n (u′ ∷ []))) ⊛ raw (ensured 𝓤 H A peek.ended (peek.clauses 𝓤 H A mem run) (κ, tt) (r, tt) tt n)))) (id⊢ 𝓤 _) $ await ! tt $ pick ! (λ n.
-        split ! $ move ! (1 ∷ []) $ use1 W (raw (fact 𝓤 (n ≡ next-of r))) (peek-said 𝓤 H A W mem run κ q r n) $ heard ! (n ≡ next-of r) (λ e′. split ! $ move ! (1 ∷ []) $
+        split ! $ move ! (1 ∷ []) $ use1 W (raw (fact 𝓤 (n ≡ peeked r))) (peek-said 𝓤 H A W mem run κ q r n) $ heard ! (n ≡ peeked r) (λ e′. split ! $ move ! (1 ∷ []) $
         -- [the result; the token; what the text owns; _2; …; _1; …; room for _0; …]
         peeks ! next.the-row (Is next.the-row) (shows 𝓤 H A next.the-row) n (u′ ∷ []) (λ is′.
         land ! (from ! (stop !)) (init ! 7 refl (LL.lawful next.the-type next-laws.the-laws 𝓤 H A W .typed n _ is′ .0)) $
         returns ! (look ! 7 refl) $ forget ! 3 refl $ forget ! 5 refl $ forget ! 7 refl $ move ! (7 ∷ 8 ∷ []) $ free1 ! $ move ! (5 ∷ 6 ∷ []) $ free1 ! $ move ! (3 ∷ 4 ∷ []) $ free1 ! $ free0 ! $
-        by ! (exits n u′ (e′ ∙ ap next-of e)))))))))))))
+        by ! (exits n u′ (e′ ∙ ap peeked e)))))))))))))
 
 module _ {M : Type 1} (𝓤 : URA M) (H : Heap 𝓤) (A : Atoms 𝓤) (W : Given 𝓤 H A) (mem : Memory → SProp 𝓤) (run : Routine → Fun 𝓤) where
   -- The walk at all arguments.

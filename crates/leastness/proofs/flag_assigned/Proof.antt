@@ -9,7 +9,7 @@ use Rattle.model.specs.Result.{pair}
 use Rattle.table.specs.Link.{assignments-of}
 use mathlib.Core.List.{List}
 use Rattle.model.specs.Rules.{Pair}
-use Rattle.table.specs.Shape.{RuleShaped, no-assignment}
+use Rattle.table.specs.Shape.{RuleShaped, zero-assignment}
 use Rattle.table.proofs.Shape.{rule-shaped}
 use Rattle.table.proofs.Walks.{assigned-from, assigned-start, assigned-end, assigned-next}
 use Rattle.leastness.specs.Flagging.{flagging, Room, flag-all}
@@ -36,7 +36,7 @@ shape c = rule-shaped (c .args .t1) _ (c .good .0)
 first : (c : tie.After-place Inv-pairs μ-pairs) →
     let a = c .before .before .before in
     let s = a .before in
-    flag-all (s .args .high .now) (s .args .s) (pair (getD (s .args .t1 .assignments) (a .pairs .k) no-assignment .slot) (getD (s .args .t1 .assignments) (a .pairs .k) no-assignment .value) ∷ assigned-from (s .args .t1) (a .pairs .k + 1)) (flagging (a .pairs .flags) (a .pairs .queue) (a .pairs .n)) ≡ flag-all (s .args .high .now) (s .args .s) (assignments-of (s .args .t1)) (flagging (s .args .flags .now) (s .args .queue .now) (s .args .top))
+    flag-all (s .args .high .now) (s .args .s) (pair (getD (s .args .t1 .assignments) (a .pairs .k) zero-assignment .slot) (getD (s .args .t1 .assignments) (a .pairs .k) zero-assignment .value) ∷ assigned-from (s .args .t1) (a .pairs .k + 1)) (flagging (a .pairs .flags) (a .pairs .queue) (a .pairs .n)) ≡ flag-all (s .args .high .now) (s .args .s) (assignments-of (s .args .t1)) (flagging (s .args .flags .now) (s .args .queue .now) (s .args .top))
 first c =
     let a = c .before .before .before in
     let s = a .before in
@@ -56,7 +56,7 @@ same : (c : tie.Else2 Inv-pairs μ-pairs) →
     let q = c .before .before .before .before in
     let a = q .before .before .before in
     let s = a .before in
-    getD (s .args .high .now) (place-of (pair (getD (s .args .t1 .assignments) (a .pairs .k) no-assignment .slot) (getD (s .args .t1 .assignments) (a .pairs .k) no-assignment .value))) 0 ≡ s .args .s
+    getD (s .args .high .now) (place-of (pair (getD (s .args .t1 .assignments) (a .pairs .k) zero-assignment .slot) (getD (s .args .t1 .assignments) (a .pairs .k) zero-assignment .value))) 0 ≡ s .args .s
 same c = let q = c .before .before .before .before in rw (q .place .ensures .is) at (c .before .before .if1 .left)
 
 pairs-holds : tie.Need-pairs-holds Inv-pairs μ-pairs

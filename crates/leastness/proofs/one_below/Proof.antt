@@ -8,7 +8,7 @@ use borrow.Author.Tests.{not-true, not-false}
 use Rattle.model.specs.Result.{pair}
 use Rattle.table.specs.Link.{rule-of}
 use Rattle.model.specs.Strata.{is-under-not, barred}
-use Rattle.table.specs.Shape.{RuleShaped, no-literal}
+use Rattle.table.specs.Shape.{RuleShaped, zero-literal}
 use Rattle.table.proofs.Shape.{rule-shaped}
 use Rattle.table.proofs.Walks.{picked-from, barred-start, picked-end, picked-next, picked-over}
 use Rattle.leastness.specs.OneBelow.{one-below}
@@ -31,7 +31,7 @@ shape c = rule-shaped (c .args .t1) _ (c .good .0)
 first : (c : tie.After-place Inv-literals μ-literals) →
     let a = c .before .before .before .before .before in
     let s = a .before in
-    one-below (s .args .high .now) (s .args .s) (pair (getD (s .args .t1 .literals) (a .literals .j) no-literal .slot) (getD (s .args .t1 .literals) (a .literals .j) no-literal .value) ∷ picked-from (s .args .t1) is-under-not (a .literals .j + 1)) ≡ one-below (s .args .high .now) (s .args .s) (barred (rule-of (s .args .t1)))
+    one-below (s .args .high .now) (s .args .s) (pair (getD (s .args .t1 .literals) (a .literals .j) zero-literal .slot) (getD (s .args .t1 .literals) (a .literals .j) zero-literal .value) ∷ picked-from (s .args .t1) is-under-not (a .literals .j + 1)) ≡ one-below (s .args .high .now) (s .args .s) (barred (rule-of (s .args .t1)))
 first c =
     let b = c .before .before in
     let a = b .before .before .before in

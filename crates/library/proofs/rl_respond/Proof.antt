@@ -1,7 +1,7 @@
 -- `library::rl_respond` meets its contract.
 -- Assumes nothing.
 use mathlib.Core.Path.{ap, _∙_}
-use Rattle.library.specs.Results.{response-result}
+use Rattle.library.specs.Results.{response-numbers}
 use borrow.Author.Needs.{needs}
 use Rattle.library.proofs.rl_respond.Statement.{statement}
 use Rattle.library.proofs.rl_respond.Tie as tie
@@ -9,8 +9,8 @@ use Rattle.library.proofs.rl_respond.Tie as tie
 respond-requires : tie.Need-respond-requires
 respond-requires c κs = search needs
 
-answered-requires : tie.Need-answered-requires
-answered-requires c κs = search needs
+numbered-requires : tie.Need-numbered-requires
+numbered-requires c κs = search needs
 
 same-length : tie.Need-same-length
 same-length c = search needs
@@ -24,9 +24,9 @@ same-length-3 c = search needs
 returns : tie.Need-returns
 returns c =
     let k = c .before .before .before .before .before .before .before .before in
-    (c .answered .ensures ∙ ap response-result (k .respond .ensures .0), k .respond .ensures .1)
+    (c .numbered .ensures ∙ ap response-numbers (k .respond .ensures .0), k .respond .ensures .1)
 
 pub rl-respond-spec : {M : Type 1} → statement M
 rl-respond-spec =
     tie.close
-    (tie.spec respond-requires answered-requires same-length same-length-2 same-length-3 returns)
+    (tie.spec respond-requires numbered-requires same-length same-length-2 same-length-3 returns)

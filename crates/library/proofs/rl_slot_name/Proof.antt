@@ -35,14 +35,14 @@ mul-named c = omega (arith, inside c)
 element-copy-out-named : tie.Need-element-copy-out-named
 element-copy-out-named c = inside c
 
-place-of-requires : tie.Need-place-of-requires
-place-of-requires c κs = search needs
+name-place-requires : tie.Need-name-place-requires
+name-place-requires c κs = search needs
 
 returns-2 : tie.Need-returns-2
 returns-2 c =
     let e = c .before .before .before in
     let a = e .before .before .before .args in
-    slot-shown (a .text .now) (a .t2) (a .slot) _ (c .place-of .ensures ∙ sym (slot-there _ (a .t2) (a .slot) (there e)))
+    slot-shown (a .text .now) (a .t2) (a .slot) _ (c .name-place .ensures ∙ sym (slot-there _ (a .t2) (a .slot) (there e)))
 
 pub rl-slot-name-spec : {M : Type 1} → statement M
 rl-slot-name-spec =
@@ -52,5 +52,5 @@ rl-slot-name-spec =
     returns
     mul-named
     element-copy-out-named
-    place-of-requires
+    name-place-requires
     returns-2)

@@ -6,7 +6,7 @@ use Prim.Native.Nat.{_≤_, _<_}
 use lib.ListN.{getD}
 use borrow.Author.Tests.{not-true, not-false}
 use Rattle.table.specs.Limits.{slot-limit, value-limit}
-use Rattle.table.specs.Shape.{no-slot}
+use Rattle.table.specs.Shape.{zero-slot}
 use Rattle.names.specs.Names.{has-slot, has-value}
 use Rattle.names.proofs.Names.{slot-inside, value-inside}
 use Rattle.library.proofs.Places.{value-slot-lacking, value-there, value-lacking, value-shown}
@@ -25,7 +25,7 @@ inside c = slot-inside _ _ (there c) .0
 -- The slot has the value.
 has : (c : tie.Else2) →
     let a = c .before .before .before .before .before .before .args in
-    has-value (getD (a .t2 .slots) (a .slot) no-slot .count) (a .value) ≡ true
+    has-value (getD (a .t2 .slots) (a .slot) zero-slot .count) (a .value) ≡ true
 has c = sym (c .before .has-value .ensures) ∙ not-false (c .before .has-value .result) (c .if2 .left)
 
 within : (c : tie.Else2) → let v = c .before .before .before .before .before .before .args .value in (1 ≤ v) × (v ≤ value-limit)
@@ -65,15 +65,15 @@ mul-name c = omega (arith, within c)
 element-copy-out-name : tie.Need-element-copy-out-name
 element-copy-out-name c = omega (arith, within c)
 
-place-of-requires : tie.Need-place-of-requires
-place-of-requires c κs = search needs
+name-place-requires : tie.Need-name-place-requires
+name-place-requires c κs = search needs
 
 returns-3 : tie.Need-returns-3
 returns-3 c =
     let f = c .before .before in
     let e = f .before .before .before in
     let a = e .before .before .before .args in
-    value-shown (a .text .now) (a .t2) (a .slot) (a .value) _ (c .place-of .ensures ∙ sym (value-there _ (a .t2) (a .slot) (a .value) (there e) (has f)))
+    value-shown (a .text .now) (a .t2) (a .slot) (a .value) _ (c .name-place .ensures ∙ sym (value-there _ (a .t2) (a .slot) (a .value) (there e) (has f)))
 
 pub rl-value-name-spec : {M : Type 1} → statement M
 rl-value-name-spec =
@@ -88,5 +88,5 @@ rl-value-name-spec =
     sub-k
     mul-name
     element-copy-out-name
-    place-of-requires
+    name-place-requires
     returns-3)

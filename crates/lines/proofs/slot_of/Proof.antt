@@ -9,13 +9,13 @@ use lib.ListN.{length, take, getD, length-set}
 use lib.Seq.{take-all, take-suc, take-suc-set}
 use Rattle.table.specs.Limits.{value-limit}
 use Rattle.laws.proofs.Lists.{map-append}
-use Rattle.lines.specs.Index.{place-of}
+use Rattle.lines.specs.Index.{stretch-at}
 use borrow.Author.Needs.{needs}
 use Rattle.lines.proofs.slot_of.Statement.{statement}
 use Rattle.lines.proofs.slot_of.Tie as tie
 
 abbrev Inv-loop : tie.InvT-loop
-Inv-loop span count spans values₀ i₀ values i = (i ≤ value-limit) × (length values ≡ value-limit) × (take i values ≡ map place-of (take i spans))
+Inv-loop span count spans values₀ i₀ values i = (i ≤ value-limit) × (length values ≡ value-limit) × (take i values ≡ map stretch-at (take i spans))
 
 abbrev μ-loop : tie.MeasureT-loop
 μ-loop span count spans values₀ i₀ values i = value-limit - i
@@ -53,7 +53,7 @@ loop-again c =
     let s : l .i < length spans = omega arith in (
       omega arith,
       length-set (l .values) (l .i) _ ∙ l .inv .1,
-      rw (add-one (l .i), take-suc-set (l .values) (l .i) (c .name-of .result) v, take-suc spans (l .i) 0 s, map-append place-of (take (l .i) spans) (getD spans (l .i) 0 ∷ []), l .inv .2, c .name-of .ensures),
+      rw (add-one (l .i), take-suc-set (l .values) (l .i) (c .name-of .result) v, take-suc spans (l .i) 0 s, map-append stretch-at (take (l .i) spans) (getD spans (l .i) 0 ∷ []), l .inv .2, c .name-of .ensures),
     )
 
 name-of-requires-2 : tie.Need-name-of-requires-2 Inv-loop μ-loop

@@ -14,7 +14,7 @@ use Rattle.soundness.specs.Sound.{sound}
 use Rattle.soundness.proofs.Sound.{sound-width}
 use Rattle.laws.specs.Answers.{passed}
 use Rattle.cards.specs.Forms.{card-bits, card-test, card-bytes}
-use Rattle.cards.specs.Cards.{counts-in, values-of, outcome-of}
+use Rattle.cards.specs.Cards.{counts-in, card-values, verdict-outcome}
 use Rattle.cards.proofs.Formed.{card-length}
 use Rattle.cards.proofs.Written.{card-bytes-length}
 use Rattle.cards.proofs.Passed.{slots-length, card-pass, sound-slots, counts-all, outcome-fault, outcome-passed, card-fits}
@@ -39,11 +39,11 @@ counted c =
     ap (counts-in (a .args .t .width)) (c .counts-of .ensures) ∙ counts-all (a .args .t) (shape a) (right e)
 
 -- The test is one by those counts.
-tested : (c : tie.After-check-card) → c .check-card .result ≡ outcome-of (card-test (value-counts (c .before .before .before .before .before .before .args .t)) (values-of (c .before .before .before .before .before .before .args .c)))
-tested c = c .check-card .ensures ∙ ap (λ (ns : List ℕ). outcome-of (card-test ns (values-of (c .before .before .before .before .before .before .args .c)))) (counted (c .before .before))
+tested : (c : tie.After-check-card) → c .check-card .result ≡ verdict-outcome (card-test (value-counts (c .before .before .before .before .before .before .args .t)) (card-values (c .before .before .before .before .before .before .args .c)))
+tested c = c .check-card .ensures ∙ ap (λ (ns : List ℕ). verdict-outcome (card-test ns (card-values (c .before .before .before .before .before .before .args .c)))) (counted (c .before .before))
 
 -- The form passed.
-passes : (c : tie.After-enum-told) → card-test (value-counts (c .before .before .before .before .before .before .before .before .args .t)) (values-of (c .before .before .before .before .before .before .before .before .args .c)) ≡ passed
+passes : (c : tie.After-enum-told) → card-test (value-counts (c .before .before .before .before .before .before .before .before .args .t)) (card-values (c .before .before .before .before .before .before .before .before .args .c)) ≡ passed
 passes c = outcome-passed _ (sym (tested (c .before .before)) ∙ c .enum-told .given .1)
 
 is-sound-requires : tie.Need-is-sound-requires
@@ -83,7 +83,7 @@ counts : (c : tie.After-enum-told) → c .before .before .before .before .before
 counts c =
     let e = c .before .before .before .before .before in
     let a = e .before .before .before in
-    sym (card-length (a .args .c)) ∙ card-pass (value-counts (a .args .t)) (values-of (a .args .c)) (passes c) .0 ∙ slots-length (a .args .t) (shape a) (right e)
+    sym (card-length (a .args .c)) ∙ card-pass (value-counts (a .args .t)) (card-values (a .args .c)) (passes c) .0 ∙ slots-length (a .args .t) (shape a) (right e)
 
 mul-bytes-for : tie.Need-mul-bytes-for
 mul-bytes-for c = record { fits = (let e = c .before .before .before .before .before in omega (arith, sound-width (e .before .before .before .args .t) (right e))) }
@@ -125,7 +125,7 @@ returns-4 c =
     let p = b .before in
     let e = p .before .before .before .before .before in
     let a = e .before .before .before in
-    let vs = values-of (a .args .c) in
+    let vs = card-values (a .args .c) in
     let r = card-with-room (a .args .t) (right e) (a .args .c) (length (a .args .out .now)) (passes p) (omega (arith, size b, g .before .before .if2 .left)) in
     let l : g .write-card .result ≡ length (card-bytes vs) = g .write-card .ensures .0 ∙ sym (card-bytes-length vs ∙ ap (λ (n : ℕ). byte-count (card-bits n)) (card-length (a .args .c))) in
     answer-taken _ (card-bytes vs) (a .args .out .now) _ (g .write-card .result) r l (g .write-card .ensures .1 ∙ ap (λ (n : ℕ). card-bytes vs ++ drop n (a .args .out .now)) (sym (g .write-card .ensures .0)))

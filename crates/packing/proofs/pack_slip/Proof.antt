@@ -14,7 +14,7 @@ use Rattle.soundness.specs.Sound.{sound}
 use Rattle.soundness.proofs.Sound.{sound-width}
 use Rattle.laws.specs.Answers.{passed}
 use Rattle.cards.specs.Forms.{slip-bits, slip-test, slip-bytes}
-use Rattle.cards.specs.Cards.{counts-in, changes-of, outcome-of}
+use Rattle.cards.specs.Cards.{counts-in, changes-of, verdict-outcome}
 use Rattle.cards.proofs.Formed.{slip-length}
 use Rattle.cards.proofs.Written.{slip-bytes-length}
 use Rattle.cards.proofs.Passed.{sound-slots, counts-all, outcome-fault, outcome-passed, slip-fits}
@@ -39,8 +39,8 @@ counted c =
     ap (counts-in (a .args .t .width)) (c .counts-of .ensures) ∙ counts-all (a .args .t) (shape a) (right e)
 
 -- The test is one by those counts.
-tested : (c : tie.After-check-slip) → c .check-slip .result ≡ outcome-of (slip-test (value-counts (c .before .before .before .before .before .before .before .args .t)) (changes-of (c .before .before .before .before .before .before .before .args .s)))
-tested c = c .check-slip .ensures ∙ ap (λ (ns : List ℕ). outcome-of (slip-test ns (changes-of (c .before .before .before .before .before .before .before .args .s)))) (counted (c .before .before))
+tested : (c : tie.After-check-slip) → c .check-slip .result ≡ verdict-outcome (slip-test (value-counts (c .before .before .before .before .before .before .before .args .t)) (changes-of (c .before .before .before .before .before .before .before .args .s)))
+tested c = c .check-slip .ensures ∙ ap (λ (ns : List ℕ). verdict-outcome (slip-test ns (changes-of (c .before .before .before .before .before .before .before .args .s)))) (counted (c .before .before))
 
 -- The form passed.
 passes : (c : tie.After-enum-told) → slip-test (value-counts (c .before .before .before .before .before .before .before .before .before .args .t)) (changes-of (c .before .before .before .before .before .before .before .before .before .args .s)) ≡ passed

@@ -7,7 +7,7 @@ use mathlib.Core.List.{List}
 use lib.ListN.{length}
 use borrow.Author.Needs.{needs}
 use Rattle.grammar.specs.Limits.{max-text}
-use Rattle.grammar.specs.Reading.{read}
+use Rattle.grammar.specs.Reading.{parse}
 use Rattle.table.specs.declared.Table.{Table}
 use Rattle.table.specs.Shape.{Shaped}
 use Rattle.table.proofs.Shape.{shaped}
@@ -47,11 +47,11 @@ put-file-requires c κs =
     rw (s .pre .1) (table-fits text (s .pre .0) (shape s), lines-fit text (s .pre .0) (shape s), spelled-bounded text (s .pre .0) _ _ I)
 
 -- The lines of the table are the print of the text.
-is-print : (text : List ℕ) (o : reading text .outcome ≡ Accepted) (t : Table) {ss vs : List ℕ} → t ≡ reading text .table → Indexed text (file text o .slots) ss vs → spelled-file text ss vs t ≡ print-of (read text)
+is-print : (text : List ℕ) (o : reading text .outcome ≡ Accepted) (t : Table) {ss vs : List ℕ} → t ≡ reading text .table → Indexed text (file text o .slots) ss vs → spelled-file text ss vs t ≡ print-of (parse text)
 is-print text o t {ss} {vs} e I = rw e (print-spelled text o ss vs I ∙ sym (print-is text (file text o) (is-file text o)))
 
 -- How long the print is.
-size : (c : tie.After-nowhere2) → let s = c .before .before .before .before .before .before .before .before .before .before in length (print-of (read (s .args .text .now))) ≡ c .before .put-file .result
+size : (c : tie.After-nowhere2) → let s = c .before .before .before .before .before .before .before .before .before .before in length (print-of (parse (s .args .text .now))) ≡ c .before .put-file .result
 size c =
     let p = c .before in
     let e = p .before .before .before .before in
@@ -66,7 +66,7 @@ unfolding max-text
 returns c =
     let n = c .before in
     let s = n .before .before .before .before .before .before .before .before .before .before in
-    answer-refused _ 34 0 (s .args .out .now) (fitted-34 (print-of (read (s .args .text .now))) (length (s .args .out .now)) (omega (arith, size n, c .if1 .taken)))
+    answer-refused _ 34 0 (s .args .out .now) (fitted-34 (print-of (parse (s .args .text .now))) (length (s .args .out .now)) (omega (arith, size n, c .if1 .taken)))
 
 returns-2 : tie.Need-returns-2
 unfolding max-text
@@ -74,7 +74,7 @@ returns-2 c =
     let n = c .before .before in
     let s = n .before .before .before .before .before .before .before .before .before .before in
     answer-refused _ 33 0 (s .args .out .now)
-    (fitted-33 (print-of (read (s .args .text .now))) (length (s .args .out .now)) (omega (arith, size n, c .before .if1 .left)) (omega (arith, size n, c .if2 .taken)))
+    (fitted-33 (print-of (parse (s .args .text .now))) (length (s .args .out .now)) (omega (arith, size n, c .before .if1 .left)) (omega (arith, size n, c .if2 .taken)))
 
 put-file-requires-2 : tie.Need-put-file-requires-2
 put-file-requires-2 c κs =
@@ -102,7 +102,7 @@ returns-3 c =
     let is = is-print text (s .pre .0) (s .args .t) (s .pre .1) I in
     let l = size n in
     let z = ap length is in
-    answer-taken _ (print-of (read text)) out _ (q .put-file2 .result) (fitted-all (print-of (read text)) (length out) (omega (arith, l, f .before .if1 .left)) (omega (arith, l, f .if2 .left)))
+    answer-taken _ (print-of (parse text)) out _ (q .put-file2 .result) (fitted-all (print-of (parse text)) (length out) (omega (arith, l, f .before .if1 .left)) (omega (arith, l, f .if2 .left)))
     (omega (arith, z, q .put-file2 .ensures .ends))
     (q .put-file2 .ensures .there (omega (arith, l, z, f .if2 .left)) ∙ ap (put-in out 0) is)
 

@@ -2,7 +2,7 @@
 -- Assumes nothing.
 use mathlib.Core.Path.{refl, sym, ap, _∙_}
 use Rattle.grammar.specs.Limits.{max-text}
-use Rattle.reader.specs.Tables.{answered}
+use Rattle.reader.specs.Tables.{file-read}
 use Rattle.grammar.proofs.Forward.{read-short}
 use Rattle.reader.proofs.ReadLaws.{answer-refused, read-long}
 use borrow.Author.Needs.{needs}
@@ -22,7 +22,7 @@ read-statements-requires c κs = c .if1 .left
 
 returns-2 : tie.Need-returns-2
 unfolding max-text
-returns-2 c = c .read-statements .ensures ∙ ap answered (sym (read-short (c .before .before .before .args .text .now) (c .before .if1 .left)))
+returns-2 c = c .read-statements .ensures ∙ ap file-read (sym (read-short (c .before .before .before .args .text .now) (c .before .if1 .left)))
 
 pub read-text-spec : {M : Type 1} → statement M
 read-text-spec =

@@ -14,7 +14,7 @@ use Rattle.soundness.proofs.Sound.{sound-width}
 use Rattle.model.specs.Rules.{Pair}
 use Rattle.laws.specs.Answers.{taken}
 use Rattle.cards.specs.Forms.{read-card, read-slip}
-use Rattle.cards.specs.Cards.{counts-in, values-of, changes-of, card-of, slip-of, card-read, slip-read}
+use Rattle.cards.specs.Cards.{counts-in, card-values, changes-of, card-of, slip-of, card-read, slip-read}
 use Rattle.cards.proofs.Passed.{counts-all, slots-length}
 use Rattle.cards.proofs.EntryTrips.{card-of-values, slip-of-changes}
 use Rattle.response.specs.Ending.{answer-by-firing}
@@ -135,7 +135,7 @@ returns-4 c =
     (by-table-on t (s .args .card .now) (s .args .slip .now) rooms (right (by-slip q .before))
     ∙ by-rules-on (value-counts t) (rules-of t) (s .args .card .now) (s .args .slip .now) rooms (S .0) (I .0) (S .1) (I .1)
     ∙ ap (λ (n : ℕ). if-room n (length (rules-of t)) rooms (answer-by-firing (rules-of t) n (S .0) (I .0))) (slots-length t (shape s) (right (by-slip q .before)))
-    ∙ ap₂ (λ (vs : List ℕ) (ps : List Pair). if-room (t .width) (length (rules-of t)) rooms (answer-by-firing (rules-of t) (t .width) vs ps)) (sym (ap values-of (S .2) ∙ card-of-values (S .0))) (sym (ap changes-of (I .2) ∙ slip-of-changes (I .0))))
+    ∙ ap₂ (λ (vs : List ℕ) (ps : List Pair). if-room (t .width) (length (rules-of t)) rooms (answer-by-firing (rules-of t) (t .width) vs ps)) (sym (ap card-values (S .2) ∙ card-of-values (S .0))) (sym (ap changes-of (I .2) ∙ slip-of-changes (I .0))))
     (f .finish .ensures)
 
 pub work-spec : {M : Type 1} → statement M

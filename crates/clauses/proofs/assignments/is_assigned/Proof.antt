@@ -7,7 +7,7 @@ use mathlib.Core.List.{_∷_}
 use lib.ListN.{length, drop, getD, length-map}
 use Rattle.table.specs.Limits.{assignment-limit}
 use Rattle.table.specs.Link.{assignment-of}
-use Rattle.table.specs.Shape.{no-assignment}
+use Rattle.table.specs.Shape.{zero-assignment}
 use Rattle.model.proofs.Pairs.{assigns-here, assigns-later}
 use Rattle.model.specs.Rules.{assigns}
 use Rattle.clauses.specs.Assignments.{pairs-in}
@@ -27,7 +27,7 @@ places-length c = simp length-map at (c .good .0 .1 .1 .0 .1 .0 .1)
 
 -- The pair in the place that was looked at stands before the others.
 looked : (c : tie.After-wide Inv-loop μ-loop) → drop (c .before .before .before .before .loop .i) (pairs-in (c .before .before .before .before .before .args .t1))
-    ≡ assignment-of (getD (c .before .before .before .before .before .args .t1 .places) (c .before .before .before .before .loop .i) no-assignment) ∷ drop (c .before .before .before .before .loop .i + 1) (pairs-in (c .before .before .before .before .before .args .t1))
+    ≡ assignment-of (getD (c .before .before .before .before .before .args .t1 .places) (c .before .before .before .before .loop .i) zero-assignment) ∷ drop (c .before .before .before .before .loop .i + 1) (pairs-in (c .before .before .before .before .before .args .t1))
 looked c =
     let k = c .before .before .before .before in
     let l = places-length (k .before) in

@@ -3,7 +3,7 @@
 use mathlib.Core.Path.{refl}
 use Rattle.laws.proofs.Filled.{filled-add}
 use Rattle.table.specs.Limits.{assignment-limit}
-use Rattle.table.specs.Shape.{no-assignment}
+use Rattle.table.specs.Shape.{zero-assignment}
 use Rattle.clauses.proofs.AssignmentLaws as assignments
 use borrow.Author.Needs.{needs}
 use Rattle.clauses.proofs.assignments.with_assignment.Statement.{statement}
@@ -22,7 +22,7 @@ returns : tie.Need-returns
 returns c =
     let list = c .args .list in
     let a = c .args .assignment in
-    (λ F. (assignments.pairs-add list a F (c .pre), filled-add assignment-limit no-assignment (list .places) (list .count) a F (c .pre)), refl)
+    (λ F. (assignments.pairs-add list a F (c .pre), filled-add assignment-limit zero-assignment (list .places) (list .count) a F (c .pre)), refl)
 
 pub with-assignment-spec : {M : Type 1} → statement M
 with-assignment-spec =

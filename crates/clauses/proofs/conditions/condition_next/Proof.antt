@@ -5,7 +5,7 @@ use native.Mathlib.Omega.{arith}
 use mathlib.Core.Path.{_≡_, ap, subst, _∙_}
 use lib.ListN.{length}
 use Rattle.laws.proofs.Filled.{filled-none}
-use Rattle.table.specs.Shape.{no-literal}
+use Rattle.table.specs.Shape.{zero-literal}
 use Rattle.text.specs.Tokens.{TRUE}
 use Rattle.grammar.specs.Reading.{took, expects}
 use Rattle.steps.specs.Places.{tokens-past, step-part, Step-lies, choice, Fork-lies}
@@ -76,14 +76,14 @@ returns-2 c =
     let l = open-lies a in
     let d = subst (Fork-lies _ _) (k .way2 .given .1) (f .fork-next .ensures .1) in
     let e = c .no-literals .ensures in
-    (λ base slots L. rw e (conditions.condition-end slots _ _ _ tt (opened a base) (f .fork-next .ensures .0 base ∙ ap (choice _ base) (k .way2 .given .1))), (omega (arith, l .0, d .0), d .1), rw e (filled-none 8 no-literal))
+    (λ base slots L. rw e (conditions.condition-end slots _ _ _ tt (opened a base) (f .fork-next .ensures .0 base ∙ ap (choice _ base) (k .way2 .given .1))), (omega (arith, l .0, d .0), d .1), rw e (filled-none 8 zero-literal))
 
 returns-3 : tie.Need-returns-3
 returns-3 c =
     let k = c .before .before in
     let f = k .before .before in
     let a = f .before .before in
-    (λ base slots L. conditions.condition-fault slots _ _ tt _ (opened a base) (f .fork-next .ensures .0 base ∙ ap (choice _ base) (k .way3 .given .1)), tt, rw (c .no-literals2 .ensures) (filled-none 8 no-literal))
+    (λ base slots L. conditions.condition-fault slots _ _ tt _ (opened a base) (f .fork-next .ensures .0 base ∙ ap (choice _ base) (k .way3 .given .1)), tt, rw (c .no-literals2 .ensures) (filled-none 8 zero-literal))
 
 returns-4 : tie.Need-returns-4
 returns-4 c =

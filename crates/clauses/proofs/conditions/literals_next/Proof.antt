@@ -9,7 +9,7 @@ use mathlib.Core.List.{List, []}
 use lib.ListN.{length}
 use Rattle.laws.specs.Filled.{Filled}
 use Rattle.laws.proofs.Filled.{filled-none, filled-add}
-use Rattle.table.specs.Shape.{no-literal}
+use Rattle.table.specs.Shape.{zero-literal}
 use Rattle.grammar.specs.Files.{Slot}
 use Rattle.grammar.specs.Limits.{max-literals}
 use Rattle.grammar.specs.Reading.{took, read-literal, read-literals}
@@ -23,7 +23,7 @@ use Rattle.clauses.proofs.conditions.literals_next.Statement.{statement
 use Rattle.clauses.proofs.conditions.literals_next.Tie as tie
 
 abbrev Inv-loop : tie.InvT-loop
-Inv-loop text rest slotspans valuespans start list₀ at₀ list at = (start ≤ at) × Filled 8 no-literal (list .places) (list .count) × ((base : ℕ) (slots : List Slot) → Looked text slots slotspans valuespans
+Inv-loop text rest slotspans valuespans start list₀ at₀ list at = (start ≤ at) × Filled 8 zero-literal (list .places) (list .count) × ((base : ℕ) (slots : List Slot) → Looked text slots slotspans valuespans
     → read-literals slots max-literals [] (tokens-past rest base start) ≡ read-literals slots (8 - list .count) (literals-in list) (tokens-past rest base at))
 
 abbrev μ-loop : tie.MeasureT-loop
@@ -45,7 +45,7 @@ no-literals-requires c κs = search needs
 
 loop-holds : tie.Need-loop-holds Inv-loop μ-loop
 unfolding max-literals
-loop-holds c = let e = c .no-literals .ensures in (omega arith, rw e (filled-none 8 no-literal), λ base slots L. rw e refl)
+loop-holds c = let e = c .no-literals .ensures in (omega arith, rw e (filled-none 8 zero-literal), λ base slots L. rw e refl)
 
 no-more-requires : tie.Need-no-more-requires Inv-loop μ-loop
 no-more-requires c κs = search needs
@@ -93,7 +93,7 @@ loop-again c =
     let n = literal-lies r in
     let d = subst (Fork-lies _ _) (w .way .given .1) (f .fork-next .ensures .1) in (
       omega (arith, l .inv .0, n .0, d .0),
-      filled-add 8 no-literal _ _ _ (l .inv .1) h,
+      filled-add 8 zero-literal _ _ _ (l .inv .1) h,
       λ base slots L. l .inv .2 base slots L ∙ conditions.literals-on slots (8 - l .list .count) _ _ _ _ _ (omega arith) (literal-read r base slots L) (f .fork-next .ensures .0 base ∙ ap (choice _ base) (w .way .given .1))
           ∙ ap₂ (λ (k : ℕ) (ls : List model.Literal). read-literals slots k ls (tokens-past (r .before .before .before .before .before .before .before .before .before .args .rest .now) base (w .way .given .0 .0))) (omega arith) (sym (conditions.literals-add _ _ _ (l .inv .1) h)),
     )
@@ -113,7 +113,7 @@ returns-2 c =
       λ base slots L. l .inv .2 base slots L ∙ conditions.literals-end slots (8 - l .list .count) _ _ _ _ _ (omega arith) (literal-read r base slots L) (f .fork-next .ensures .0 base ∙ ap (choice _ base) (w .way2 .given .1))
           ∙ ap (λ (ls : List model.Literal). took ls (tokens-past (r .before .before .before .before .before .before .before .before .before .args .rest .now) base (w .way2 .given .0 .0))) (sym (conditions.literals-add _ _ _ (l .inv .1) h)),
       (omega (arith, l .inv .0, n .0, d .0), d .1),
-      filled-add 8 no-literal _ _ _ (l .inv .1) h,
+      filled-add 8 zero-literal _ _ _ (l .inv .1) h,
     )
 
 enum-known-way-3 : tie.Need-enum-known-way-3 Inv-loop μ-loop
@@ -129,7 +129,7 @@ returns-3 c =
     let n = literal-lies r in (
       λ base slots L. l .inv .2 base slots L ∙ conditions.literals-fault slots (8 - l .list .count) _ _ _ _ _ (omega arith) (literal-read r base slots L) (f .fork-next .ensures .0 base ∙ ap (choice _ base) (w .way3 .given .1)),
       tt,
-      filled-add 8 no-literal _ _ _ (l .inv .1) h,
+      filled-add 8 zero-literal _ _ _ (l .inv .1) h,
     )
 
 enum-known-read-2 : tie.Need-enum-known-read-2 Inv-loop μ-loop

@@ -6,7 +6,7 @@ use lib.ListN.{length, getD}
 use Rattle.model.specs.Result.{pair}
 use Rattle.table.specs.Limits.{slot-limit}
 use Rattle.cards.specs.Forms.{change-fault}
-use Rattle.cards.specs.Cards.{counts-in, changes-of, outcome-of}
+use Rattle.cards.specs.Cards.{counts-in, changes-of, verdict-outcome}
 use Rattle.cards.proofs.Tested.{no-pair, ChangesLeft, changes-start, changes-next, changes-fault, changes-end, change-right, counts-length}
 use Rattle.cards.proofs.Formed.{slip-length, slip-at}
 use native.Mathlib.Omega.{arith}
@@ -56,13 +56,13 @@ found : (c : tie.After-change-fault Inv-loop μ-loop) → change-fault (counts-i
 found c = rw (change (c .before)) (sym (c .change-fault .ensures))
 
 returns : tie.Need-returns Inv-loop μ-loop
-unfolding outcome-of
+unfolding verdict-outcome
 returns c =
     let d = c .before in
     let l = d .before .before .before .before in
     let a = l .before .before .args in
     let o = l .before .loop in
-    sym (ap outcome-of (changes-fault (counts-in (a .width) (a .counts .now)) (changes-of (a .t1)) (o .low) (o .i) (of-changes l) (o .inv .1) (d .change-fault .result) (found d) (c .if1 .taken)))
+    sym (ap verdict-outcome (changes-fault (counts-in (a .width) (a .counts .now)) (changes-of (a .t1)) (o .low) (o .i) (of-changes l) (o .inv .1) (d .change-fault .result) (found d) (c .if1 .taken)))
 
 add-low : tie.Need-add-low Inv-loop μ-loop
 add-low c =
@@ -86,11 +86,11 @@ loop-again c =
     (omega arith, rw (change (d .before)) at (changes-next (counts-in (a .width) (a .counts .now)) (changes-of (a .t1)) (o .low) (o .i) (of-changes l) (o .inv .1) (found d ∙ c .if1 .left)))
 
 returns-2 : tie.Need-returns-2 Inv-loop μ-loop
-unfolding outcome-of
+unfolding verdict-outcome
 returns-2 c =
     let a = c .before .before .args in
     let o = c .before .loop in
-    sym (ap outcome-of (changes-end (counts-in (a .width) (a .counts .now)) (changes-of (a .t1)) (o .low) (o .i) (omega (arith, slip-length (a .t1))) (o .inv .1)))
+    sym (ap verdict-outcome (changes-end (counts-in (a .width) (a .counts .now)) (changes-of (a .t1)) (o .low) (o .i) (omega (arith, slip-length (a .t1))) (o .inv .1)))
 
 pub check-slip-spec : {M : Type 1} → statement M
 check-slip-spec =

@@ -6,7 +6,7 @@ use Prim.Native.Nat.{ℕ, _-_, _*_, _≤_, _<_}
 use lib.ListN.{length, getD, drop}
 use Rattle.laws.specs.Packed.{byte-count}
 use Rattle.cards.specs.Forms.{card-bits, card-bytes}
-use Rattle.cards.specs.Cards.{values-of}
+use Rattle.cards.specs.Cards.{card-values}
 use Rattle.cards.proofs.Formed.{card-length, card-at}
 use Rattle.cards.proofs.Written.{Written, written-start, written-more, written-length, written-after, written-self, card-upto, card-bits-upto, card-next, card-all}
 use native.Mathlib.Omega.{arith}
@@ -15,7 +15,7 @@ use Rattle.packing.proofs.pack.write_card.Statement.{statement}
 use Rattle.packing.proofs.pack.write_card.Tie as tie
 
 abbrev Inv-loop : tie.InvT-loop
-Inv-loop out₀ c n i₀ out i = (i ≤ n) × Written (card-upto (values-of c) i) out₀ out
+Inv-loop out₀ c n i₀ out i = (i ≤ n) × Written (card-upto (card-values c) i) out₀ out
 
 abbrev μ-loop : tie.MeasureT-loop
 μ-loop out₀ c n i₀ out i = n - i
@@ -25,7 +25,7 @@ room : (c : tie.Start Inv-loop μ-loop) → card-bits (c .args .t1 .count) ≤ 8
 room c = omega (arith, c .pre .1)
 
 -- The count is put first.
-first : (c : tie.After-put-field Inv-loop μ-loop) → Written (card-upto (values-of (c .before .before .before .args .t1)) 0) (c .before .before .before .args .out .now) (c .put-field .last .0)
+first : (c : tie.After-put-field Inv-loop μ-loop) → Written (card-upto (card-values (c .before .before .before .args .t1)) 0) (c .before .before .before .args .out .now) (c .put-field .last .0)
 first c =
     let a = c .before .before .before in
     c .put-field .ensures ∙ rw (card-length (a .args .t1)) (written-start (a .args .out .now) 6 (a .args .t1 .count) (omega (arith, room a)))
@@ -33,7 +33,7 @@ first c =
 first-length : (c : tie.After-put-field Inv-loop μ-loop) → length (c .put-field .last .0) ≡ length (c .before .before .before .args .out .now)
 first-length c =
     let a = c .before .before .before in
-    let vs = values-of (a .args .t1) in
+    let vs = card-values (a .args .t1) in
     written-length (card-upto vs 0) (a .args .out .now) (c .put-field .last .0) (omega (arith, card-bits-upto vs 0 (omega arith), room a)) (first c)
 
 -- In the loop the length stays.
@@ -41,7 +41,7 @@ held : (c : tie.At-loop Inv-loop μ-loop) → length (c .loop .out) ≡ length (
 held c =
     let g = c .before .before .before in
     let a = g .before .before .before in
-    let vs = values-of (a .args .t1) in
+    let vs = card-values (a .args .t1) in
     let l = card-length (a .args .t1) in
     let f = first-length g in
     let b = card-bits-upto vs (c .loop .i) (omega arith) in
@@ -59,7 +59,7 @@ loop-holds : tie.Need-loop-holds Inv-loop μ-loop
 loop-holds c =
     let g = c .before .before in
     let a = g .before .before .before in
-    (omega arith, written-self (card-upto (values-of (a .args .t1)) 0) (a .args .out .now) (g .put-field .last .0) (first g))
+    (omega arith, written-self (card-upto (card-values (a .args .t1)) 0) (a .args .out .now) (g .put-field .last .0) (first g))
 
 element-copy-out-v : tie.Need-element-copy-out-v Inv-loop μ-loop
 element-copy-out-v c = inside c
@@ -94,7 +94,7 @@ loop-again c =
     let o = l .before in
     let f = o .before .before .before in
     let a = f .before .before .before in
-    let vs = values-of (a .args .t1) in
+    let vs = card-values (a .args .t1) in
     let i = o .loop .i in
     let n = card-length (a .args .t1) in
     let h : i < length vs = omega arith in
@@ -120,7 +120,7 @@ returns c =
     let o = c .before .before in
     let f = o .before .before .before in
     let a = f .before .before .before in
-    let vs = values-of (a .args .t1) in
+    let vs = card-values (a .args .t1) in
     let n = card-length (a .args .t1) in
     let e = card-all vs (f .put-field .last .0) (o .loop .out) (o .loop .i) (omega arith) (o .loop .inv .1) in
     let k = byte-count (card-bits (length vs)) in

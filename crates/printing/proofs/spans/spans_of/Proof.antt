@@ -9,7 +9,7 @@ use lib.ListN.{length, take, getD, length-set}
 use lib.Seq.{take-all, take-suc, take-suc-set}
 use Rattle.laws.proofs.Lists.{map-append}
 use Rattle.table.specs.Limits.{value-limit}
-use Rattle.table.specs.Shape.{no-name}
+use Rattle.table.specs.Shape.{zero-name}
 use Rattle.table.proofs.Shape.{slot-shaped}
 use Rattle.printing.specs.Tabled.{span-of}
 use borrow.Author.Needs.{needs}
@@ -59,7 +59,7 @@ loop-again c =
     let s : l .i < length (a .t1 .values) = omega arith in (
       omega arith,
       length-set (l .spans) (l .i) _ ∙ l .inv .1,
-      rw (add-one (l .i), take-suc-set (l .spans) (l .i) (c .span-of .result) v, take-suc (a .t1 .values) (l .i) no-name s, map-append span-of (take (l .i) (a .t1 .values)) (getD (a .t1 .values) (l .i) no-name ∷ []), l .inv .2, c .span-of .ensures),
+      rw (add-one (l .i), take-suc-set (l .spans) (l .i) (c .span-of .result) v, take-suc (a .t1 .values) (l .i) zero-name s, map-append span-of (take (l .i) (a .t1 .values)) (getD (a .t1 .values) (l .i) zero-name ∷ []), l .inv .2, c .span-of .ensures),
     )
 
 returns : tie.Need-returns Inv-loop μ-loop

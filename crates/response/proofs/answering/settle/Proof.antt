@@ -12,9 +12,9 @@ use Rattle.laws.specs.Packed.{byte-count}
 use Rattle.table.specs.Flat.{set-of, add-pairs}
 use Rattle.table.proofs.Shape.{shaped}
 use Rattle.cards.specs.Forms.{card-bits, card-bytes}
-use Rattle.cards.specs.Cards.{values-of, changes-of}
+use Rattle.cards.specs.Cards.{card-values, changes-of}
 use Rattle.results.specs.Record.{ones-in}
-use Rattle.firing.specs.Firing.{firing-of}
+use Rattle.firing.specs.Firing.{table-firing}
 use Rattle.response.proofs.AnswerLaws.{conflict-ends, next-in-order, listed-fits, listed-room, record-there, answer-ends}
 use native.Mathlib.Omega.{arith}
 use borrow.Author.Needs.{needs}
@@ -29,8 +29,8 @@ shape : (s : tie.Start) → Shaped (s .args .t)
 shape s = shaped (s .args .t) _ (s .good .0)
 
 -- What fires, from the slip's flags.
-fires : (f : tie.After-fire) → f .fire .result ≡ firing-of (start f .args .t) (start f .args .card .values) (add-pairs (changes-of (start f .args .slip)) (replicate pair-places false))
-fires f = f .fire .ensures ∙ ap (firing-of (start f .args .t) (start f .args .card .values)) (f .before .before .flags-of .ensures)
+fires : (f : tie.After-fire) → f .fire .result ≡ table-firing (start f .args .t) (start f .args .card .values) (add-pairs (changes-of (start f .args .slip)) (replicate pair-places false))
+fires f = f .fire .ensures ∙ ap (table-firing (start f .args .t) (start f .args .card .values)) (f .before .before .flags-of .ensures)
 
 -- The firing that came before each place.
 abbrev by-card : tie.After-write-card-arg → tie.After-fire
@@ -115,7 +115,7 @@ returns-2 c =
     let s = start f in
     answer-ends (s .args .t) (s .args .card) (s .args .slip) (s .pre .0) (shape s) (f .fire .result) (fires f) _ _ _ _ _ _ _ _ _ (a .before .before .before .before .before .before .conflict-slot .ensures) (a .before .before .before .before .before .if1 .left)
     (l .before .before .before .before .before .write-card .ensures .1
-    ∙ ap (λ (vs : List ℕ). card-bytes (values-of (record { values = vs; count = s .args .t .width })) ++ drop (byte-count (card-bits (s .args .t .width))) (s .args .renewed .now)) (a .before .new-values .ensures))
+    ∙ ap (λ (vs : List ℕ). card-bytes (card-values (record { values = vs; count = s .args .t .width })) ++ drop (byte-count (card-bits (s .args .t .width))) (s .args .renewed .now)) (a .before .new-values .ensures))
     (l .before .slip-of .result) (l .before .slip-of .ensures) (r .before .before .before .before .write-slip .ensures .0) (r .before .before .before .before .write-slip .ensures .1) (k .before .before .record-of .ensures)
     (c .count-fired .ensures ∙ ap (λ (n : ℕ). ones-in (take n (k .before .before .record-of .last .1 .1 .0))) (c .before .before .bytes-for .ensures))
 

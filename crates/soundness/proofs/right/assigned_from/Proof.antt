@@ -3,7 +3,7 @@
 use mathlib.Core.Path.{_≡_, refl, sym, _∙_}
 use Prim.Native.Nat.{_+_, _-_, _≤_}
 use Rattle.table.proofs.Shape.{rule-shaped}
-use Rattle.table.specs.Shape.{RuleShaped, no-assignment}
+use Rattle.table.specs.Shape.{RuleShaped, zero-assignment}
 use lib.ListN.{getD}
 use mathlib.Core.List.{_∷_}
 use Rattle.model.specs.Result.{pair}
@@ -33,7 +33,7 @@ all s = rw (assigned-drop (s .args .t1) (s .args .k))
 first : (c : tie.After-a Inv-loop μ-loop) →
     let a = c .before .before in
     let s = a .before in
-    assigns (pair (getD (s .args .t1 .assignments) (a .loop .j) no-assignment .slot) (getD (s .args .t1 .assignments) (a .loop .j) no-assignment .value) ∷ assigned-from (s .args .t1) (a .loop .j + 1)) (s .args .slot) ≡ assigns (assigned-from (s .args .t1) (s .args .k)) (s .args .slot)
+    assigns (pair (getD (s .args .t1 .assignments) (a .loop .j) zero-assignment .slot) (getD (s .args .t1 .assignments) (a .loop .j) zero-assignment .value) ∷ assigned-from (s .args .t1) (a .loop .j + 1)) (s .args .slot) ≡ assigns (assigned-from (s .args .t1) (s .args .k)) (s .args .slot)
 first c =
     let a = c .before .before in
     let s = a .before in

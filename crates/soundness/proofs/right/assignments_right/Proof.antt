@@ -3,7 +3,7 @@
 use mathlib.Core.Path.{_≡_, refl, sym, _∙_}
 use Prim.Native.Nat.{_+_, _-_, _≤_}
 use Rattle.table.proofs.Shape.{rule-shaped}
-use Rattle.table.specs.Shape.{RuleShaped, no-assignment}
+use Rattle.table.specs.Shape.{RuleShaped, zero-assignment}
 use lib.ListN.{getD}
 use mathlib.Core.List.{_∷_}
 use Rattle.model.specs.Result.{pair}
@@ -36,7 +36,7 @@ all s = rw (assigned-start (s .args .t1))
 first : (c : tie.After-a Inv-loop μ-loop) →
     let a = c .before .before in
     let s = a .before in
-    both-right (has-pair (s .args .width) (s .args .counts .now)) (pair (getD (s .args .t1 .assignments) (a .loop .k) no-assignment .slot) (getD (s .args .t1 .assignments) (a .loop .k) no-assignment .value) ∷ assigned-from (s .args .t1) (a .loop .k + 1))
+    both-right (has-pair (s .args .width) (s .args .counts .now)) (pair (getD (s .args .t1 .assignments) (a .loop .k) zero-assignment .slot) (getD (s .args .t1 .assignments) (a .loop .k) zero-assignment .value) ∷ assigned-from (s .args .t1) (a .loop .k + 1))
     ≡ both-right (has-pair (s .args .width) (s .args .counts .now)) (assigned-from (s .args .t1) 0)
 first c =
     let a = c .before .before in

@@ -3,7 +3,7 @@
 use mathlib.Core.Path.{_≡_, refl, sym, _∙_}
 use Prim.Native.Nat.{_+_, _-_, _≤_}
 use Rattle.table.proofs.Shape.{rule-shaped}
-use Rattle.table.specs.Shape.{RuleShaped, no-literal}
+use Rattle.table.specs.Shape.{RuleShaped, zero-literal}
 use lib.ListN.{getD}
 use mathlib.Core.List.{_∷_}
 use Rattle.model.specs.Result.{pair}
@@ -34,7 +34,7 @@ all s = rw (literals-start (s .args .t1))
 first : (c : tie.After-l Inv-loop μ-loop) →
     let a = c .before .before in
     let s = a .before in
-    all-of (has-pair (s .args .width) (s .args .counts .now)) (pair (getD (s .args .t1 .literals) (a .loop .j) no-literal .slot) (getD (s .args .t1 .literals) (a .loop .j) no-literal .value) ∷ map (λ l. l .pair) (literals-from (s .args .t1) (a .loop .j + 1)))
+    all-of (has-pair (s .args .width) (s .args .counts .now)) (pair (getD (s .args .t1 .literals) (a .loop .j) zero-literal .slot) (getD (s .args .t1 .literals) (a .loop .j) zero-literal .value) ∷ map (λ l. l .pair) (literals-from (s .args .t1) (a .loop .j + 1)))
     ≡ all-of (has-pair (s .args .width) (s .args .counts .now)) (map (λ l. l .pair) (literals-from (s .args .t1) 0))
 first c =
     let a = c .before .before in

@@ -12,7 +12,7 @@ use borrow.Author.Needs.{needs}
 use Rattle.model.specs.Strata.{is-plain, is-under-not}
 use Rattle.model.proofs.Pairs.{when-plain, when-under-not, when-neither}
 use Rattle.table.specs.declared.Rule.{Rule}
-use Rattle.table.specs.Shape.{RuleShaped, no-literal}
+use Rattle.table.specs.Shape.{RuleShaped, zero-literal}
 use Rattle.table.specs.Link.{rule-of, literal-of}
 use Rattle.table.proofs.Shape.{rule-shaped}
 use Rattle.table.proofs.Walks.{picked-from, needed-start, barred-start, picked-end, picked-next, picked-over}
@@ -53,14 +53,14 @@ shape c = rule-shaped (c .args .t1) _ (c .good .0)
 next-plain : (c : tie.After-place2 Inv-literals μ-literals) →
     let a = c .before .before .before .before .before in
     let s = a .before .before .before .before in
-    getD (s .args .t1 .literals) (a .literals .j) no-literal .negated ≡ false
+    getD (s .args .t1 .literals) (a .literals .j) zero-literal .negated ≡ false
     → max (a .literals .h) (max (getD (s .args .high .now) (c .place2 .result) 0) (ask-from (s .args .high .now) (s .args .t1) (a .literals .j + 1))) ≡ asked-at (s .args .high .now) (rule-of (s .args .t1))
 unfolding highest-at
 next-plain c n =
     let b = c .before .before in
     let a = b .before .before .before in
     let s = a .before .before .before .before in
-    let w = when-plain (literal-of (getD (s .args .t1 .literals) (a .literals .j) no-literal)) (sym (b .is-becomes .ensures) ∙ not-false (b .is-becomes .result) (c .before .if2 .left)) n in
+    let w = when-plain (literal-of (getD (s .args .t1 .literals) (a .literals .j) zero-literal)) (sym (b .is-becomes .ensures) ∙ not-false (b .is-becomes .result) (c .before .if2 .left)) n in
     let p = picked-next (s .args .t1) (shape s) is-plain (a .literals .j) (search needs) (s .pre .0 .literals-fit) (w .0) in
     let q = picked-over (s .args .t1) (shape s) is-under-not (a .literals .j) (search needs) (s .pre .0 .literals-fit) (w .1) in
     highest-plain (a .literals .h) _ _ _ _ (rw (← (c .place2 .ensures .is)) at (rw (p, q) at (a .literals .inv .1 .1)))
@@ -69,14 +69,14 @@ next-plain c n =
 next-under-not : (c : tie.After-place2 Inv-literals μ-literals) →
     let a = c .before .before .before .before .before in
     let s = a .before .before .before .before in
-    getD (s .args .t1 .literals) (a .literals .j) no-literal .negated ≡ true
+    getD (s .args .t1 .literals) (a .literals .j) zero-literal .negated ≡ true
     → max (a .literals .h) (max (getD (s .args .high .now) (c .place2 .result) 0 + 1) (ask-from (s .args .high .now) (s .args .t1) (a .literals .j + 1))) ≡ asked-at (s .args .high .now) (rule-of (s .args .t1))
 unfolding highest-at
 next-under-not c n =
     let b = c .before .before in
     let a = b .before .before .before in
     let s = a .before .before .before .before in
-    let w = when-under-not (literal-of (getD (s .args .t1 .literals) (a .literals .j) no-literal)) (sym (b .is-becomes .ensures) ∙ not-false (b .is-becomes .result) (c .before .if2 .left)) n in
+    let w = when-under-not (literal-of (getD (s .args .t1 .literals) (a .literals .j) zero-literal)) (sym (b .is-becomes .ensures) ∙ not-false (b .is-becomes .result) (c .before .if2 .left)) n in
     let p = picked-over (s .args .t1) (shape s) is-plain (a .literals .j) (search needs) (s .pre .0 .literals-fit) (w .0) in
     let q = picked-next (s .args .t1) (shape s) is-under-not (a .literals .j) (search needs) (s .pre .0 .literals-fit) (w .1) in
     highest-under-not (a .literals .h) _ _ _ _ (rw (← (c .place2 .ensures .is)) at (rw (p, q) at (a .literals .inv .1 .1)))
@@ -130,7 +130,7 @@ literals-again c =
     let b = c .before in
     let a = b .before .before .before in
     let s = a .before .before .before .before in
-    let w = when-neither (literal-of (getD (s .args .t1 .literals) (a .literals .j) no-literal)) (sym (b .is-becomes .ensures) ∙ not-true (b .is-becomes .result) (c .if2 .taken)) in
+    let w = when-neither (literal-of (getD (s .args .t1 .literals) (a .literals .j) zero-literal)) (sym (b .is-becomes .ensures) ∙ not-true (b .is-becomes .result) (c .if2 .taken)) in
     let p = picked-over (s .args .t1) (shape s) is-plain (a .literals .j) (search needs) (s .pre .0 .literals-fit) (w .0) in
     let q = picked-over (s .args .t1) (shape s) is-under-not (a .literals .j) (search needs) (s .pre .0 .literals-fit) (w .1) in
     (search needs, (a .literals .inv .1 .0, rw (p, q) at (a .literals .inv .1 .1)))

@@ -1,11 +1,11 @@
--- `library::answered` meets its contract.
+-- `library::numbered` meets its contract.
 -- Assumes nothing.
 use mathlib.Core.Path.{ap, sym}
 use Rattle.response.specs.declared.Outcome.{Outcome}
 use Rattle.library.specs.Results.{numbered}
 use borrow.Author.Needs.{needs}
-use Rattle.library.proofs.answered.Statement.{statement}
-use Rattle.library.proofs.answered.Tie as tie
+use Rattle.library.proofs.numbered.Statement.{statement}
+use Rattle.library.proofs.numbered.Tie as tie
 
 enum-known-outcome : tie.Need-enum-known-outcome
 enum-known-outcome c = search needs
@@ -19,5 +19,5 @@ enum-known-outcome-2 c = search needs
 returns-2 : tie.Need-returns-2
 returns-2 c = let a = c .before in ap (λ (o : Outcome). numbered o (a .before .before .args .tally)) (sym (a .outcome2 .given .1))
 
-pub answered-spec : {M : Type 1} → statement M
-answered-spec = tie.close (tie.spec enum-known-outcome returns enum-known-outcome-2 returns-2)
+pub numbered-spec : {M : Type 1} → statement M
+numbered-spec = tie.close (tie.spec enum-known-outcome returns enum-known-outcome-2 returns-2)
