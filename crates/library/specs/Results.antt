@@ -1,7 +1,7 @@
 -- The results of the boundary: the answers of the entry points with document 01's numbers in place of the enums.
 use Prim.Native.Nat.{ℕ}
 use Rattle.reader.specs.declared.FileRead.{FileRead}
-use Rattle.reader.specs.Tables as reading
+use Rattle.reader.specs.Tables.{reading-refusal, reading-second}
 use Rattle.printing.specs.declared.Printing.{Printing}
 use Rattle.printing.specs.Printing.{printing-refusal, printing-second, printing-length}
 use Rattle.cards.specs.declared.CardRead.{CardRead}
@@ -12,7 +12,7 @@ use Rattle.tally.specs.declared.Tally.{Tally}
 use Rattle.response.specs.declared.Outcome.{Outcome}
 use Rattle.response.specs.declared.Outcome.the-variants.{Answered, Refused}
 use Rattle.response.specs.declared.Response.{Response}
-use Rattle.response.specs.Respond as responding
+use Rattle.response.specs.Respond.{response-refusal, response-second}
 use Rattle.library.specs.declared.RlRead.{RlRead}
 use Rattle.library.specs.declared.RlPrinted.{RlPrinted}
 use Rattle.library.specs.declared.RlCard.{RlCard}
@@ -22,7 +22,7 @@ use Rattle.library.specs.declared.RlResponse.{RlResponse}
 
 -- A reading: 'Refusals by who can cause them', the number, 0 for none, and the second number; the table as it is.
 abbrev pub reading-numbers : FileRead → RlRead
-reading-numbers r = record { number = reading.reading-refusal (r .outcome); second = reading.reading-second (r .outcome); table = r .table }
+reading-numbers r = record { number = reading-refusal (r .outcome); second = reading-second (r .outcome); table = r .table }
 
 -- A print.
 abbrev pub print-numbers : Printing → RlPrinted
@@ -53,7 +53,7 @@ fired-count (Refused k s) = 0
 -- An outcome by numbers, with a tally as it is.
 abbrev pub numbered : Outcome → Tally → RlResponse
 numbered o y =
-    record { number = responding.response-refusal o; second = responding.response-second o; length = changes-length o; fired = fired-count o; tally = y }
+    record { number = response-refusal o; second = response-second o; length = changes-length o; fired = fired-count o; tally = y }
 
 -- A response.
 abbrev pub response-numbers : Response → RlResponse
