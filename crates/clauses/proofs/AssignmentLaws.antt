@@ -20,8 +20,7 @@ use Rattle.table.specs.Link.{assignment-of}
 use Rattle.table.specs.declared.Assignment.{Assignment}
 use Rattle.grammar.specs.Limits.{max-assignments}
 use Rattle.grammar.specs.Files.{Slot}
-use Rattle.grammar.specs.Reading as reading
-use Rattle.grammar.specs.Reading.{Part, took, stop, _then_, expects, a-name, unassigned, read-slot, read-value, read-target, read-assignment, read-assignments, read-assign}
+use Rattle.grammar.specs.Reading.{Part, took, stop, _then_, expects, a-name, unassigned, read-slot, read-value, read-target, read-assignment, read-assignments, read-assign, no-assignment}
 use Rattle.model.specs.Result.{pair}
 use Rattle.steps.specs.Places.{which, one, other, neither}
 use Rattle.clauses.specs.Assignments.{assignment-list, Unused-zero, pairs-in, value-assignment, single-assignment, Assignment-lies}
@@ -117,12 +116,12 @@ unfolding read-assignment value-assignment _then_
 assignment-on slots sofar ts left s e = rw e
 
 -- No assignment may follow.
-pub surplus-stop : (sofar : List Pair) (ts : List Token) (k : ℕ) → a-name ts ≡ stop k → reading.no-assignment sofar ts ≡ stop k
-unfolding reading.no-assignment _then_
+pub surplus-stop : (sofar : List Pair) (ts : List Token) (k : ℕ) → a-name ts ≡ stop k → no-assignment sofar ts ≡ stop k
+unfolding no-assignment _then_
 surplus-stop sofar ts k e = rw e
 
-pub surplus-named : (sofar : List Pair) (ts left : List Token) (n : Name) → a-name ts ≡ took n left → reading.no-assignment sofar ts ≡ stop 15
-unfolding reading.no-assignment _then_
+pub surplus-named : (sofar : List Pair) (ts left : List Token) (n : Name) → a-name ts ≡ took n left → no-assignment sofar ts ≡ stop 15
+unfolding no-assignment _then_
 surplus-named sofar ts left n e = rw e
 
 -- What lies behind a later position lies behind an earlier one.
@@ -135,28 +134,28 @@ pub list-start : (slots : List Slot) (list : Assignments) (ts : List Token) → 
     → read-assignments slots max-assignments [] ts ≡ read-assignments slots (assignment-limit - list .count) (pairs-in list) ts
 list-start slots list ts e = rw (room-is, e)
 
-pub list-full : (slots : List Slot) (room : ℕ) (sofar : List Pair) (ts : List Token) → room ≡ 0 → read-assignments slots room sofar ts ≡ reading.no-assignment sofar ts
+pub list-full : (slots : List Slot) (room : ℕ) (sofar : List Pair) (ts : List Token) → room ≡ 0 → read-assignments slots room sofar ts ≡ no-assignment sofar ts
 unfolding read-assignments
-list-full slots = lists.list-full (read-assignment slots) reading.no-assignment COMMA CLOSE
+list-full slots = lists.list-full (read-assignment slots) no-assignment COMMA CLOSE
 
 pub list-stop : (slots : List Slot) (room r : ℕ) (sofar : List Pair) (ts : List Token) (k : ℕ) → room ≡ suc r → read-assignment slots sofar ts ≡ stop k → read-assignments slots room sofar ts ≡ stop k
 unfolding read-assignments
-list-stop slots = lists.list-stop (read-assignment slots) reading.no-assignment COMMA CLOSE
+list-stop slots = lists.list-stop (read-assignment slots) no-assignment COMMA CLOSE
 
 pub list-on : (slots : List Slot) (room r : ℕ) (sofar longer : List Pair) (ts left more : List Token) (p : Pair) → room ≡ suc r → longer ≡ sofar ++ p ∷ []
     → read-assignment slots sofar ts ≡ took p left → which COMMA CLOSE left ≡ one more → read-assignments slots room sofar ts ≡ read-assignments slots r longer more
 unfolding read-assignments
-list-on slots room r sofar longer ts left more p e l f g = rw l (lists.list-on (read-assignment slots) reading.no-assignment COMMA CLOSE room r sofar ts left more p e f g)
+list-on slots room r sofar longer ts left more p e l f g = rw l (lists.list-on (read-assignment slots) no-assignment COMMA CLOSE room r sofar ts left more p e f g)
 
 pub list-end : (slots : List Slot) (room r : ℕ) (sofar longer : List Pair) (ts left more : List Token) (p : Pair) → room ≡ suc r → longer ≡ sofar ++ p ∷ []
     → read-assignment slots sofar ts ≡ took p left → which COMMA CLOSE left ≡ other more → read-assignments slots room sofar ts ≡ took longer more
 unfolding read-assignments
-list-end slots room r sofar longer ts left more p e l f g = rw l (lists.list-end (read-assignment slots) reading.no-assignment COMMA CLOSE room r sofar ts left more p e f g)
+list-end slots room r sofar longer ts left more p e l f g = rw l (lists.list-end (read-assignment slots) no-assignment COMMA CLOSE room r sofar ts left more p e f g)
 
 pub list-fault : (slots : List Slot) (room r : ℕ) (sofar : List Pair) (ts left : List Token) (p : Pair) (k : ℕ) → room ≡ suc r
     → read-assignment slots sofar ts ≡ took p left → which COMMA CLOSE left ≡ neither k → read-assignments slots room sofar ts ≡ stop k
 unfolding read-assignments
-list-fault slots = lists.list-fault (read-assignment slots) reading.no-assignment COMMA CLOSE
+list-fault slots = lists.list-fault (read-assignment slots) no-assignment COMMA CLOSE
 
 -- One assignment alone.
 pub single-stop : (slots : List Slot) (sofar : List Pair) (ts : List Token) (k : ℕ) → sofar ≡ [] → read-assignment slots sofar ts ≡ stop k → single-assignment slots ts ≡ stop k

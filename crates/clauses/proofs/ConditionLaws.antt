@@ -18,7 +18,7 @@ use Rattle.text.specs.declared.Token.the-variants as v
 use Rattle.text.proofs.Token as kinds
 use Rattle.model.specs.Rules as model
 use Rattle.table.specs.Link.{literal-of}
-use Rattle.table.specs.Shape as shape
+use Rattle.table.specs.Shape.{zero-literal}
 use Rattle.table.specs.declared.Literal.{Literal}
 use Rattle.grammar.specs.Files.{Slot}
 use Rattle.grammar.specs.Reading.{took, stop, expects, fork, read-literal, no-literal, read-literals, read-condition}
@@ -54,9 +54,9 @@ more-other rest base v.Long sofar ts h = refl
 more-other rest base v.Bad sofar ts h = refl
 
 -- The literals in the places used, with one more.
-pub literals-add : (places : List Literal) (count : ℕ) (l : Literal) → Filled 8 shape.zero-literal places count → count < 8
+pub literals-add : (places : List Literal) (count : ℕ) (l : Literal) → Filled 8 zero-literal places count → count < 8
     → map literal-of (take (count + 1) (set places count l)) ≡ map literal-of (take count places) ++ literal-of l ∷ []
-literals-add places count l F h = ap (map literal-of) (filled-used 8 shape.zero-literal places count l F h) ∙ map-append literal-of (take count places) (l ∷ [])
+literals-add places count l F h = ap (map literal-of) (filled-used 8 zero-literal places count l F h) ∙ map-append literal-of (take count places) (l ∷ [])
 
 -- Literals, one at a time; `room` more may come.
 pub literals-full : (slots : List Slot) (room : ℕ) (sofar : List model.Literal) (ts : List Token) → room ≡ 0 → read-literals slots room sofar ts ≡ no-literal sofar ts

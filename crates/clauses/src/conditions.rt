@@ -8,8 +8,7 @@ ghost use Rattle.model.specs.Rules as model;
 ghost use Rattle.table.specs.Shape.{zero-literal};
 ghost use Rattle.grammar.specs.Files.{Slot};
 ghost use Rattle.grammar.specs.Limits.{max-literals};
-ghost use Rattle.grammar.specs.Reading as reading;
-ghost use Rattle.grammar.specs.Reading.{stop, read-literals, read-condition};
+ghost use Rattle.grammar.specs.Reading.{stop, read-literals, read-condition, no-literal};
 ghost use Rattle.steps.specs.Places.{tokens-past, Step-lies, outcome-part};
 ghost use Rattle.clauses.specs.Literals.{Looked};
 ghost use Rattle.clauses.specs.Conditions.{literals-in};
@@ -38,7 +37,7 @@ pub struct Condition {
 
 // The refusal of what stands where no further literal may: 15 at a literal's first token.
 fn no_more(rest: &[u8], at: usize) -> u8
-    ensures { λ r. ⌜ ((base : ℕ) (sofar : List model.Literal) → reading.no-literal sofar (tokens-past (now (rest .entry)) base at) ≡ stop r) ⌝ }
+    ensures { λ r. ⌜ ((base : ℕ) (sofar : List model.Literal) → no-literal sofar (tokens-past (now (rest .entry)) base at) ≡ stop r) ⌝ }
 {
     let next = text::token_at(rest, at);
     let token = next.token;

@@ -3,7 +3,7 @@
 use mathlib.Core.Path.{_≡_, ap, sym}
 use Rattle.reader.specs.declared.Outcome.{Outcome}
 use Rattle.reader.specs.declared.FileRead.{FileRead}
-use Rattle.reader.specs.Tables as reading
+use Rattle.reader.specs.Tables.{reading-refusal, reading-second}
 use Rattle.cards.specs.declared.Outcome as unpacking
 use Rattle.cards.specs.declared.CardRead.{CardRead}
 use Rattle.cards.specs.declared.SlipRead.{SlipRead}
@@ -14,7 +14,7 @@ use Rattle.library.specs.declared.RlSlip.{RlSlip}
 use Rattle.library.specs.Results.{reading-numbers, card-numbers, slip-numbers}
 
 -- A reading whose outcome is known.
-pub read-known : (r q : FileRead) (o : Outcome) → r ≡ q → r .outcome ≡ o → _≡_ {A = RlRead} (record { number = reading.reading-refusal o; second = reading.reading-second o; table = r .table }) (reading-numbers q)
+pub read-known : (r q : FileRead) (o : Outcome) → r ≡ q → r .outcome ≡ o → _≡_ {A = RlRead} (record { number = reading-refusal o; second = reading-second o; table = r .table }) (reading-numbers q)
 read-known r q o e k = rw (sym k) (ap reading-numbers e)
 
 -- An unpacked card whose outcome is known.

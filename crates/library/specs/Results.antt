@@ -2,7 +2,7 @@
 use Prim.Native.Nat.{ℕ}
 use lib.ListN.{length}
 use Rattle.reader.specs.declared.FileRead.{FileRead}
-use Rattle.reader.specs.Tables as reading
+use Rattle.reader.specs.Tables.{reading-refusal, reading-second}
 use Rattle.printing.specs.declared.Printing.{Printing}
 use Rattle.printing.specs.Printing.{printing-refusal, printing-second, printing-length}
 use Rattle.names.specs.Names.{Showing}
@@ -25,7 +25,7 @@ use Rattle.library.specs.declared.RlResponse.{RlResponse}
 
 -- A reading: 'Refusals by who can cause them', the number, 0 for none, and the second number; the table as it is.
 abbrev pub reading-numbers : FileRead → RlRead
-reading-numbers r = record { number = reading.reading-refusal (r .outcome); second = reading.reading-second (r .outcome); table = r .table }
+reading-numbers r = record { number = reading-refusal (r .outcome); second = reading-second (r .outcome); table = r .table }
 
 -- A print.
 abbrev pub print-numbers : Printing → RlPrinted

@@ -20,8 +20,7 @@ use Rattle.grammar.proofs.Accepts.{accepts-iff}
 use Rattle.grammar.proofs.Stands.{file-stands}
 use Rattle.grammar.proofs.Declared.{Declared-pair, slot-declared, value-declared, Declared-rule, Valued, Declared-file, file-declared}
 use Rattle.table.specs.declared.Table.{Table}
-use Rattle.table.specs.Shape as zero-values
-use Rattle.table.specs.Shape.{Shaped}
+use Rattle.table.specs.Shape.{Shaped, zero-slot, zero-rule}
 use Rattle.table.specs.Fits.{TableFits}
 use Rattle.table.specs.Limits.{value-limit, row}
 use Rattle.table.specs.Flat.{place-of}
@@ -108,7 +107,7 @@ module _ (text : List ℕ) (o : reading text .outcome ≡ Accepted) where
       })
 
   -- How many values a slot of the table has.
-  count-is : (i : ℕ) → i < length (file .slots) → getD (read-table .slots) i zero-values.zero-slot .count ≡ length (getD (file .slots) i no-slot .values)
+  count-is : (i : ℕ) → i < length (file .slots) → getD (read-table .slots) i zero-slot .count ≡ length (getD (file .slots) i no-slot .values)
   count-is i h = rw (slot-there text (file .slots) read-table tabled i h)
 
   pub table-fits : Shaped read-table → TableFits read-table
@@ -116,13 +115,13 @@ module _ (text : List ℕ) (o : reading text .outcome ≡ Accepted) where
   table-fits sh = well-formed-fits read-table sh (and-l (well-formed read-table) (carries-least read-table) (reading-passes text))
 
   -- Each rule assigns something.
-  assigns : Shaped read-table → (j : ℕ) → j < read-table .count → 1 ≤ getD (read-table .rules) j zero-values.zero-rule .assigned
+  assigns : Shaped read-table → (j : ℕ) → j < read-table .count → 1 ≤ getD (read-table .rules) j zero-rule .assigned
   assigns sh j h =
-      let r = getD (read-table .rules) j zero-values.zero-rule in
+      let r = getD (read-table .rules) j zero-rule in
       let m : read-table .count ≤ length (read-table .rules) = omega (arith, table-fits sh .rules-fit, sh .rule-places) in
       let k : j < length (file .rules) = omega (arith, h, rules-length read-table m, ap length (accepted-table text o .3)) in
-      let d = each-at (Declared-rule (file .slots)) (file .rules) j (rule-of zero-values.zero-rule) (declared .each-rule) k .some in
-      let e = ap (λ (x : Rule). length (x .assignments)) (sym (rule-is read-table j h) ∙ ap (λ (rs : List Rule). getD rs j (rule-of zero-values.zero-rule)) (accepted-table text o .3)) in
+      let d = each-at (Declared-rule (file .slots)) (file .rules) j (rule-of zero-rule) (declared .each-rule) k .some in
+      let e = ap (λ (x : Rule). length (x .assignments)) (sym (rule-is read-table j h) ∙ ap (λ (rs : List Rule). getD rs j (rule-of zero-rule)) (accepted-table text o .3)) in
       omega (arith, d, e, length-map (take (r .assigned) (r .assignments)) assignment-of, length-take (r .assigned) (r .assignments))
 
   pub lines-fit : Shaped read-table → LinesFit read-table
@@ -158,14 +157,14 @@ module _ (text : List ℕ) (o : reading text .outcome ≡ Accepted) where
         is-tabulate (λ (j : ℕ). spelled text (getD vs (s * row + 1 + j) 0)) (length (values-of (file .slots) s)) [] (spellings (values-of (file .slots) s)) (length-map (values-of (file .slots) s) (λ (n : Name). n .letters))
         (λ j k. List·getD-map (λ (n : Name). n .letters) (values-of (file .slots) s) j (no-slot .name) ∙ sym (value-spelled s j h k))
 
-    line-spelled : (s : ℕ) → s < length (file .slots) → slot-bytes (getD (file .slots) s no-slot) ≡ spelled-line text ss vs s (getD (read-table .slots) s zero-values.zero-slot .count)
+    line-spelled : (s : ℕ) → s < length (file .slots) → slot-bytes (getD (file .slots) s no-slot) ≡ spelled-line text ss vs s (getD (read-table .slots) s zero-slot .count)
     line-spelled s h = ap₂ line-bytes (sym (slot-spelled s h)) (values-spelled s h ∙ ap (spelled-values text vs s) (sym (count-is s h)))
 
     lines-spelled : map slot-bytes (file .slots) ≡ spelled-lines text ss vs read-table
     unfolding spelled-lines
     lines-spelled =
         let e = tabled .width-is in
-        is-tabulate (λ (i : ℕ). spelled-line text ss vs i (getD (read-table .slots) i zero-values.zero-slot .count)) (read-table .width) (slot-bytes no-slot) (map slot-bytes (file .slots)) (length-map (file .slots) slot-bytes ∙ sym e)
+        is-tabulate (λ (i : ℕ). spelled-line text ss vs i (getD (read-table .slots) i zero-slot .count)) (read-table .width) (slot-bytes no-slot) (map slot-bytes (file .slots)) (length-map (file .slots) slot-bytes ∙ sym e)
         (λ i h. List·getD-map slot-bytes (file .slots) i no-slot ∙ line-spelled i (omega (arith, e)))
 
     -- THE LINES BY THE SPANS of the text are the print of its file.

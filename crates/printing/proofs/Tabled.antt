@@ -20,8 +20,7 @@ use Rattle.grammar.specs.Standing.{Named-by}
 use Rattle.table.specs.declared.Slot as tabled
 use Rattle.table.specs.declared.Table.{Table}
 use Rattle.table.specs.Limits.{slot-limit, value-limit, row}
-use Rattle.table.specs.Shape as zero-values
-use Rattle.table.specs.Shape.{zero-name}
+use Rattle.table.specs.Shape.{zero-name, zero-slot}
 use Rattle.table.specs.Empty.{unused-slot}
 use Rattle.steps.specs.Spans.{span, Span-lies}
 use Rattle.lines.specs.Index.{span-name, span-names, span-slot, Spanned, Indexed, name-for, slot-for}
@@ -83,10 +82,10 @@ module _ (text : List ℕ) (slots : List Slot) (t : Table) (T : Tabled text slot
   filed = getD slots i no-slot
 
   abbrev placed : tabled.Slot
-  placed = getD (t .slots) i zero-values.zero-slot
+  placed = getD (t .slots) i zero-slot
 
   pub slot-there : placed ≡ slot-for filed
-  slot-there = rw (T .slots-are) (image-at slot-limit unused-slot zero-values.zero-slot slot-for slots i no-slot h)
+  slot-there = rw (T .slots-are) (image-at slot-limit unused-slot zero-slot slot-for slots i no-slot h)
 
   stand : Named-by (Stands text) filed
   stand = each-at (Named-by (Stands text)) slots i no-slot (T .stand) h

@@ -6,7 +6,7 @@ use mathlib.Core.List.{List, [], _∷_}
 use lib.ListN.{length}
 use Rattle.laws.specs.Answers.{OrRefused, taken, refused, output-of}
 use Rattle.reader.specs.declared.Outcome.{Outcome}
-use Rattle.reader.specs.Tables as reader
+use Rattle.reader.specs.Tables.{reading-refusal, reading-second}
 use Rattle.printing.specs.Printing.{print-into, printing-of, printing-refusal, printing-second, printing-length}
 use Rattle.promises.specs.Refusals.{OneOf, Only, of-file, of-print}
 use Rattle.promises.specs.HouseStyle.{InStyle}
@@ -55,7 +55,7 @@ module _ (text out : List ℕ) where
       kept = ap (λ (u : OrRefused (List ℕ)). output-of u out) e;
       no-length = ap (λ (u : OrRefused (List ℕ)). printing-length (printing-of u)) e;
       listed = subst (OneOf of-print) (sym number) (in-list k s e);
-      own = λ m. let o = is-own text (length out) k s e (subst (OneOf of-file) number m) in (number ∙ sym (ap (λ (x : Outcome). reader.reading-refusal x) o), second ∙ sym (ap (λ (x : Outcome). reader.reading-second x) o));
+      own = λ m. let o = is-own text (length out) k s e (subst (OneOf of-file) number m) in (number ∙ sym (ap (λ (x : Outcome). reading-refusal x) o), second ∙ sym (ap (λ (x : Outcome). reading-second x) o));
       no-second = λ m. second ∙ print-second text (length out) k s e (subst (OneOf (34 ∷ 33 ∷ [])) number m);
       where-34 = λ z. is-34 text (length out) (in-full 34 (one-of (34 ∷ 33 ∷ []) 34 tt) (sym number ∙ z));
       where-33 = λ z. is-33 text (length out) (in-full 33 (one-of (34 ∷ 33 ∷ []) 33 tt) (sym number ∙ z));

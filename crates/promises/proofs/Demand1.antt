@@ -12,8 +12,7 @@ use Rattle.table.specs.declared.Name.{Name}
 use Rattle.table.specs.declared.Slot.{Slot}
 use Rattle.table.specs.Shape.{zero-slot, zero-name}
 use Rattle.table.specs.Link.{value-counts}
-use Rattle.names.specs.Names.{Showing, has-slot, has-value, show-name, show-slot, show-value-of, show-value}
-use Rattle.names.specs.Names as names
+use Rattle.names.specs.Names.{Showing, has-slot, has-value, show-name, show-slot, show-value-of, show-value, not-shown}
 use Rattle.soundness.specs.Sound.{sound}
 use Rattle.laws.specs.Answers.{OrRefused, taken, refused, output-of}
 use Rattle.cards.specs.Forms.{read-card, read-slip, write-card, write-slip}
@@ -35,7 +34,7 @@ sound-first ns t u m h = only-cond (OneOf ns) (sound t) u (refused 31 0) h m
 abbrev Shown : Showing → Type 0
 Shown s = OneOf (0 ∷ 31 ∷ []) (s .code)
 
-shown-if : (b : Bool) (s : Showing) → Shown s → Shown (cond b s names.not-shown)
+shown-if : (b : Bool) (s : Showing) → Shown s → Shown (cond b s not-shown)
 shown-if true s h = h
 shown-if false s h = one-of (0 ∷ 31 ∷ []) 31 tt
 

@@ -5,7 +5,7 @@ use mathlib.Core.List.{List}
 use lib.ListN.{length}
 use Rattle.model.specs.Orders.{changes}
 use Rattle.grammar.specs.Files.{File}
-use Rattle.reader.specs.Tables as reader
+use Rattle.reader.specs.Tables.{reading-refusal}
 use Rattle.rule_file.specs.Whole.{reading}
 use Rattle.results.specs.Record.{ones-in}
 use Rattle.tally.specs.declared.Tally.{Tally}
@@ -18,7 +18,7 @@ use Rattle.promises.specs.Agreement.{Agreed, Shows, LowestConflict}
 
 -- A file is accepted when its reading gives no refusal.
 abbrev pub IsAccepted : List ℕ → Type 0
-IsAccepted text = reader.reading-refusal (reading text .outcome) ≡ 0
+IsAccepted text = reading-refusal (reading text .outcome) ≡ 0
 
 -- What `respond` answers for a text's table, and what its outputs hold afterwards, by its contract.
 abbrev pub response-told : List ℕ → Tally → List ℕ → List ℕ → Outputs → Response

@@ -7,7 +7,7 @@ use Rattle.laws.specs.Answers.{written, output-of}
 use Rattle.grammar.specs.Limits.{max-text}
 use Rattle.grammar.specs.Reading.{parse}
 use Rattle.reader.specs.declared.Outcome.the-variants.{Accepted}
-use Rattle.reader.specs.Tables as reader
+use Rattle.reader.specs.Tables.{reading-refusal, reading-second}
 use Rattle.rule_file.specs.Whole.{reading}
 use Rattle.printing.specs.declared.Printing.{Printing}
 use Rattle.printing.specs.Printing.{print-of, print-into, printing-of, printing-refusal, printing-second, printing-length}
@@ -38,7 +38,7 @@ pub record PrintRefused (text out : List ℕ) : Type 0 where
   pub no-length : printing-length (print-told text out) ≡ 0
   pub listed : OneOf of-print (printing-refusal (print-told text out))
   pub own : OneOf of-file (printing-refusal (print-told text out))
-      → (printing-refusal (print-told text out) ≡ reader.reading-refusal (reading text .outcome)) × (printing-second (print-told text out) ≡ reader.reading-second (reading text .outcome))
+      → (printing-refusal (print-told text out) ≡ reading-refusal (reading text .outcome)) × (printing-second (print-told text out) ≡ reading-second (reading text .outcome))
   pub no-second : OneOf (34 ∷ 33 ∷ []) (printing-refusal (print-told text out)) → printing-second (print-told text out) ≡ 0
   pub where-34 : printing-refusal (print-told text out) ≡ 34 → (reading text .outcome ≡ Accepted) × (max-text < length (print-of (parse text)))
   pub where-33 : printing-refusal (print-told text out) ≡ 33 → (reading text .outcome ≡ Accepted) × (length (print-of (parse text)) ≤ max-text) × (length out < length (print-of (parse text)))
