@@ -6,17 +6,19 @@ use mathlib.Core.List.{List, [], _∷_, map}
 use Prim.Native.Nat.{ℕ, suc, _+_, _-_, _≤_, _<_}
 use native.Mathlib.Omega.{arith}
 use lib.Dec.{eqb, ltb}
-use lib.ListN.{length, replicate, length-map, List·getD-append, List·getD-map}
+use lib.ListN.{length, take, replicate, length-map, length-take, List·getD-append, List·getD-map}
 use lib.Seq.{ext-getD}
 use borrow.Author.Tests.{ltb-false, eqb-true}
 use Rattle.laws.specs.Filled.{filled}
 use Rattle.laws.specs.Packed.{byte-count, Bytes}
 use Rattle.model.specs.Rules.{Pair}
+use Rattle.table.specs.declared.Slot.{Slot}
 use Rattle.table.specs.declared.Table.{Table}
 use Rattle.table.specs.Limits.{slot-limit}
 use Rattle.table.specs.Shape.{Shaped}
 use Rattle.table.specs.Link.{value-counts}
 use Rattle.soundness.specs.Sound.{sound}
+use Rattle.soundness.proofs.Sound.{sound-width}
 use Rattle.cards.specs.declared.Card.{Card}
 use Rattle.cards.specs.declared.Slip.{Slip}
 use Rattle.laws.specs.Answers.{Verdict, passed, fault, OrRefused, taken, refused, after}
@@ -105,7 +107,15 @@ unpacked-sound-slip : (t : Table) (ys : List ℕ) (ps : List Pair) → unpacked-
 unfolding unpacked-slip
 unpacked-sound-slip t ys ps e = is-sound t _ ps e
 
-module _ (t : Table) (sh : Shaped t) where
+-- A sound table has at most 32 slots.
+few-slots : (t : Table) → sound t ≡ true → length (value-counts t) ≤ slot-limit
+unfolding value-counts
+few-slots t e =
+    let l = length-map (take (t .width) (t .slots)) (λ (s : Slot). s .count) in
+    let k = length-take (t .width) (t .slots) in
+    omega (arith, l, k, sound-width t e)
+
+module _ (t : Table) where
   -- An accepted card is packed back to the same bytes wherever there is room for them,
   pub unpack-pack-card : (ys vs : List ℕ) (room : ℕ) → Bytes ys → length ys ≤ room → unpacked-card t ys ≡ taken vs → packed-card t (card-of vs) room ≡ taken ys
   unfolding card-of
@@ -127,9 +137,10 @@ module _ (t : Table) (sh : Shaped t) where
       let q : slip-test (value-counts t) ps ≡ passed = rw (← a .same-form) (a .passes) in
       let p : slip-test (value-counts t) (changes-of (slip-of ps)) ≡ passed = rw (slip-of-changes ps) q in
       let k = slip-packs-back (value-counts t) ys ps b r in
-      let f : length ps ≤ 32 = omega (arith, slip-few (value-counts t) ps q, sound-slots t sh d .few) in
+      let f : length ps ≤ 32 = omega (arith, slip-few (value-counts t) ps q, few-slots t d) in
       slip-with-room t d (slip-of ps) room f p (omega (arith, h, slip-bytes-length ps, ap length k)) ∙ ap taken (ap slip-bytes (slip-of-changes ps) ∙ k)
 
+module _ (t : Table) (sh : Shaped t) where
   -- A card that is packed is unpacked to itself,
   pub pack-unpack-card : (c : Card) (room : ℕ) (ys : List ℕ) → packed-card t c room ≡ taken ys → unpacked-card t ys ≡ taken (card-values c)
   pack-unpack-card c room ys e =

@@ -24,6 +24,7 @@ use Rattle.style.proofs.Prints.{agree-counts}
 use Rattle.rule_file.specs.Whole.{reading}
 use Rattle.rule_file.specs.Carries.{declared, declared-slot, declared-value, Carries}
 use Rattle.grammar.proofs.Declared.{Declared-file, file-declared}
+use Rattle.promises.proofs.Shown.{slot-told, value-told}
 use Rattle.promises.specs.HouseStyle.{Alike}
 use Rattle.promises.proofs.Bounds.{few-values}
 
@@ -67,19 +68,6 @@ module _ (ss ss′ : List Slot) (e : map lettered ss ≡ map lettered ss′) whe
 
       by-letters : (ns : List Name) → unplaced (cond (has-value (length ns) v) (declared (getD ns (v - 1) (no-slot .name))) not-shown) ≡ shown (spellings ns)
       by-letters ns = unplaced-if (has-value (length ns) v) _ ∙ ap₂ (λ (n : ℕ) (l : List ℕ). cond (has-value n v) (lettering l) not-shown) (sym (spellings-length ns)) (sym (letters-at ns (v - 1)))
-
--- What a slot that is there is shown as,
-slot-told : (ss : List Slot) (s : ℕ) → length ss ≤ slot-limit → s < length ss → declared-slot ss s ≡ declared (getD ss s no-slot .name)
-unfolding has-slot _∧ᵇ_
-slot-told ss s few h = rw (lt-ltb s slot-limit (omega arith), lt-ltb s (length ss) h)
-
--- and a value that is there.
-value-told : (ss : List Slot) (s i : ℕ) → length ss ≤ slot-limit → s < length ss → length (values-of ss s) ≤ value-limit → i < length (values-of ss s)
-    → declared-value ss s (suc i) ≡ declared (getD (values-of ss s) i (no-slot .name))
-unfolding has-slot has-value _∧ᵇ_
-value-told ss s i few h most l =
-    let z : suc i - 1 ≡ i = omega arith in
-    rw (lt-ltb s slot-limit (omega arith), lt-ltb s (length ss) h, le-leb 1 (suc i) (omega arith), le-leb (suc i) value-limit (omega arith), le-leb (suc i) (length (values-of ss s)) (omega arith), z)
 
 -- The strata that a table carries are the least, rule by rule.
 strata-at : (text : List ℕ) (t : Table) (c : Carries text t) (i : ℕ) → i < length (c .file .rules) → getD (carried-strata t) i 0 ≡ strata-of weak (c .file .rules) (suc i)

@@ -17,8 +17,7 @@ use Rattle.response.specs.Ending.{Answer}
 use Rattle.response.specs.Respond.{answer-by-table, answer-to, counted, tally-after, response-to}
 use Rattle.tally.specs.Counting.{is-full}
 use Rattle.promises.specs.Day.{Call, fresh, answer-at, next-tally, tally-over, answers-over, answered-in, refused-in, answer-after}
-use Rattle.promises.specs.Refusals.{Only}
-use Rattle.promises.proofs.Refusals.{Other, by-table-other}
+use Rattle.promises.proofs.Refusals.{Only, Other, by-table-other}
 
 -- What comes of a call whose tally is full or not, and the tally after it.
 abbrev at-tally : Bool → OrRefused Answer → OrRefused Answer

@@ -1,81 +1,149 @@
--- Demand 1: every result or one refusal from the list, and what a refusal keeps.
+-- Demand 1: every result or one refusal, with its second number and its reason, and what a refusal keeps.
 -- Assumes nothing.
 use Prim.Native.Nat.{ℕ, _+_, _-_}
-use mathlib.Core.Path.{_≡_, refl, sym, _∙_, ap}
+use native.Mathlib.Omega.{arith}
+use mathlib.Core.Path.{_≡_, refl, sym, ap, subst, _∙_}
 use mathlib.Core.Bool.{Bool, true, false, cond}
-use mathlib.Core.List.{List, [], _∷_}
-use lib.Dec.{leb}
+use mathlib.Core.List.{List}
+use mathlib.Core.Logic.{_⊎_, inl, inr, ⊎-elim}
+use lib.Dec.{T, leb}
 use lib.ListN.{length, getD, take, drop}
-use Rattle.laws.proofs.Equations.{is-true, from-true}
-use Rattle.table.specs.declared.Table.{Table}
+use Rattle.laws.specs.Answers.{OrRefused, taken, refused, written, output-of}
+use Rattle.laws.proofs.Equations.{from-true}
+use Rattle.model.specs.Rules.{Pair}
 use Rattle.table.specs.declared.Name.{Name}
 use Rattle.table.specs.declared.Slot.{Slot}
+use Rattle.table.specs.declared.Table.{Table}
+use Rattle.table.specs.Empty.{empty-table}
 use Rattle.table.specs.Shape.{zero-slot, zero-name}
-use Rattle.table.specs.Link.{value-counts}
-use Rattle.names.specs.Names.{Showing, has-slot, has-value, show-name, show-slot, show-value-of, show-value, not-shown}
+use Rattle.table.specs.Link.{rules-of, value-counts}
+use Rattle.grammar.specs.Files.{File}
+use Rattle.grammar.specs.Meaning.{Is-file}
+use Rattle.grammar.specs.Reading.{parse}
+use Rattle.names.specs.Names.{Showing, not-shown, has-slot, has-value, show-name, show-slot, show-value-of, show-value}
 use Rattle.soundness.specs.Sound.{sound}
-use Rattle.laws.specs.Answers.{OrRefused, taken, refused, output-of}
-use Rattle.cards.specs.Forms.{read-card, read-slip, write-card, write-slip}
-use Rattle.cards.specs.Cards.{card-values, changes-of, if-sound, unpacked-card, unpacked-slip, packed-card, packed-slip}
+use Rattle.reader.specs.declared.Outcome.{Outcome}
+use Rattle.reader.specs.declared.FileRead.{FileRead}
+use Rattle.reader.specs.Tables.{reading-refusal, reading-second}
+use Rattle.rule_file.specs.Whole.{reading}
+use Rattle.rule_file.proofs.Answers.{reading-accepted-iff}
+use Rattle.printing.specs.Printing.{print-of, print-into, printing-of, printing-refusal, printing-second, printing-length}
+use Rattle.cards.specs.declared.Card.{Card}
+use Rattle.cards.specs.declared.Slip.{Slip}
+use Rattle.cards.specs.Forms.{values-in, changes-in, card-bytes, slip-bytes, read-card, read-slip, write-card, write-slip}
+use Rattle.cards.specs.Cards.{card-values, changes-of, card-of, slip-of, no-card, no-slip, if-sound, unpacked-card, unpacked-slip, packed-card, packed-slip, card-read, slip-read, packing-of, unpacking-refusal, unpacking-second, packing-refusal, packing-second, packing-length}
 use Rattle.tally.specs.declared.Tally.{Tally}
-use Rattle.tally.specs.Counting.{is-full, one-refused}
-use Rattle.response.specs.Respond.{Rooms, answer-to, counted, tally-after, response-to, outputs-after}
-use Rattle.promises.specs.Refusals.{OneOf, Only, of-card, of-slip, of-card-packed, of-slip-packed, Demand1}
-use Rattle.promises.proofs.Refusals.{one-of, one-of-more, only-more, only-cond, card-refused, slip-refused, card-write-refused, slip-write-refused, response-refused}
-use Rattle.promises.proofs.Outcomes.{text-comes, print-refused, print-second}
-use Rattle.promises.proofs.Engines.{only-full, always-full}
+use Rattle.tally.specs.Counting.{is-full, one-answered, one-refused}
+use Rattle.response.specs.Ending.{Answer}
+use Rattle.response.specs.Respond.{Rooms, Outputs, rooms-of, response-refusal, response-second, outcome-of, answer-by-table, answer-to, counted, tally-after, response-to, outputs-after}
+use Rattle.promises.specs.Returned.{print-told, print-left, response-told, response-left, Answers}
+use Rattle.promises.specs.Reasons.{FileReason, PrintReason, own, print-over, print-room, ValuesRight, CardReason, CardRight, PackedCardReason, ChangesRight, SlipReason, SlipRight, PackedSlipReason, TableReason, ResponseReason, full-tally, of-table}
+use Rattle.promises.specs.Refusals.{Comes, Passes, TallyRefused, Demand1}
+use Rattle.promises.proofs.Refusals.{Only, Other, only-e, by-table-other}
+use Rattle.promises.proofs.Judged.{Judged, card-judged, slip-judged, packed-card-judged, packed-slip-judged}
+use Rattle.promises.proofs.ResponseReasons.{AnyAnswer, sound-judged, table-judged}
+use Rattle.promises.proofs.Returned.{answers}
+use Rattle.promises.proofs.Outcomes.{text-comes, file-reason, Prints, own-refusal, over, short, all, prints}
 
--- 31 before other refusals.
-sound-first : {A : Type 0} (ns : List ℕ) (t : Table) (u : OrRefused A) → OneOf ns 31 → Only (OneOf ns) u → Only (OneOf ns) (if-sound t u)
-unfolding if-sound
-sound-first ns t u m h = only-cond (OneOf ns) (sound t) u (refused 31 0) h m
+-- A rule file.
+file-back : (text : List ℕ) → Comes (FileReason text) (reading-refusal (reading text .outcome)) (reading-second (reading text .outcome)) ((f : File) × Is-file text f) (reading text .table ≡ empty-table)
+file-back text =
+    ⊎-elim (λ o. let w = reading-accepted-iff text .1 o in inl (ap reading-refusal o, ap reading-second o, (w .0, w .1)))
+    (λ w. let o = ap (λ (r : FileRead). r .outcome) (w .3) in
+    inr (subst (λ (x : Outcome). FileReason text (reading-refusal x) (reading-second x)) (sym o) (file-reason text (w .0) (w .1) o), ap (λ (r : FileRead). r .table) (w .3))) (text-comes text)
 
--- A name shown has 0 or 31.
-abbrev Shown : Showing → Type 0
-Shown s = OneOf (0 ∷ 31 ∷ []) (s .code)
+-- A print.
+print-back : (text out : List ℕ) (u : OrRefused (List ℕ)) → Prints text (length out) u → Comes (PrintReason text (length out)) (printing-refusal (printing-of u)) (printing-second (printing-of u))
+    ((printing-length (printing-of u) ≡ length (print-of (parse text))) × (output-of u out ≡ written (print-of (parse text)) out)) ((printing-length (printing-of u) ≡ 0) × (output-of u out ≡ out))
+unfolding printing-of output-of
+print-back text out u (own-refusal {k = k} {n = n} h o) = inr (own (file-reason text k n o), (refl, refl))
+print-back text out u (over o l) = inr (print-over (ap reading-refusal o) l, (refl, refl))
+print-back text out u (short o l s) = inr (print-room (ap reading-refusal o) l s, (refl, refl))
+print-back text out u (all o l s) = inl (refl, refl, (refl, refl))
 
-shown-if : (b : Bool) (s : Showing) → Shown s → Shown (cond b s not-shown)
+-- Bytes unpacked, and forms packed.
+card-back : (R : ℕ → ℕ → Type 0) (P : Type 0) (vs : List ℕ) (u : OrRefused (List ℕ)) → Judged R (λ ws. P × (ws ≡ vs)) u → Comes R (unpacking-refusal (card-read u .outcome)) (unpacking-second (card-read u .outcome)) (P × (card-read u .card ≡ card-of vs)) (card-read u .card ≡ no-card)
+unfolding card-read
+card-back R P vs (taken ws) j = inl (refl, refl, (j .0, ap card-of (j .1)))
+card-back R P vs (refused k s) j = inr (j, refl)
+
+slip-back : (R : ℕ → ℕ → Type 0) (P : Type 0) (ps : List Pair) (u : OrRefused (List Pair)) → Judged R (λ qs. P × (qs ≡ ps)) u → Comes R (unpacking-refusal (slip-read u .outcome)) (unpacking-second (slip-read u .outcome)) (P × (slip-read u .slip ≡ slip-of ps)) (slip-read u .slip ≡ no-slip)
+unfolding slip-read
+slip-back R P ps (taken qs) j = inl (refl, refl, (j .0, ap slip-of (j .1)))
+slip-back R P ps (refused k s) j = inr (j, refl)
+
+packed-back : (R : ℕ → ℕ → Type 0) (P : Type 0) (bytes out : List ℕ) (u : OrRefused (List ℕ)) → Judged R (λ ys. P × (ys ≡ bytes)) u → Comes R (packing-refusal (packing-of u)) (packing-second (packing-of u))
+    (P × (packing-length (packing-of u) ≡ length bytes) × (output-of u out ≡ written bytes out)) ((packing-length (packing-of u) ≡ 0) × (output-of u out ≡ out))
+unfolding packing-of output-of
+packed-back R P bytes out (taken ys) j = inl (refl, refl, (j .0, ap length (j .1), ap (λ (zs : List ℕ). written zs out) (j .1)))
+packed-back R P bytes out (refused k s) j = inr (j, (refl, refl))
+
+-- What is taken by a table in order is as P says, and a refusal has the reason that R says, or 31.
+by-table : {A : Type 0} (t : Table) (R : ℕ → ℕ → Type 0) (P : Type 0) (u : OrRefused A) (a : A) → Judged R (λ b. (b ≡ a) × P) u → Judged (TableReason t R) (λ b. Passes t P × (b ≡ a)) (if-sound t u)
+by-table {A} t R P u a j = sound-judged t R (λ b. Passes t P × (b ≡ a)) u (λ p. also p u j)
+  where
+    also : T (sound t) → (w : OrRefused A) → Judged R (λ b. (b ≡ a) × P) w → Judged R (λ b. Passes t P × (b ≡ a)) w
+    also p (taken b) h = (record { passes = p; right = h .1 }, h .0)
+    also p (refused k s) h = h
+
+-- A response.
+module _ (t : Table) (y : Tally) (card slip : List ℕ) (o : Outputs) where
+  abbrev rooms : Rooms
+  rooms = rooms-of (o .card) (o .changes) (o .fired)
+
+  -- What is told, counted and left of what a response comes to.
+  abbrev Back : OrRefused Answer → Type 0
+  Back u =
+      Comes (ResponseReason t y card slip rooms) (response-refusal (outcome-of u)) (response-second (outcome-of u)) ((a : Answer) × Answers t y card slip o a × (tally-after y u ≡ one-answered y))
+      ((outputs-after u o ≡ o) × TallyRefused (response-refusal (outcome-of u)) y (tally-after y u))
+
+  full : is-full y ≡ true → Back (refused 32 0)
+  unfolding outcome-of outputs-after tally-after
+  full e = inr (full-tally (from-true (is-full y) e), (refl, record { counted = λ n. absurd (n refl); not-counted = λ z. rw e refl }))
+
+  not-full : is-full y ≡ false → (u : OrRefused Answer) → answer-by-table t card slip rooms ≡ u → answer-to t y card slip rooms ≡ u → Back u
+  unfolding outcome-of outputs-after tally-after counted
+  not-full e (taken a) b c = inl (refl, refl, (a, answers t y card slip o a c, rw e refl))
+  not-full e (refused k s) b c =
+      inr (of-table e (subst (Judged (TableReason t _) AnyAnswer) b (table-judged t card slip rooms)), (refl, record { counted = λ n. rw e refl; not-counted = λ z. absurd (only-e (Other 32) _ k s (by-table-other t card slip rooms) b z) }))
+
+  response-back : Back (answer-to t y card slip rooms)
+  unfolding answer-to
+  response-back = go (is-full y) refl
+    where
+      go : (b : Bool) → is-full y ≡ b → Back (cond b (refused 32 0) (answer-by-table t card slip rooms))
+      go true e = full e
+      go false e = not-full e (answer-by-table t card slip rooms) refl (rw e refl)
+
+-- A name shown is 0 or 31.
+abbrev ZeroOr31 : Showing → Type 0
+ZeroOr31 s = (s .code ≡ 0) ⊎ (s ≡ not-shown)
+
+shown-if : (b : Bool) (s : Showing) → ZeroOr31 s → ZeroOr31 (cond b s not-shown)
 shown-if true s h = h
-shown-if false s h = one-of (0 ∷ 31 ∷ []) 31 tt
+shown-if false s h = inr refl
 
-name-shown : (text : List ℕ) (n : Name) → Shown (show-name text n)
+name-shown : (text : List ℕ) (n : Name) → ZeroOr31 (show-name text n)
 unfolding show-name
-name-shown text n = shown-if (leb (n .start + n .size) (length text)) (record { code = 0; part = take (n .size) (drop (n .start) text) }) (one-of (0 ∷ 31 ∷ []) 0 tt)
+name-shown text n = shown-if (leb (n .start + n .size) (length text)) (record { code = 0; start = n .start; part = take (n .size) (drop (n .start) text) }) (inl refl)
 
-value-of-shown : (text : List ℕ) (s : Slot) (value : ℕ) → Shown (show-value-of text s value)
+value-of-shown : (text : List ℕ) (s : Slot) (value : ℕ) → ZeroOr31 (show-value-of text s value)
 unfolding show-value-of
 value-of-shown text s value = shown-if (has-value (s .count) value) (show-name text (getD (s .values) (value - 1) zero-name)) (name-shown text _)
 
--- The tally after a refusal.
-counts : (t : Table) (y : Tally) (card slip : List ℕ) (rooms : Rooms) (k s : ℕ) → answer-to t y card slip rooms ≡ refused k s → ¬ (k ≡ 32) → response-to t y card slip rooms .tally ≡ one-refused y
-unfolding response-to tally-after counted
-counts t y card slip rooms k s e n = go (is-full y) refl
-  where
-    number : {A : Type 0} → OrRefused A → ℕ
-    number (taken a) = 0
-    number (refused k s) = k
-
-    go : (b : Bool) → is-full y ≡ b → cond b y (counted y (answer-to t y card slip rooms)) ≡ one-refused y
-    go true f = absurd (n (sym (ap number (sym (always-full t y card slip rooms (from-true (is-full y) f)) ∙ e))))
-    go false f = rw e refl
-
+-- DEMAND 1.
 pub demand-1 : Demand1
-unfolding unpacked-card unpacked-slip packed-card packed-slip output-of outputs-after response-to tally-after show-slot show-value
+unfolding unpacked-card unpacked-slip packed-card packed-slip response-to show-slot show-value
 demand-1 = record {
-  rule-file = text-comes;
-  file-printed = print-refused;
-  no-second = print-second;
-  card-unpacked = λ t ys. sound-first (31 ∷ of-card) t (read-card (value-counts t) ys) (one-of (31 ∷ of-card) 31 tt)
-      (only-more (OneOf of-card) (OneOf (31 ∷ of-card)) (one-of-more of-card (31 ∷ of-card) tt) (read-card (value-counts t) ys) (card-refused (value-counts t) ys));
-  slip-unpacked = λ t ys. sound-first (31 ∷ of-slip) t (read-slip (value-counts t) ys) (one-of (31 ∷ of-slip) 31 tt)
-      (only-more (OneOf of-slip) (OneOf (31 ∷ of-slip)) (one-of-more of-slip (31 ∷ of-slip) tt) (read-slip (value-counts t) ys) (slip-refused (value-counts t) ys));
-  card-packed = λ t c room. sound-first of-card-packed t (write-card (value-counts t) (card-values c) room) (one-of of-card-packed 31 tt) (card-write-refused (value-counts t) (card-values c) room);
-  slip-packed = λ t c room. sound-first of-slip-packed t (write-slip (value-counts t) (changes-of c) room) (one-of of-slip-packed 31 tt) (slip-write-refused (value-counts t) (changes-of c) room);
-  output-kept = λ u k s out e. ap (λ (w : OrRefused (List ℕ)). output-of w out) e;
-  responded = response-refused;
-  outputs-kept = λ t y card slip rooms k s o e. ap (λ w. outputs-after w o) e;
-  counted = counts;
-  not-counted = λ t y card slip rooms s e. rw (is-true (is-full y) (only-full t y card slip rooms s e)) refl;
+  rule-file = file-back;
+  file-printed = λ text out. print-back text out (print-into text (length out)) (prints text (length out));
+  card-unpacked = λ t ys. card-back _ (Passes t (CardRight (value-counts t) ys)) (values-in ys) (unpacked-card t ys) (by-table t (CardReason (value-counts t) ys) _ (read-card (value-counts t) ys) _ (card-judged (value-counts t) ys));
+  slip-unpacked = λ t ys. slip-back _ (Passes t (SlipRight (value-counts t) ys)) (changes-in ys) (unpacked-slip t ys) (by-table t (SlipReason (value-counts t) ys) _ (read-slip (value-counts t) ys) _ (slip-judged (value-counts t) ys));
+  card-packed = λ t c out. packed-back _ (Passes t (ValuesRight (value-counts t) (card-values c))) (card-bytes (card-values c)) out (packed-card t c (length out))
+      (by-table t (PackedCardReason (value-counts t) (card-values c) (length out)) _ (write-card (value-counts t) (card-values c) (length out)) _ (packed-card-judged (value-counts t) (card-values c) (length out)));
+  slip-packed = λ t c out. packed-back _ (Passes t (ChangesRight (value-counts t) (changes-of c))) (slip-bytes (changes-of c)) out (packed-slip t c (length out))
+      (by-table t (PackedSlipReason (value-counts t) (changes-of c) (length out)) _ (write-slip (value-counts t) (changes-of c) (length out)) _ (packed-slip-judged (value-counts t) (changes-of c) (length out)));
+  responded = response-back;
   slot-shown = λ text t slot. shown-if (has-slot (t .width) slot) (show-name text (getD (t .slots) slot zero-slot .name)) (name-shown text _);
   value-shown = λ text t slot value. shown-if (has-slot (t .width) slot) (show-value-of text (getD (t .slots) slot zero-slot) value) (value-of-shown text _ value);
 }

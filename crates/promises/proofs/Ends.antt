@@ -6,7 +6,7 @@ use native.Mathlib.Nat.{le-antisymm}
 use mathlib.Core.Path.{_≡_, refl, sym, ap, subst, _∙_}
 use mathlib.Core.Bool.{Bool, true, false, cond}
 use mathlib.Core.List.{List}
-use lib.Dec.{ltb}
+use lib.Dec.{T, ltb}
 use lib.ListN.{length}
 use borrow.Author.Tests.{ltb-true, ltb-false}
 use Rattle.laws.specs.Packed.{byte-count}
@@ -14,8 +14,8 @@ use Rattle.laws.proofs.Equations.{is-true}
 use Rattle.model.specs.Rules.{Pair, Pairs}
 use Rattle.model.specs.Strata.{weak}
 use Rattle.model.specs.Circles.{circle-of}
-use Rattle.model.specs.Result.{conflict-slot}
-use Rattle.model.proofs.Results.{conflict-slot-top}
+use Rattle.model.specs.Result.{pair, conflict-slot}
+use Rattle.model.proofs.Results.{conflict-e, conflict-i, conflict-slot-right, conflict-slot-lowest, conflict-slot-top}
 use Rattle.table.specs.Limits.{row}
 use Rattle.table.specs.Link.{rules-of, value-counts}
 use Rattle.soundness.specs.Sound.{sound}
@@ -32,9 +32,8 @@ use Rattle.tally.specs.declared.Tally.{Tally}
 use Rattle.response.specs.Ending.{Answer, answer-of, unless-conflict, answer-by-firing}
 use Rattle.response.specs.Respond.{_and-then_, Rooms, changes-room, if-room, answer-by-rules, answer-by-table, answer-to}
 use Rattle.tally.specs.Counting.{is-full}
-use Rattle.promises.specs.Agreement.{responds}
-use Rattle.promises.specs.Refusals.{Only, OneOf, of-card, of-slip}
-use Rattle.promises.proofs.Refusals.{Other, only-more, one-of-other, card-refused, slip-refused}
+use Rattle.promises.specs.Agreement.{responds, InConflict, LowestConflict}
+use Rattle.promises.proofs.Refusals.{Only, OneOf, of-card, of-slip, Other, only-more, one-of-other, card-refused, slip-refused}
 
 -- An accepted text responds by its file's slots and rules.
 pub file-response : (text : List ℕ) (f : File) → Is-file text f → reading text .outcome ≡ Accepted → (y : Tally) (card slip : List ℕ) (rooms : Rooms)
@@ -119,3 +118,11 @@ unless-conflict-40 width count S C ns s e = go (ltb (conflict-slot width row C) 
         → (conflict-slot width row C < width) × (conflict-slot width row C ≡ s)
     go true q z = (ltb-true (conflict-slot width row C) width q, let x : conflict-slot width row C ≡ s = cc in x)
     go false q z = absurd (let z : _≡_ {A = ℕ} 0 1 = cc in omega arith)
+
+-- Where every value in C is one of an array's row, this is the lowest slot to which C gives two.
+pub lowest-of : (C : Pairs) (width : ℕ) → ((p : Pair) → T (C p) → p .value < row) → conflict-slot width row C < width → LowestConflict C (conflict-slot width row C)
+unfolding InConflict
+lowest-of C width small l = record {
+  conflict = (let w = conflict-e row C (conflict-slot width row C) (conflict-slot-right row C width l) in (w .0, w .1, w .2, w .4, w .5));
+  lowest = λ r h w. conflict-slot-lowest row C width r h (conflict-i row C r (w .0) (w .1) (w .2) (small (pair r (w .1)) (w .4)) (w .3) (w .4));
+}

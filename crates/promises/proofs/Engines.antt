@@ -28,8 +28,7 @@ use Rattle.tally.specs.Counting.{is-full}
 use Rattle.promises.specs.Day.{Call, fresh, tally-over, answers-over, answer-after}
 use Rattle.promises.specs.Listing.{program-rooms}
 use Rattle.promises.proofs.Cases.{lists, text-C, all-0, x-to-1, case-C-bytes}
-use Rattle.promises.specs.Refusals.{OneOf, Only, of-rules}
-use Rattle.promises.proofs.Refusals.{Other, only-e, only-more, only-cond, one-of-other, rules-refused, by-table-other}
+use Rattle.promises.proofs.Refusals.{OneOf, Only, of-rules, Other, only-e, only-more, only-cond, one-of-other, rules-refused, by-table-other}
 
 -- The call of case C.
 unfoldable pub call-C : Call

@@ -7,10 +7,10 @@ use mathlib.Core.Bool.{Bool, false}
 use mathlib.Core.List.{List}
 use mathlib.Core.Logic.{⊎-elim}
 use lib.Dec.{T}
-use lib.ListN.{getD, List·getD-eq-default}
+use lib.ListN.{length, getD, List·getD-eq-default}
 use Rattle.laws.specs.Numbers.{Numbered, how-many}
 use Rattle.laws.specs.Tabulated.{tabulate}
-use Rattle.laws.specs.Packed.{pack}
+use Rattle.laws.specs.Packed.{byte-count, byte-at, pack}
 use Rattle.laws.proofs.Truth.{le-or-lt}
 use Rattle.laws.proofs.Numbers.{is-false}
 use Rattle.laws.proofs.Tabulated.{tabulate-length, tabulate-at, is-tabulate}
@@ -33,6 +33,11 @@ record-bit count ns only (suc i) =
     beyond l =
         List·getD-eq-default (tabulate (λ j. names ns (suc j)) count) false {n = i} (rw tabulate-length l)
         ∙ sym (is-false (names ns (suc i)) (λ t. omega (arith, only (suc i) t .last)))
+
+-- The record has one bit for each rule, padded to bytes.
+pub record-length : (count : ℕ) (ns : List ℕ) → length (fired-record count ns) ≡ byte-count count
+unfolding fired-record pack
+record-length count ns = tabulate-length (byte-at (tabulate (λ i. names ns (suc i)) count)) _ ∙ ap byte-count (tabulate-length (λ i. names ns (suc i)) count)
 
 -- How many rules fired is how many are named.
 pub record-ones : (count : ℕ) (ns : List ℕ) → ones-in (fired-record count ns) ≡ how-many (names ns) count

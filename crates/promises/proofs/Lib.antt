@@ -1,6 +1,7 @@
 pub mod Cases
 pub mod CasePrints
 pub mod Refusals
+pub mod Judged
 pub mod Outcomes
 pub mod Engines
 pub mod Day
@@ -10,10 +11,13 @@ pub mod Bounds
 pub mod Orders
 pub mod Rearranged
 pub mod Demand3
+pub mod ResponseReasons
+pub mod Returned
 pub mod Demand1
 pub mod Called
 pub mod Demand2
 pub mod WeakStrata
+pub mod Shown
 pub mod Alike
 pub mod HouseStyle
 pub mod CalledPrint

@@ -19,7 +19,7 @@ use Rattle.model.specs.Result.{pair, conflict-slot, new-card, changes-slip, Bou
 use Rattle.model.proofs.Orders.{whole-e, rules-of}
 use Rattle.model.proofs.Lengths.{order-length}
 use Rattle.model.proofs.Demand3.{response-is-whole, demand-3}
-use Rattle.model.proofs.Results.{conflict-e, conflict-i, conflict-slot-right, conflict-slot-lowest, slip-length, no-conflict-e, slip-exact, new-card-length, new-card-at, new-value-kept, new-value-is}
+use Rattle.model.proofs.Results.{slip-length, no-conflict-e, slip-exact, new-card-length, new-card-at, new-value-kept, new-value-is}
 use Rattle.table.specs.Limits.{row}
 use Rattle.grammar.specs.Files.{File, slot-counts}
 use Rattle.grammar.proofs.Declared.{Declared-file}
@@ -31,7 +31,8 @@ use Rattle.cards.proofs.RoundTrip.{card-reads-back, slip-reads-back}
 use Rattle.results.specs.Record.{ones-in}
 use Rattle.response.specs.Ending.{fired-record, answer-of}
 use Rattle.promises.specs.Agreement.{InConflict, LowestConflict, Shows, Agreed}
-use Rattle.promises.proofs.FiredBits.{record-bit, record-ones}
+use Rattle.promises.proofs.Ends.{lowest-of}
+use Rattle.promises.proofs.FiredBits.{record-bit, record-length, record-ones}
 use Rattle.promises.proofs.Bounds.{file-slots, changes-has, changes-bounded, changes-pass, new-card-passes}
 
 module _ (f : File) (declared : Declared-file f) (no-circle : circle-of weak (f .rules) ≡ 0) (S : List ℕ) (I : List Pair)
@@ -110,6 +111,7 @@ module _ (f : File) (declared : Declared-file f) (no-circle : circle-of weak (f 
           changes-are = slip-unpacks;
           same-changes = λ p. ap (λ (D : Pairs). D p) (e ∙ sym (slip-exact row C width bounded none));
           same-fired = λ m. ap (λ (h : ℕ → Bool). h m) g ∙ record-bit (length (f .rules)) ours (rules-of (f .rules) S I ours (whole-e (f .rules) S I ours (response-is-whole weak (f .rules) S I no-circle))) m;
+          fired-length = record-length (length (f .rules)) ours;
           how-many-fired = (n, n ∙ order-length (f .rules) S I ns (whole-e (f .rules) S I ns A .order));
           no-conflict = λ s w. omega (arith, w .2, no-conflict-e row C width bounded none s (w .0) (w .1) (subst (λ (D : Pairs). T (D (pair s (w .0)))) e (w .3)) (subst (λ (D : Pairs). T (D (pair s (w .1)))) e (w .4)));
           values = new-card width row C S;
@@ -120,8 +122,4 @@ module _ (f : File) (declared : Declared-file f) (no-circle : circle-of weak (f 
 
   -- Where a slot is in conflict, the lowest is that of every such order.
   pub lowest-conflict : conflict-slot width row C < width → (ns : List ℕ) → T (whole-order (f .rules) S I ns) → LowestConflict (changes (f .rules) I ns) (conflict-slot width row C)
-  unfolding InConflict
-  lowest-conflict l ns A = subst (λ (D : Pairs). LowestConflict D (conflict-slot width row C)) (sym (same-C ns A)) (record {
-    conflict = (let w = conflict-e row C (conflict-slot width row C) (conflict-slot-right row C width l) in (w .0, w .1, w .2, w .4, w .5));
-    lowest = λ r h w. conflict-slot-lowest row C width r h (conflict-i row C r (w .0) (w .1) (w .2) (bounded .value-below (pair r (w .1)) (w .4)) (w .3) (w .4));
-  })
+  lowest-conflict l ns A = subst (λ (D : Pairs). LowestConflict D (conflict-slot width row C)) (sym (same-C ns A)) (lowest-of C width (bounded .value-below) l)

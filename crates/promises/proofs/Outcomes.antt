@@ -3,7 +3,7 @@
 use Prim.Native.Nat.{ℕ, _≤_, _<_}
 use native.Mathlib.Omega.{arith}
 use native.Mathlib.Nat.{eq-or-lt-of-le}
-use mathlib.Core.Path.{_≡_, refl, sym, ap, ap₂, _∙_}
+use mathlib.Core.Path.{_≡_, refl, sym, ap, ap₂, subst, _∙_}
 use mathlib.Core.Bool.{Bool, true, false, cond}
 use mathlib.Core.List.{List, [], _∷_}
 use mathlib.Core.Logic.{_⊎_, inl, inr, ⊎-elim}
@@ -26,10 +26,11 @@ use Rattle.reader.specs.Tables.{table-for}
 use Rattle.reader.specs.declared.Outcome.the-variants.{Accepted, Refused}
 use Rattle.reader.specs.declared.FileRead.{FileRead}
 use Rattle.rule_file.specs.Whole.{layered, answered-whole, reading}
+use Rattle.rule_file.proofs.Answers.{reading-18-iff}
 use Rattle.printing.specs.Printing.{print-of, print-into}
 use Rattle.printing.proofs.Fitting.{fitted-34, fitted-33, fitted-all, refused-first, then-fitted}
-use Rattle.promises.specs.Refusals.{OneOf, Only, of-file, of-print}
-use Rattle.promises.proofs.Refusals.{one-of, one-of-more, one-of-other}
+use Rattle.promises.specs.Reasons.{FileReason, over-long, at-token, no-strata}
+use Rattle.promises.proofs.Refusals.{OneOf, Only, of-file, of-print, one-of, one-of-more, one-of-other}
 
 -- 14 to 17 are refusals of a rule file.
 in-file : (k : ℕ) → 14 ≤ k → k ≤ 17 → OneOf of-file k
@@ -63,13 +64,35 @@ text-comes text = go (parse text) refl
     go (accepted f) e = file-comes f
     go (grammar.refused k n) e = inr (k, n, ⊎-elim (λ h. rw (h .0) (one-of of-file 10 tt)) (λ h. fault-number k (h .1 .before) (h .1 .after) (h .1 .fault)) (refusal-stands text k n e), refl)
 
+-- A refusal has its reason.
+pub file-reason : (text : List ℕ) (k n : ℕ) → reading text .outcome ≡ Refused k n → FileReason text k n
+unfolding reading answered-whole layered
+file-reason text k n o = go (parse text) refl o
+  where
+    go : (a : Parsed) → parse text ≡ a → answered-whole a .outcome ≡ Refused k n → FileReason text k n
+    go (accepted f) e q = by-circle (eqb (circle-of weak (f .rules)) 0) q
+      where
+        by-circle : (b : Bool) → cond {A = FileRead} b (record { outcome = Accepted; table = with-strata (table-for f) }) (record { outcome = Refused 18 (circle-of weak (f .rules)); table = empty-table }) .outcome ≡ Refused k n → FileReason text k n
+        by-circle true q = absurd (let z : _≡_ {A = ℕ} 0 1 = cc in omega arith)
+        by-circle false q =
+            let z : 18 ≡ k = cc in
+            let w = reading-18-iff text n .0 (o ∙ ap (λ (j : ℕ). Refused j n) (sym z)) in
+            subst (λ (j : ℕ). FileReason text j n) z (no-strata (w .1) (w .2))
+    go (grammar.refused j m) e q =
+        let y : j ≡ k = cc in
+        let z : m ≡ n = cc in
+        subst (λ (i : ℕ). FileReason text i n) y (subst (λ (i : ℕ). FileReason text j i) z (at text j m e))
+      where
+        at : (text : List ℕ) (j m : ℕ) → parse text ≡ grammar.refused j m → FileReason text j m
+        at text j m e = ⊎-elim (λ h. rw (h .0, h .1) (over-long (h .2))) (λ h. at-token (h .0) (h .1)) (refusal-stands text j m e)
+
 module _ (text : List ℕ) (room : ℕ) where
   -- The print of the text, whatever its length.
   abbrev whole : List ℕ
   whole = print-of (parse text)
 
   -- What a print can come to, and where.
-  data Prints : OrRefused (List ℕ) → Type 0 where
+  pub data Prints : OrRefused (List ℕ) → Type 0 where
     own-refusal : {k n : ℕ} → OneOf of-file k → reading text .outcome ≡ Refused k n → Prints (refused k n)
     over : reading text .outcome ≡ Accepted → max-text < length whole → Prints (refused 34 0)
     short : reading text .outcome ≡ Accepted → length whole ≤ max-text → room < length whole → Prints (refused 33 0)
@@ -84,7 +107,7 @@ module _ (text : List ℕ) (room : ℕ) where
   pub comes-whole : (reading text .outcome ≡ Accepted) × (length whole ≤ max-text) × (length whole ≤ room) → print-into text room ≡ taken whole
   comes-whole h = then-fitted text room (h .0) ∙ fitted-all whole room (h .1) (h .2)
 
-  prints : Prints (print-into text room)
+  pub prints : Prints (print-into text room)
   prints = ⊎-elim accepts (λ w. rw (refused-first text room (w .0) (w .1) (ap (λ (r : FileRead). r .outcome) (w .3))) (own-refusal (w .2) (ap (λ (r : FileRead). r .outcome) (w .3)))) (text-comes text)
     where
       accepts : reading text .outcome ≡ Accepted → Prints (print-into text room)
@@ -126,28 +149,6 @@ module _ (text : List ℕ) (room : ℕ) where
   only-prints u (short o l s) = one-of of-print 33 tt
   only-prints u (all o l s) = tt
 
-  from-own : (u : OrRefused (List ℕ)) (k s : ℕ) → Prints u → u ≡ refused k s → OneOf of-file k → reading text .outcome ≡ Refused k s
-  from-own u k s (own-refusal {k = j} {n = n} h o) e m = let y : j ≡ k = cc in let z : n ≡ s = cc in o ∙ ap₂ Refused y z
-  from-own u k s (over o l) e m = absurd (one-of-other of-file 34 tt k m (let z : k ≡ 34 = cc in z))
-  from-own u k s (short o l q) e m = absurd (one-of-other of-file 33 tt k m (let z : k ≡ 33 = cc in z))
-  from-own u k s (all o l q) e m = absurd (let z : _≡_ {A = ℕ} 0 1 = cc in omega arith)
-
-  -- A refusal of 10 to 18 is the reading's.
-  pub is-own : (k s : ℕ) → print-into text room ≡ refused k s → OneOf of-file k → reading text .outcome ≡ Refused k s
-  is-own k s e m = from-own (print-into text room) k s prints e m
-
-  no-seconds : (u : OrRefused (List ℕ)) (k s : ℕ) → Prints u → u ≡ refused k s → OneOf (34 ∷ 33 ∷ []) k → s ≡ 0
-  no-seconds u k s (own-refusal {k = j} {n = n} h o) e m =
-      let z : j ≡ k = cc in
-      absurd (⊎-elim (λ (q : k ≡ 34). one-of-other of-file 34 tt j h (z ∙ q)) (λ r. ⊎-elim (λ (q : k ≡ 33). one-of-other of-file 33 tt j h (z ∙ q)) (λ b. b) r) m)
-  no-seconds u k s (over o l) e m = let z : 0 ≡ s = cc in sym z
-  no-seconds u k s (short o l q) e m = let z : 0 ≡ s = cc in sym z
-  no-seconds u k s (all o l q) e m = absurd (let z : _≡_ {A = ℕ} 0 1 = cc in omega arith)
-
--- A print is its bytes or one refusal from the list,
+-- A print is its bytes or one refusal from the list.
 pub print-refused : (text : List ℕ) (room : ℕ) → Only (OneOf of-print) (print-into text room)
 print-refused text room = only-prints text room (print-into text room) (prints text room)
-
--- and 34 and 33 have second number 0.
-pub print-second : (text : List ℕ) (room k s : ℕ) → print-into text room ≡ refused k s → OneOf (34 ∷ 33 ∷ []) k → s ≡ 0
-print-second text room k s e m = no-seconds text room (print-into text room) k s (prints text room) e m

@@ -5,7 +5,7 @@ use native.Mathlib.Omega.{arith}
 use mathlib.Core.Path.{_≡_, refl, subst}
 use mathlib.Core.Bool.{Bool, true, false, cond}
 use mathlib.Core.List.{List, [], _∷_}
-use mathlib.Core.Logic.{inl, inr}
+use mathlib.Core.Logic.{_⊎_, inl, inr}
 use lib.Dec.{T, eqb, leb, ltb}
 use lib.ListN.{length, getD}
 use borrow.Author.Tests.{eqb-true, eq-eqb, ne-eqb}
@@ -19,12 +19,43 @@ use Rattle.table.specs.Link.{rules-of, value-counts}
 use Rattle.soundness.specs.Sound.{sound}
 use Rattle.cards.specs.Cards.{if-sound}
 use Rattle.laws.specs.Answers.{Verdict, passed, fault, OrRefused, taken, refused, after}
-use Rattle.cards.specs.Forms.{count-in, card-bits, slip-bits, padding, values-in, changes-in, values-test, card-test, change-fault, changes-test, slip-test, card-bytes, slip-bytes, read-card, read-slip, write-card, write-slip}
+use Rattle.cards.specs.Forms.{count-in, card-bits, slip-bits, padding, values-in, changes-in, values-test, card-test, change-fault, changes-test, slip-test, read-card, read-slip}
 use Rattle.response.specs.Ending.{answer-of, unless-conflict, answer-by-firing}
 use Rattle.tally.specs.declared.Tally.{Tally}
 use Rattle.response.specs.Respond.{_and-then_, Rooms, changes-room, if-room, answer-by-rules, answer-by-table, answer-to}
 use Rattle.tally.specs.Counting.{is-full}
-use Rattle.promises.specs.Refusals.{OneOf, Only, of-card, of-slip, of-card-packed, of-slip-packed, of-rules, of-response}
+
+-- One of these numbers.
+abbrev pub OneOf : List ℕ → ℕ → Type 0
+OneOf [] k = ⊥
+OneOf (n ∷ ns) k = (k ≡ n) ⊎ OneOf ns k
+
+-- A refusal, where it is one, has a number that P holds of.
+abbrev pub Only : {A : Type 0} → (ℕ → Type 0) → OrRefused A → Type 0
+Only P (taken a) = Unit
+Only P (refused k s) = P k
+
+-- The refusals of a rule file.
+abbrev pub of-file : List ℕ
+of-file = 10 ∷ 11 ∷ 12 ∷ 13 ∷ 14 ∷ 15 ∷ 16 ∷ 17 ∷ 18 ∷ []
+
+-- Those of a print: the rule file's, and then its own.
+abbrev pub of-print : List ℕ
+of-print = 34 ∷ 33 ∷ of-file
+
+-- Those of a card's bytes, and of a slip's.
+abbrev pub of-card : List ℕ
+of-card = 20 ∷ 21 ∷ 22 ∷ 23 ∷ []
+
+abbrev pub of-slip : List ℕ
+of-slip = 24 ∷ 25 ∷ 26 ∷ 27 ∷ 28 ∷ []
+
+-- Those of a response by a table and a tally that are in order, and of any.
+abbrev pub of-rules : List ℕ
+of-rules = 20 ∷ 21 ∷ 22 ∷ 23 ∷ 24 ∷ 25 ∷ 26 ∷ 27 ∷ 28 ∷ 30 ∷ 40 ∷ []
+
+abbrev pub of-response : List ℕ
+of-response = 32 ∷ 31 ∷ of-rules
 
 -- The same of a test.
 abbrev OnlyFault : (ℕ → Type 0) → Verdict → Type 0
@@ -165,22 +196,6 @@ slip-refused counts ys =
     (fault-more (OneOf of-changes) (OneOf of-slip) (one-of-more of-changes of-slip tt) (slip-test counts (changes-in ys)) (slip-tests counts 0 0 (changes-in ys)))
     (only-cond (OneOf of-slip) (eqb (padding ys (slip-bits (count-in ys))) 0) (taken (changes-in ys)) (refused 28 0) tt (one-of of-slip 28 tt)))
     (one-of of-slip 24 tt)
-
--- A card and a slip that are packed by such counts.
-pub card-write-refused : (counts vs : List ℕ) (room : ℕ) → Only (OneOf of-card-packed) (write-card counts vs room)
-unfolding write-card
-card-write-refused counts vs room =
-    only-after (OneOf of-card-packed) (card-test counts vs) _
-    (fault-more (OneOf of-values) (OneOf of-card-packed) (one-of-more of-values of-card-packed tt) (card-test counts vs) (card-tests counts vs))
-    (only-cond (OneOf of-card-packed) (ltb room (byte-count (card-bits (length vs)))) (refused 30 1) (taken (card-bytes vs)) (one-of of-card-packed 30 tt) tt)
-
-pub slip-write-refused : (counts : List ℕ) (ps : List Pair) (room : ℕ) → Only (OneOf of-slip-packed) (write-slip counts ps room)
-unfolding write-slip
-slip-write-refused counts ps room =
-    only-cond (OneOf of-slip-packed) (ltb 32 (length ps)) (refused 24 0) _ (one-of of-slip-packed 24 tt)
-    (only-after (OneOf of-slip-packed) (slip-test counts ps) _
-    (fault-more (OneOf of-changes) (OneOf of-slip-packed) (one-of-more of-changes of-slip-packed tt) (slip-test counts ps) (slip-tests counts 0 0 ps))
-    (only-cond (OneOf of-slip-packed) (ltb room (byte-count (slip-bits (length ps)))) (refused 30 2) (taken (slip-bytes ps)) (one-of of-slip-packed 30 tt) tt))
 
 room-refused : {A : Type 0} (width count : ℕ) (rooms : Rooms) (u : OrRefused A) → Only (OneOf of-rules) u → Only (OneOf of-rules) (if-room width count rooms u)
 unfolding if-room

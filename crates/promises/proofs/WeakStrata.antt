@@ -36,12 +36,6 @@ use Rattle.promises.proofs.Demand3.{demand-3}
 use Rattle.promises.proofs.Engines.{exactly-31}
 
 module _ (text : List ℕ) (f : File) (h : Is-file text f) where
-  carried-least : reading text .outcome ≡ Accepted → LeastStrata weak (f .rules) (stratum-at (reading text .table))
-  carried-least o =
-      let c = reading-carries text o in
-      let e : c .file ≡ f = one-meaning text (c .file) f (c .is-file) h in
-      rw e at (least-i weak (c .file .rules) (stratum-at (reading text .table)) (c .no-circle) (c .strata-are))
-
   none-fired : reading text .outcome ≡ Accepted → (y : Tally) (card slip : List ℕ) (rooms : Rooms) (a : Answer) → responds text y card slip rooms ≡ taken a
       → (S : List ℕ) (I : List Pair) → read-card (slot-counts (f .slots)) card ≡ taken S → read-slip (slot-counts (f .slots)) slip ≡ taken I
       → (X : ℕ → Bool) → NoOutsideCause (f .rules) S I X → (n : ℕ) → T (X n) → bit-of (a .fired) n ≡ false
@@ -62,7 +56,6 @@ module _ (text : List ℕ) (f : File) (h : Is-file text f) where
 
 pub weak-strata : WeakStrata
 weak-strata = record {
-  carried = carried-least;
   tested = sound-iff-least;
   refused-31 = λ t w y q card slip rooms.
       let i = exactly-31 t y card slip rooms q in

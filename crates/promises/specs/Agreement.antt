@@ -8,7 +8,7 @@ use lib.Dec.{T}
 use lib.ListN.{length, getD}
 use Rattle.laws.specs.Numbers.{how-many}
 use Rattle.laws.specs.Rearranged.{under, goes}
-use Rattle.laws.specs.Packed.{byte-bits}
+use Rattle.laws.specs.Packed.{byte-bits, byte-count}
 use Rattle.model.specs.Rules.{Pair, Pairs, among}
 use Rattle.model.specs.Orders.{rule-at, names, changes, whole-order}
 use Rattle.model.specs.Result.{pair}
@@ -43,13 +43,14 @@ pub record LowestConflict (C : Pairs) (s : ℕ) : Type 0 where
   pub conflict : InConflict C s
   pub lowest : (r : ℕ) → r < s → ¬ InConflict C r
 
--- An answer shows an order: its C is exactly the set of pairs in the changes, it names exactly the rules whose bit is one, no slot is in conflict,
+-- An answer shows an order: its C is exactly the set of pairs in the changes, it names exactly the rules whose bit is one in the fired record, which has one bit for each rule, padded to bytes, no slot is in conflict,
 -- and the new card has C's value where C has one, else S's. The changes and the new card are a slip and a card of the file.
 pub record Shows (f : File) (S : List ℕ) (I : List Pair) (a : Answer) (ns : List ℕ) : Type 0 where
   pub pairs : List Pair
   pub changes-are : read-slip (slot-counts (f .slots)) (a .changes) ≡ taken pairs
   pub same-changes : (p : Pair) → changes (f .rules) I ns p ≡ among p pairs
   pub same-fired : (n : ℕ) → names ns n ≡ bit-of (a .fired) n
+  pub fired-length : length (a .fired) ≡ byte-count (length (f .rules))
   pub how-many-fired : (ones-in (a .fired) ≡ how-many (names ns) (length (f .rules))) × (ones-in (a .fired) ≡ length ns)
   pub no-conflict : (s : ℕ) → ¬ InConflict (changes (f .rules) I ns) s
   pub values : List ℕ

@@ -1,6 +1,9 @@
 pub mod Agreement
+pub mod Returned
+pub mod Reasons
 pub mod Refusals
 pub mod Paper
+pub mod Shown
 pub mod Day
 pub mod WeakStrata
 pub mod Listing

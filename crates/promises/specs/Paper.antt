@@ -5,25 +5,28 @@ use mathlib.Core.Path.{_≡_}
 use mathlib.Core.List.{List}
 use mathlib.Core.Logic.{_↔_}
 use lib.ListN.{length}
+use Rattle.laws.specs.Answers.{taken, written}
 use Rattle.laws.specs.Packed.{Bytes}
 use Rattle.model.specs.Rules.{Pair}
 use Rattle.model.specs.Orders.{changes}
 use Rattle.model.specs.Strata.{weak, Strata}
+use Rattle.model.specs.Least.{LeastStrata}
 use Rattle.model.specs.Circles.{LowestThroughNot}
 use Rattle.model.specs.Paper.{NoneFireable, RuleConsistent, DeclarativeResponse, Correct, firing-of, firings}
+use Rattle.table.specs.declared.Table.{Table}
+use Rattle.table.specs.Link.{stratum-at}
 use Rattle.grammar.specs.Files.{File, slot-counts}
 use Rattle.grammar.specs.Meaning.{Is-file}
-use Rattle.table.specs.declared.Table.{Table}
-use Rattle.table.specs.Shape.{Shaped}
-use Rattle.reader.specs.declared.Outcome.the-variants.{Accepted, Refused}
+use Rattle.reader.specs.Tables.{reading-refusal, reading-second}
 use Rattle.rule_file.specs.Whole.{reading}
-use Rattle.laws.specs.Answers.{taken, refused}
 use Rattle.cards.specs.Forms.{read-card, read-slip}
-use Rattle.cards.specs.Cards.{card-of, slip-of, unpacked-card, unpacked-slip, packed-card, packed-slip}
+use Rattle.cards.specs.declared.Packing.the-variants.{Packed}
+use Rattle.cards.specs.Cards.{unpacking-refusal}
 use Rattle.tally.specs.declared.Tally.{Tally}
 use Rattle.response.specs.Ending.{Answer}
-use Rattle.response.specs.Respond.{Rooms}
-use Rattle.promises.specs.Agreement.{responds, Shows, LowestConflict}
+use Rattle.response.specs.Respond.{Outputs, response-refusal, response-second}
+use Rattle.promises.specs.Returned.{IsAccepted, card-told, slip-told, card-packing, card-left, slip-packing, slip-left, response-told, Answers}
+use Rattle.promises.specs.Agreement.{Shows, LowestConflict}
 
 -- The card and the slip unpack, over the file's slots, to S and I, and the rules fired from there are a declarative response (Definition 1) that has ended, every fired rule still enabled.
 pub record Declarative (f : File) (card slip : List ℕ) (S : List ℕ) (I : List Pair) (ns : List ℕ) : Type 0 where
@@ -51,17 +54,20 @@ pub record PaperConflict (f : File) (card slip : List ℕ) (s : ℕ) : Type 0 wh
   pub lowest : LowestConflict (changes (f .rules) I fired) s
 
 pub record Demand2 : Type 0 where
-  -- Accepted: exactly the texts of files whose rules have strata.
-  pub accepted : (text : List ℕ) → ((f : File) × Is-file text f × ((u : ℕ → ℕ) × Strata weak (f .rules) u)) ↔ (reading text .outcome ≡ Accepted)
+  -- Accepted: exactly the texts of files whose rules have strata; the table carries the least of them.
+  pub accepted : (text : List ℕ) → ((f : File) × Is-file text f × ((u : ℕ → ℕ) × Strata weak (f .rules) u)) ↔ IsAccepted text
+  pub carried : (text : List ℕ) (f : File) → Is-file text f → IsAccepted text → LeastStrata weak (f .rules) (stratum-at (reading text .table))
   -- 18: exactly the texts of files whose rules have none;
-  pub no-strata : (text : List ℕ) → ((k : ℕ) × (reading text .outcome ≡ Refused 18 k)) ↔ ((f : File) × Is-file text f × ((u : ℕ → ℕ) → ¬ Strata weak (f .rules) u))
+  pub no-strata : (text : List ℕ) → (reading-refusal (reading text .outcome) ≡ 18) ↔ ((f : File) × Is-file text f × ((u : ℕ → ℕ) → ¬ Strata weak (f .rules) u))
   -- and these are exactly the texts of files with a circle through a NOT, of which it names the lowest rule.
-  pub circle : (text : List ℕ) (k : ℕ) → (reading text .outcome ≡ Refused 18 k) ↔ ((f : File) × Is-file text f × LowestThroughNot (f .rules) k)
+  pub circle : (text : List ℕ) (n : ℕ) → ((reading-refusal (reading text .outcome) ≡ 18) × (reading-second (reading text .outcome) ≡ n)) ↔ ((f : File) × Is-file text f × LowestThroughNot (f .rules) n)
   -- Each answer, and each conflict, by an accepted file.
-  pub each-answer : (text : List ℕ) (f : File) → Is-file text f → reading text .outcome ≡ Accepted → (y : Tally) (card slip : List ℕ) (rooms : Rooms) (a : Answer)
-      → responds text y card slip rooms ≡ taken a → PaperAnswer f card slip a
-  pub each-conflict : (text : List ℕ) (f : File) → Is-file text f → reading text .outcome ≡ Accepted → (y : Tally) (card slip : List ℕ) (rooms : Rooms) (s : ℕ)
-      → responds text y card slip rooms ≡ refused 40 s → PaperConflict f card slip s
-  -- The same bytes back, for any table of the shape that a table has.
-  pub card-back : (t : Table) → Shaped t → (ys vs : List ℕ) (room : ℕ) → Bytes ys → length ys ≤ room → unpacked-card t ys ≡ taken vs → packed-card t (card-of vs) room ≡ taken ys
-  pub slip-back : (t : Table) → Shaped t → (ys : List ℕ) (ps : List Pair) (room : ℕ) → Bytes ys → length ys ≤ room → unpacked-slip t ys ≡ taken ps → packed-slip t (slip-of ps) room ≡ taken ys
+  pub each-answer : (text : List ℕ) (f : File) → Is-file text f → IsAccepted text → (y : Tally) (card slip : List ℕ) (o : Outputs)
+      → response-refusal (response-told (reading text .table) y card slip o .outcome) ≡ 0 → (a : Answer) × Answers (reading text .table) y card slip o a × PaperAnswer f card slip a
+  pub each-conflict : (text : List ℕ) (f : File) → Is-file text f → IsAccepted text → (y : Tally) (card slip : List ℕ) (o : Outputs)
+      → response-refusal (response-told (reading text .table) y card slip o .outcome) ≡ 40 → PaperConflict f card slip (response-second (response-told (reading text .table) y card slip o .outcome))
+  -- The same bytes back: what unpacking returned, packed into an output that has room for them, by any table.
+  pub card-back : (t : Table) (ys out : List ℕ) → Bytes ys → length ys ≤ length out → unpacking-refusal (card-told t ys .outcome) ≡ 0
+      → (card-packing t (card-told t ys .card) out ≡ Packed (length ys)) × (card-left t (card-told t ys .card) out ≡ written ys out)
+  pub slip-back : (t : Table) (ys out : List ℕ) → Bytes ys → length ys ≤ length out → unpacking-refusal (slip-told t ys .outcome) ≡ 0
+      → (slip-packing t (slip-told t ys .slip) out ≡ Packed (length ys)) × (slip-left t (slip-told t ys .slip) out ≡ written ys out)

@@ -21,14 +21,13 @@ use Rattle.grammar.specs.Files.{File}
 use Rattle.grammar.specs.Meaning.{Is-file}
 use Rattle.grammar.specs.Reading.{parse}
 use Rattle.grammar.specs.Refusals.{Stands-at}
-use Rattle.reader.specs.declared.Outcome.the-variants.{Accepted}
-use Rattle.rule_file.specs.Whole.{reading}
 use Rattle.printing.specs.Printing.{print-of}
 use Rattle.soundness.specs.Sound.{sound}
 use Rattle.cards.specs.Forms.{card-bits, slip-bits, count-in, values-in, changes-in, padding}
 use Rattle.tally.specs.declared.Tally.{Tally}
 use Rattle.tally.specs.Counting.{is-full}
 use Rattle.response.specs.Respond.{Rooms, changes-room}
+use Rattle.promises.specs.Returned.{IsAccepted}
 use Rattle.promises.specs.Agreement.{LowestConflict}
 
 -- A rule file. 10: its length. 11 to 17: what stands at a token or at the end, after so many completed rules. 18: the lowest rule on a circle through a NOT.
@@ -40,8 +39,8 @@ pub data FileReason (text : List ℕ) : ℕ → ℕ → Type 0 where
 -- A print: the reading's own; then 34, its length; 33, an output that is shorter.
 pub data PrintReason (text : List ℕ) (room : ℕ) : ℕ → ℕ → Type 0 where
   own : {k n : ℕ} → FileReason text k n → PrintReason text room k n
-  print-over : reading text .outcome ≡ Accepted → max-text < length (print-of (parse text)) → PrintReason text room 34 0
-  print-room : reading text .outcome ≡ Accepted → length (print-of (parse text)) ≤ max-text → room < length (print-of (parse text)) → PrintReason text room 33 0
+  print-over : IsAccepted text → max-text < length (print-of (parse text)) → PrintReason text room 34 0
+  print-room : IsAccepted text → length (print-of (parse text)) ≤ max-text → room < length (print-of (parse text)) → PrintReason text room 33 0
 
 -- The first slot whose value is above its last.
 pub record FirstAbove (counts vs : List ℕ) (s : ℕ) : Type 0 where
@@ -51,7 +50,7 @@ pub record FirstAbove (counts vs : List ℕ) (s : ℕ) : Type 0 where
 
 -- The values of a card. 21: not as many as there are slots. 22: one above the slot's last; the first such slot.
 pub data ValuesReason (counts vs : List ℕ) : ℕ → ℕ → Type 0 where
-  other-count : ¬ (length vs ≡ length counts) → ValuesReason counts vs 21 0
+  another-count : ¬ (length vs ≡ length counts) → ValuesReason counts vs 21 0
   value-above : {s : ℕ} → length vs ≡ length counts → FirstAbove counts vs s → ValuesReason counts vs 22 s
 
 -- None of these.
@@ -83,16 +82,12 @@ pub data PackedCardReason (counts vs : List ℕ) (room : ℕ) : ℕ → ℕ → 
   packed-values : {k s : ℕ} → ValuesReason counts vs k s → PackedCardReason counts vs room k s
   packed-card-room : ValuesRight counts vs → room < byte-count (card-bits (length vs)) → PackedCardReason counts vs room 30 1
 
--- What stands for a change that is not there.
-abbrev pub no-pair : Pair
-no-pair = pair 0 0
-
 -- The slot of a change by its position, and its value.
 abbrev pub slot-of : List Pair → ℕ → ℕ
-slot-of ps j = getD ps j no-pair .slot
+slot-of ps j = getD ps j (pair 0 0) .slot
 
 abbrev pub value-of : List Pair → ℕ → ℕ
-value-of ps j = getD ps j no-pair .value
+value-of ps j = getD ps j (pair 0 0) .value
 
 -- The slot of a change is above the one before it, where there is one.
 abbrev pub Rises : List Pair → ℕ → Type 0
@@ -100,9 +95,9 @@ Rises ps j = (i : ℕ) → suc i ≡ j → slot-of ps i < slot-of ps j
 
 -- The fault of a change. 25: a slot not below the slot count. 26: a slot not above the one before. 27: value 0 or above the slot's last.
 pub data ChangeFault (counts : List ℕ) (ps : List Pair) (j : ℕ) : ℕ → Type 0 where
-  no-slot : length counts ≤ slot-of ps j → ChangeFault counts ps j 25
-  not-above : slot-of ps j < length counts → (i : ℕ) → suc i ≡ j → slot-of ps j ≤ slot-of ps i → ChangeFault counts ps j 26
-  no-value : slot-of ps j < length counts → Rises ps j → (value-of ps j ≡ 0) ⊎ (getD counts (slot-of ps j) 0 < value-of ps j) → ChangeFault counts ps j 27
+  slot-lacking : length counts ≤ slot-of ps j → ChangeFault counts ps j 25
+  not-rising : slot-of ps j < length counts → (i : ℕ) → suc i ≡ j → slot-of ps j ≤ slot-of ps i → ChangeFault counts ps j 26
+  value-lacking : slot-of ps j < length counts → Rises ps j → (value-of ps j ≡ 0) ⊎ (getD counts (slot-of ps j) 0 < value-of ps j) → ChangeFault counts ps j 27
 
 -- None of these.
 pub record ChangeRight (counts : List ℕ) (ps : List Pair) (j : ℕ) : Type 0 where

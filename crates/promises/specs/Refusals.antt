@@ -1,82 +1,77 @@
--- Demand 1: what is handed in, with any bytes and of any length, comes back with its result or with one numbered refusal from the list (document 01, 'Refusals by who can cause them'),
+-- Demand 1: what is handed in, with any bytes and of any length, comes back with its result or with one numbered refusal, whose second number and reason are told (Reasons),
 -- and after a refusal every lent buffer, the tally's own count apart, holds what it held before. That the engine always finishes is proved with each function.
 use Prim.Native.Nat.{ℕ}
 use mathlib.Core.Path.{_≡_}
-use mathlib.Core.List.{List, [], _∷_}
+use mathlib.Core.List.{List}
 use mathlib.Core.Logic.{_⊎_}
+use lib.Dec.{T}
+use lib.ListN.{length}
+use Rattle.laws.specs.Answers.{written}
 use Rattle.table.specs.declared.Table.{Table}
 use Rattle.table.specs.Empty.{empty-table}
-use Rattle.names.specs.Names.{show-slot, show-value}
+use Rattle.table.specs.Link.{value-counts}
+use Rattle.grammar.specs.Files.{File}
+use Rattle.grammar.specs.Meaning.{Is-file}
+use Rattle.grammar.specs.Reading.{parse}
+use Rattle.names.specs.Names.{not-shown, show-slot, show-value}
+use Rattle.soundness.specs.Sound.{sound}
+use Rattle.reader.specs.Tables.{reading-refusal, reading-second}
+use Rattle.rule_file.specs.Whole.{reading}
+use Rattle.printing.specs.Printing.{print-of, printing-refusal, printing-second, printing-length}
 use Rattle.cards.specs.declared.Card.{Card}
 use Rattle.cards.specs.declared.Slip.{Slip}
-use Rattle.laws.specs.Answers.{OrRefused, taken, refused, output-of}
-use Rattle.cards.specs.Cards.{unpacked-card, unpacked-slip, packed-card, packed-slip}
-use Rattle.reader.specs.declared.Outcome.the-variants.{Accepted, Refused}
-use Rattle.rule_file.specs.Whole.{reading}
-use Rattle.printing.specs.Printing.{print-into}
+use Rattle.cards.specs.Forms.{values-in, changes-in, card-bytes, slip-bytes}
+use Rattle.cards.specs.Cards.{card-values, changes-of, card-of, slip-of, no-card, no-slip, unpacking-refusal, unpacking-second, packing-refusal, packing-second, packing-length}
 use Rattle.tally.specs.declared.Tally.{Tally}
-use Rattle.tally.specs.Counting.{one-refused}
-use Rattle.response.specs.Respond.{Rooms, Outputs, answer-to, response-to, outputs-after}
+use Rattle.tally.specs.Counting.{one-answered, one-refused}
+use Rattle.response.specs.Ending.{Answer}
+use Rattle.response.specs.Respond.{Outputs, rooms-of, response-refusal, response-second}
+use Rattle.promises.specs.Returned.{print-told, print-left, card-told, slip-told, card-packing, card-left, slip-packing, slip-left, response-told, response-left, Answers}
+use Rattle.promises.specs.Reasons.{FileReason, PrintReason, ValuesRight, CardReason, CardRight, PackedCardReason, ChangesRight, SlipReason, SlipRight, PackedSlipReason, TableReason, ResponseReason}
 
--- One of these numbers.
-abbrev pub OneOf : List ℕ → ℕ → Type 0
-OneOf [] k = ⊥
-OneOf (n ∷ ns) k = (k ≡ n) ⊎ OneOf ns k
+-- What comes back by its two numbers: 0, 0 and a result; or a refusal with a reason for it, and what goes with a refusal.
+abbrev pub Comes : (ℕ → ℕ → Type 0) → ℕ → ℕ → Type 0 → Type 0 → Type 0
+Comes Reason k s Result Refused = ((k ≡ 0) × (s ≡ 0) × Result) ⊎ (Reason k s × Refused)
 
--- A refusal, where it is one, has a number that P holds of.
-abbrev pub Only : {A : Type 0} → (ℕ → Type 0) → OrRefused A → Type 0
-Only P (taken a) = Unit
-Only P (refused k s) = P k
+-- A table is in order, and so is what comes after that test.
+pub record Passes (t : Table) (Right : Type 0) : Type 0 where
+  pub passes : T (sound t)
+  pub right : Right
 
--- The refusals of a rule file.
-abbrev pub of-file : List ℕ
-of-file = 10 ∷ 11 ∷ 12 ∷ 13 ∷ 14 ∷ 15 ∷ 16 ∷ 17 ∷ 18 ∷ []
-
--- Those of a print: the rule file's, and then its own.
-abbrev pub of-print : List ℕ
-of-print = 34 ∷ 33 ∷ of-file
-
--- Those of a card's bytes, and of a slip's.
-abbrev pub of-card : List ℕ
-of-card = 20 ∷ 21 ∷ 22 ∷ 23 ∷ []
-
-abbrev pub of-slip : List ℕ
-of-slip = 24 ∷ 25 ∷ 26 ∷ 27 ∷ 28 ∷ []
-
--- Those of a card that is packed, and of a slip.
-abbrev pub of-card-packed : List ℕ
-of-card-packed = 31 ∷ 21 ∷ 22 ∷ 30 ∷ []
-
-abbrev pub of-slip-packed : List ℕ
-of-slip-packed = 31 ∷ 24 ∷ 25 ∷ 26 ∷ 27 ∷ 30 ∷ []
-
--- Those of a response by a table and a tally that are in order, and of any.
-abbrev pub of-rules : List ℕ
-of-rules = 20 ∷ 21 ∷ 22 ∷ 23 ∷ 24 ∷ 25 ∷ 26 ∷ 27 ∷ 28 ∷ 30 ∷ 40 ∷ []
-
-abbrev pub of-response : List ℕ
-of-response = 32 ∷ 31 ∷ of-rules
+-- The tally counts a refusal, but for 32.
+pub record TallyRefused (k : ℕ) (before after : Tally) : Type 0 where
+  pub counted : ¬ (k ≡ 32) → after ≡ one-refused before
+  pub not-counted : k ≡ 32 → after ≡ before
 
 pub record Demand1 : Type 0 where
-  -- A rule file: accepted, or one refusal and the table without slots or rules.
-  pub rule-file : (text : List ℕ) → (reading text .outcome ≡ Accepted) ⊎ ((k : ℕ) × (n : ℕ) × OneOf of-file k × (reading text ≡ record { outcome = Refused k n; table = empty-table }))
-  -- A rule file that is printed; 34 and 33 have no second number.
-  pub file-printed : (text : List ℕ) (room : ℕ) → Only (OneOf of-print) (print-into text room)
-  pub no-second : (text : List ℕ) (room k s : ℕ) → print-into text room ≡ refused k s → OneOf (34 ∷ 33 ∷ []) k → s ≡ 0
-  -- Unpacking.
-  pub card-unpacked : (t : Table) (ys : List ℕ) → Only (OneOf (31 ∷ of-card)) (unpacked-card t ys)
-  pub slip-unpacked : (t : Table) (ys : List ℕ) → Only (OneOf (31 ∷ of-slip)) (unpacked-slip t ys)
-  -- Packing, whose output, as that of a print, keeps its contents after a refusal.
-  pub card-packed : (t : Table) (c : Card) (room : ℕ) → Only (OneOf of-card-packed) (packed-card t c room)
-  pub slip-packed : (t : Table) (c : Slip) (room : ℕ) → Only (OneOf of-slip-packed) (packed-slip t c room)
-  pub output-kept : (u : OrRefused (List ℕ)) (k s : ℕ) (out : List ℕ) → u ≡ refused k s → output-of u out ≡ out
-  -- A response, whose three outputs keep their contents after a refusal; the tally counts the refusal, but for 32.
-  pub responded : (t : Table) (y : Tally) (card slip : List ℕ) (rooms : Rooms) → Only (OneOf of-response) (answer-to t y card slip rooms)
-  pub outputs-kept : (t : Table) (y : Tally) (card slip : List ℕ) (rooms : Rooms) (k s : ℕ) (o : Outputs) → answer-to t y card slip rooms ≡ refused k s
-      → outputs-after (answer-to t y card slip rooms) o ≡ o
-  pub counted : (t : Table) (y : Tally) (card slip : List ℕ) (rooms : Rooms) (k s : ℕ) → answer-to t y card slip rooms ≡ refused k s → ¬ (k ≡ 32)
-      → response-to t y card slip rooms .tally ≡ one-refused y
-  pub not-counted : (t : Table) (y : Tally) (card slip : List ℕ) (rooms : Rooms) (s : ℕ) → answer-to t y card slip rooms ≡ refused 32 s → response-to t y card slip rooms .tally ≡ y
-  -- A name shown: 0, or 31.
-  pub slot-shown : (text : List ℕ) (t : Table) (slot : ℕ) → OneOf (0 ∷ 31 ∷ []) (show-slot text t slot .code)
-  pub value-shown : (text : List ℕ) (t : Table) (slot value : ℕ) → OneOf (0 ∷ 31 ∷ []) (show-value text t slot value .code)
+  -- A rule file; after a refusal the table is the one without slots or rules.
+  pub rule-file : (text : List ℕ) → Comes (FileReason text) (reading-refusal (reading text .outcome)) (reading-second (reading text .outcome))
+      ((f : File) × Is-file text f) (reading text .table ≡ empty-table)
+  -- A rule file that is printed.
+  pub file-printed : (text out : List ℕ) → Comes (PrintReason text (length out)) (printing-refusal (print-told text out)) (printing-second (print-told text out))
+      ((printing-length (print-told text out) ≡ length (print-of (parse text))) × (print-left text out ≡ written (print-of (parse text)) out))
+      ((printing-length (print-told text out) ≡ 0) × (print-left text out ≡ out))
+  -- Bytes unpacked as a card and as a slip; after a refusal the form has no slots or changes.
+  pub card-unpacked : (t : Table) (ys : List ℕ)
+      → Comes (TableReason t (CardReason (value-counts t) ys)) (unpacking-refusal (card-told t ys .outcome)) (unpacking-second (card-told t ys .outcome))
+      (Passes t (CardRight (value-counts t) ys) × (card-told t ys .card ≡ card-of (values-in ys))) (card-told t ys .card ≡ no-card)
+  pub slip-unpacked : (t : Table) (ys : List ℕ)
+      → Comes (TableReason t (SlipReason (value-counts t) ys)) (unpacking-refusal (slip-told t ys .outcome)) (unpacking-second (slip-told t ys .outcome))
+      (Passes t (SlipRight (value-counts t) ys) × (slip-told t ys .slip ≡ slip-of (changes-in ys))) (slip-told t ys .slip ≡ no-slip)
+  -- A card and a slip that are packed.
+  pub card-packed : (t : Table) (c : Card) (out : List ℕ)
+      → Comes (TableReason t (PackedCardReason (value-counts t) (card-values c) (length out))) (packing-refusal (card-packing t c out)) (packing-second (card-packing t c out))
+      (Passes t (ValuesRight (value-counts t) (card-values c)) × (packing-length (card-packing t c out) ≡ length (card-bytes (card-values c))) × (card-left t c out ≡ written (card-bytes (card-values c)) out))
+      ((packing-length (card-packing t c out) ≡ 0) × (card-left t c out ≡ out))
+  pub slip-packed : (t : Table) (c : Slip) (out : List ℕ)
+      → Comes (TableReason t (PackedSlipReason (value-counts t) (changes-of c) (length out))) (packing-refusal (slip-packing t c out)) (packing-second (slip-packing t c out))
+      (Passes t (ChangesRight (value-counts t) (changes-of c)) × (packing-length (slip-packing t c out) ≡ length (slip-bytes (changes-of c))) × (slip-left t c out ≡ written (slip-bytes (changes-of c)) out))
+      ((packing-length (slip-packing t c out) ≡ 0) × (slip-left t c out ≡ out))
+  -- A response, whose three outputs keep their contents after a refusal.
+  pub responded : (t : Table) (y : Tally) (card slip : List ℕ) (o : Outputs)
+      → Comes (ResponseReason t y card slip (rooms-of (o .card) (o .changes) (o .fired))) (response-refusal (response-told t y card slip o .outcome)) (response-second (response-told t y card slip o .outcome))
+      ((a : Answer) × Answers t y card slip o a × (response-told t y card slip o .tally ≡ one-answered y))
+      ((response-left t y card slip o ≡ o) × TallyRefused (response-refusal (response-told t y card slip o .outcome)) y (response-told t y card slip o .tally))
+  -- A name shown: 0; or 31 with an empty part.
+  pub slot-shown : (text : List ℕ) (t : Table) (slot : ℕ) → (show-slot text t slot .code ≡ 0) ⊎ (show-slot text t slot ≡ not-shown)
+  pub value-shown : (text : List ℕ) (t : Table) (slot value : ℕ) → (show-value text t slot value .code ≡ 0) ⊎ (show-value text t slot value ≡ not-shown)

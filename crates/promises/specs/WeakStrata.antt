@@ -1,5 +1,5 @@
 -- Rules that wake each other, document 02, section 2: 'A plain `*=` now needs its defining rules at the same or a lower stratum; only one under NOT needs them strictly lower.
--- The table still carries the least numbers.' That 18 is for circles through a NOT is a part of demand 2; that no firing order reaches another consistent outcome is demand 3.
+-- The table still carries the least numbers.' That the table of an accepted text carries the least and that 18 is for circles through a NOT are parts of demand 2; that no firing order reaches another consistent outcome is demand 3.
 use Prim.Native.Nat.{ℕ}
 use mathlib.Core.Path.{_≡_}
 use mathlib.Core.Bool.{Bool, false}
@@ -28,8 +28,6 @@ use Rattle.tally.specs.Counting.{is-full}
 use Rattle.promises.specs.Agreement.{bit-of, responds}
 
 pub record WeakStrata : Type 0 where
-  -- The table of an accepted text carries the least strata of its file's rules.
-  pub carried : (text : List ℕ) (f : File) → Is-file text f → reading text .outcome ≡ Accepted → LeastStrata weak (f .rules) (stratum-at (reading text .table))
   -- 31 passes a table that is otherwise in order exactly where it carries the least.
   pub tested : (t : Table) → T (well-formed t) → T (sound t) ↔ LeastStrata weak (rules-of t) (stratum-at t)
   -- So a response by such a table, at a tally that is not full, is refused with 31 exactly where it does not.
