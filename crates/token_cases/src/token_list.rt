@@ -53,16 +53,18 @@ fn write_token(text: &[u8], token: Token, at: usize) {
     }
 }
 
-// All tokens of a text, the end as the last.
+// All tokens of a text, the end as the last: the first, then each after the one before it.
 pub fn write_tokens(text: &[u8]) {
     let mut at: usize = 0;
-    while at <= text.len() {
-        let next = text::token_at(text, at);
+    let mut next = cursor::first(text);
+    loop {
         let token = next.token;
-        write_token(text, token, next.at);
-        at = next.at;
+        let past = next.at;
+        write_token(text, token, past);
         if let Token::End = token {
             return;
         }
+        next = cursor::after(text, at);
+        at = past;
     }
 }
