@@ -89,7 +89,7 @@ typedef struct {
     uint16_t refused;
 } RlTally;
 
-/* In each result `number` is the refusal's number, 0 for none, and `second` its second number. */
+/* In each result `number` is the refusal's number, 0 for none, and `second`, which a name's place does not have, its second number. */
 
 /* A reading: the table is without slots or rules after a refusal. */
 typedef struct {
@@ -133,7 +133,7 @@ typedef struct {
     size_t length;
 } RlPacked;
 
-/* A response: the length of the changes, how many rules fired, and the tally after it. */
+/* A response: the length of the changes, how many rules fired, both 0 after a refusal, and the tally after it. */
 typedef struct {
     uint8_t number;
     size_t second;
@@ -142,7 +142,7 @@ typedef struct {
     RlTally tally;
 } RlResponse;
 
-/* In each function a buffer is a pointer and its length; the pointer is not null, also where the length is 0, and an output overlaps no other buffer. A bool is 0 or 1. Nothing else is asked of any argument. */
+/* In each function a buffer is a pointer and its length; the pointer is not null, also where the length is 0, as many bytes can be read there, or read and written in an output, and an output overlaps no other buffer. A bool is 0 or 1. Nothing else is asked of any argument. */
 
 /* Reads a rule text into a table with the least strata, or refuses it with 10 to 18; 18 is for rules in a circle of tests by `*=` that passes through a NOT, with the lowest rule on such a circle. */
 RlRead rl_read(const uint8_t *text, size_t text_length);
@@ -150,7 +150,7 @@ RlRead rl_read(const uint8_t *text, size_t text_length);
 /* Prints a rule text in the house style into the output, or refuses it with 10 to 18, 34 (the print would pass 65,535 bytes), 33 (the output is shorter than the print); bytes beyond the print, and all after a refusal, stay as they are. */
 RlPrinted rl_print(const uint8_t *text, size_t text_length, uint8_t *out, size_t out_length);
 
-/* Says whether a table is in order; with one that is not, the functions below that take it say 31, but for the names. */
+/* Says whether a table is in order; with one that is not, the functions below that take it say 31, but for the names, and `rl_respond` 32 before it where the tally is full. */
 bool rl_is_sound(RlTable table);
 
 /* Says where a slot's name stands in the text, or 31. */
