@@ -1,4 +1,3 @@
-pub mod Limits
 pub mod Files
 pub mod Grammar
 pub mod Meaning
@@ -6,3 +5,4 @@ pub mod Reading
 pub mod Pieces
 pub mod Standing
 pub mod Refusals
+pub mod TableFor

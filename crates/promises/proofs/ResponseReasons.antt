@@ -27,7 +27,7 @@ use Rattle.model.proofs.Changes.{cause}
 use Rattle.table.specs.declared.Rule.{Rule}
 use Rattle.table.specs.declared.Slot.{Slot}
 use Rattle.table.specs.declared.Table.{Table}
-use Rattle.table.specs.Limits.{value-limit, row}
+use Rattle.laws.specs.Limits.{value-limit, row}
 use Rattle.table.specs.Link.{rule-of, assignments-of, slots-of, used-rules, rules-of, value-counts}
 use Rattle.names.specs.Names.{has-slot, has-value}
 use Rattle.names.proofs.Names.{value-inside}

@@ -13,8 +13,7 @@ use Rattle.laws.specs.Truth.{_∧ᵇ_}
 use Rattle.laws.proofs.Listed.{each-at}
 use Rattle.text.specs.Tokens.{Name}
 use Rattle.text.specs.Cut.{Stands}
-use Rattle.table.specs.Limits.{slot-limit, value-limit}
-use Rattle.grammar.specs.Limits.{max-slots, max-values}
+use Rattle.laws.specs.Limits.{slot-limit, value-limit}
 use Rattle.grammar.specs.Files.{Slot, File, no-slot, values-of}
 use Rattle.grammar.specs.Standing.{Named-by}
 use Rattle.grammar.specs.Meaning.{Is-file}
@@ -62,7 +61,6 @@ shows text n s h e = record { number = ap (λ (x : Showing). x .code) e; letters
 
 -- FROM THE TEXT TO THE NAME SHOWN.
 pub names-shown : (text : List ℕ) (f : File) → Is-file text f → IsAccepted text → NamesShown text f
-unfolding max-slots max-values
 names-shown text f h a =
     let c = reading-carries text (reading-no-refusal text a) in
     let same : c .file ≡ f = one-meaning text (c .file) f (c .is-file) h in

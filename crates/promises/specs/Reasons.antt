@@ -16,7 +16,7 @@ use Rattle.model.specs.Circles.{LowestThroughNot}
 use Rattle.model.specs.Response.{response}
 use Rattle.table.specs.declared.Table.{Table}
 use Rattle.table.specs.Link.{rules-of, value-counts}
-use Rattle.grammar.specs.Limits.{max-text}
+use Rattle.laws.specs.Limits.{text-limit}
 use Rattle.grammar.specs.Files.{File}
 use Rattle.grammar.specs.Meaning.{Is-file}
 use Rattle.grammar.specs.Reading.{parse}
@@ -32,15 +32,15 @@ use Rattle.promises.specs.Agreement.{LowestConflict}
 
 -- A rule file. 10: its length. 11 to 17: what stands at a token or at the end, after so many completed rules. 18: the lowest rule on a circle through a NOT.
 pub data FileReason (text : List ℕ) : ℕ → ℕ → Type 0 where
-  over-long : max-text < length text → FileReason text 10 0
-  at-token : {k n : ℕ} → length text ≤ max-text → Stands-at (tokens text) k n → FileReason text k n
+  over-long : text-limit < length text → FileReason text 10 0
+  at-token : {k n : ℕ} → length text ≤ text-limit → Stands-at (tokens text) k n → FileReason text k n
   no-strata : {f : File} {n : ℕ} → Is-file text f → LowestThroughNot (f .rules) n → FileReason text 18 n
 
 -- A print: the reading's own; then 34, its length; 33, an output that is shorter.
 pub data PrintReason (text : List ℕ) (room : ℕ) : ℕ → ℕ → Type 0 where
   own : {k n : ℕ} → FileReason text k n → PrintReason text room k n
-  print-over : IsAccepted text → max-text < length (print-of (parse text)) → PrintReason text room 34 0
-  print-room : IsAccepted text → length (print-of (parse text)) ≤ max-text → room < length (print-of (parse text)) → PrintReason text room 33 0
+  print-over : IsAccepted text → text-limit < length (print-of (parse text)) → PrintReason text room 34 0
+  print-room : IsAccepted text → length (print-of (parse text)) ≤ text-limit → room < length (print-of (parse text)) → PrintReason text room 33 0
 
 -- The first slot whose value is above its last.
 pub record FirstAbove (counts vs : List ℕ) (s : ℕ) : Type 0 where

@@ -11,7 +11,7 @@ use Rattle.laws.proofs.Filled.{filled-is, filled-snoc}
 use Rattle.laws.proofs.Lists.{map-append}
 use Rattle.model.specs.Rules as model
 use Rattle.table.specs.Link.{literal-of, assignment-of, rule-of}
-use Rattle.table.specs.Limits.{slot-limit, rule-limit, literal-limit, assignment-limit}
+use Rattle.laws.specs.Limits.{slot-limit, rule-limit, literal-limit, assignment-limit}
 use Rattle.table.specs.Shape.{zero-literal, zero-assignment}
 use Rattle.table.specs.Empty.{unused-rule, unused-slot, empty-table}
 use Rattle.table.specs.declared.Literal.{Literal}
@@ -20,10 +20,8 @@ use Rattle.table.specs.declared.Rule.{Rule}
 use Rattle.table.specs.declared.Slot as slotted
 use Rattle.table.specs.declared.Table.{Table}
 use Rattle.grammar.specs.Files.{Slot}
-use Rattle.reader.specs.Tables.{literal-for, rule-for, table-for}
-use Rattle.lines.specs.Index.{slot-for}
-use Rattle.clauses.specs.Assignments.{assignment-for}
-use Rattle.reader.specs.Rules.{Plain-rule}
+use Rattle.grammar.specs.TableFor.{slot-for, assignment-for, literal-for, rule-for, table-for}
+use Rattle.reader.specs.inner.Rules.{Plain-rule}
 
 -- What goes to the model and back is what it was.
 literals-back : (ls : List Literal) → map literal-for (map literal-of ls) ≡ ls

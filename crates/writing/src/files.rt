@@ -2,11 +2,11 @@
 ghost use Prim.Native.Nat.{_+_, _≤_, _<_};
 ghost use lib.ListN.{length};
 ghost use Rattle.laws.specs.Quoted.{bytes};
-ghost use Rattle.table.specs.Limits.{slot-limit, value-limit};
-ghost use Rattle.table.specs.Fits.{TableFits};
-ghost use Rattle.writing.specs.Puts.{longest, Puts};
-ghost use Rattle.writing.specs.Written.{separated};
-ghost use Rattle.writing.specs.Spelled.{spelled-values, spelled-line, spelled-file, LinesFit};
+ghost use Rattle.laws.specs.Limits.{slot-limit, value-limit};
+ghost use Rattle.table.specs.inner.Fits.{TableFits};
+ghost use Rattle.writing.specs.inner.Puts.{longest, Puts};
+ghost use Rattle.writing.specs.inner.Written.{separated};
+ghost use Rattle.writing.specs.inner.Spelled.{spelled-values, spelled-line, spelled-file, LinesFit};
 use crate::put::put;
 use crate::put::put_name;
 use crate::rules::put_rule;

@@ -6,18 +6,17 @@ use mathlib.Core.Path.{_≡_, refl, sym, ap, _∙_}
 use mathlib.Core.List.{List}
 use lib.ListN.{length}
 use borrow.Author.Needs.{needs}
-use Rattle.grammar.specs.Limits.{max-text}
 use Rattle.grammar.specs.Reading.{parse}
 use Rattle.table.specs.declared.Table.{Table}
 use Rattle.table.specs.Shape.{Shaped}
 use Rattle.table.proofs.Shape.{shaped}
-use Rattle.lines.specs.Index.{Indexed}
+use Rattle.lines.specs.inner.Index.{Indexed}
 use Rattle.reader.specs.declared.Outcome.the-variants.{Accepted}
 use Rattle.rule_file.specs.Whole.{reading}
-use Rattle.writing.specs.Puts.{put-in}
+use Rattle.writing.specs.inner.Puts.{put-in}
 use Rattle.printing.specs.Printing.{print-of}
-use Rattle.printing.specs.Tabled.{Tabled}
-use Rattle.writing.specs.Spelled.{spelled-file}
+use Rattle.printing.specs.inner.Tabled.{Tabled}
+use Rattle.writing.specs.inner.Spelled.{spelled-file}
 use Rattle.printing.proofs.Filed.{file, is-file, tabled, lines-fit, table-fits, print-spelled, spelled-bounded}
 use Rattle.printing.proofs.Fitting.{print-is, fitted-34, fitted-33, fitted-all, answer-refused, answer-taken}
 use Rattle.printing.proofs.print_table.Statement.{statement}
@@ -62,14 +61,12 @@ size c =
     omega (arith, z, p .put-file .ensures .ends)
 
 returns : tie.Need-returns
-unfolding max-text
 returns c =
     let n = c .before in
     let s = n .before .before .before .before .before .before .before .before .before .before in
     answer-refused _ 34 0 (s .args .out .now) (fitted-34 (print-of (parse (s .args .text .now))) (length (s .args .out .now)) (omega (arith, size n, c .if1 .taken)))
 
 returns-2 : tie.Need-returns-2
-unfolding max-text
 returns-2 c =
     let n = c .before .before in
     let s = n .before .before .before .before .before .before .before .before .before .before in
@@ -89,7 +86,6 @@ same-length : tie.Need-same-length
 same-length c = c .before .before .put-file2 .ensures .same-length
 
 returns-3 : tie.Need-returns-3
-unfolding max-text
 returns-3 c =
     let q = c .before .before in
     let f = q .before .before .before .before in

@@ -1,0 +1,34 @@
+-- Document 01, 'Rule text': the limits, each said once.
+use Prim.Native.Nat.{ℕ}
+
+-- Bytes in a text.
+abbrev pub text-limit : ℕ
+text-limit = 65535
+
+-- Bytes in a name.
+abbrev pub name-limit : ℕ
+name-limit = 24
+
+-- Slots in a file.
+abbrev pub slot-limit : ℕ
+slot-limit = 32
+
+-- Values in a slot.
+abbrev pub value-limit : ℕ
+value-limit = 15
+
+-- Rules in a file.
+abbrev pub rule-limit : ℕ
+rule-limit = 255
+
+-- Literals in a condition, TRUE not counted.
+abbrev pub literal-limit : ℕ
+literal-limit = 8
+
+-- Assignments in a rule.
+abbrev pub assignment-limit : ℕ
+assignment-limit = 4
+
+-- The values of a slot and 0, which stands for none: the places of one slot in an array indexed by pair.
+abbrev pub row : ℕ
+row = 16
