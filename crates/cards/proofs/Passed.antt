@@ -24,7 +24,8 @@ use Rattle.cards.specs.declared.Slip.{Slip}
 use Rattle.cards.specs.declared.Outcome.the-variants as outcome
 use Rattle.laws.specs.Answers.{Verdict, passed, fault}
 use Rattle.cards.specs.Forms.{values-test, card-test, change-fault, changes-test, slip-test}
-use Rattle.cards.specs.Cards.{counts-in, card-values, changes-of, verdict-outcome, CardFits, SlipFits}
+use Rattle.cards.specs.Cards.{card-values, changes-of}
+use Rattle.cards.specs.inner.Fitting.{counts-in, verdict-outcome, CardFits, SlipFits}
 use Rattle.cards.proofs.Tested.{no-pair, change-right}
 use Rattle.cards.proofs.Formed.{card-length, card-at, slip-length, slip-at}
 

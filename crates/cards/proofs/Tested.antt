@@ -14,7 +14,7 @@ use Rattle.laws.specs.Truth.{_∨ᵇ_}
 use Rattle.laws.proofs.Tabulated.{tabulate-length, tabulate-at}
 use Rattle.model.specs.Rules.{Pair}
 use Rattle.model.specs.Result.{pair}
-use Rattle.cards.specs.Cards.{counts-in}
+use Rattle.cards.specs.inner.Fitting.{counts-in}
 use Rattle.laws.specs.Answers.{Verdict, passed, fault}
 use Rattle.cards.specs.Forms.{values-test, card-test, change-fault, changes-test, slip-test}
 

@@ -8,7 +8,8 @@ use native.Mathlib.Omega.{arith}
 use lib.ListN.{length, getD, take, drop, length-append, length-drop}
 use lib.Seq.{take-suc, take-all, drop-drop, drop-append-add, length-take-le}
 use Rattle.laws.specs.Tabulated.{tabulate}
-use Rattle.laws.specs.Packed.{Field, field, bits, field-bits, byte-count, pack, pack-fields, put-at}
+use Rattle.laws.specs.Packed.{Field, field, bits, field-bits, byte-count, pack, pack-fields}
+use Rattle.laws.specs.inner.Put.{put-at}
 use Rattle.laws.proofs.Packed.{bits-length, pack-length}
 use Rattle.laws.proofs.Fields.{field-bits-append}
 use Rattle.laws.proofs.Put.{put-more}

@@ -1,5 +1,5 @@
 -- The four entry points: 31 first, then the tests and forms by how many values each slot of the table has.
-use Prim.Native.Nat.{ℕ, _≤_, _<_}
+use Prim.Native.Nat.{ℕ}
 use mathlib.Core.Bool.{cond}
 use mathlib.Core.List.{List, map}
 use lib.ListN.{length, getD, replicate}
@@ -20,12 +20,8 @@ use Rattle.cards.specs.declared.CardRead.{CardRead}
 use Rattle.cards.specs.declared.SlipRead.{SlipRead}
 use Rattle.cards.specs.declared.Packing.{Packing}
 use Rattle.cards.specs.declared.Packing.the-variants as packing
-use Rattle.laws.specs.Answers.{Verdict, passed, fault, OrRefused, taken, refused}
+use Rattle.laws.specs.Answers.{OrRefused, taken, refused}
 use Rattle.cards.specs.Forms.{read-card, read-slip, write-card, write-slip}
-
--- How many values each of the first n slots has, by an array.
-unfoldable pub counts-in : ℕ → List ℕ → List ℕ
-counts-in n cs = tabulate (λ i. getD cs i 0) n
 
 -- The values of an unpacked card, as many as it counts; a place that the array lacks gives 0.
 unfoldable pub card-values : Card → List ℕ
@@ -53,17 +49,6 @@ changes-of s = tabulate (λ j. pair-of (getD (s .changes) j no-change)) (s .coun
 -- The slip of some changes; the unused places are zero.
 unfoldable pub slip-of : List Pair → Slip
 slip-of ps = record { changes = filled slot-limit no-change (map change-of ps); count = length ps }
-
--- A card that the writing of its bytes takes: 32 slots at most, each value in 4 bits. One that passes its tests is one.
-pub record CardFits (c : Card) : Type 0 where
-  pub few : c .count ≤ slot-limit
-  pub values-fit : (i : ℕ) → i < c .count → getD (c .values) i 0 < 16
-
--- A slip that the writing of its bytes takes: 32 changes at most, each slot in 5 bits and each value in 4.
-pub record SlipFits (s : Slip) : Type 0 where
-  pub few : s .count ≤ slot-limit
-  pub slots-fit : (j : ℕ) → j < s .count → getD (s .changes) j no-change .slot < 32
-  pub values-fit : (j : ℕ) → j < s .count → getD (s .changes) j no-change .value < 16
 
 -- The forms without slots or changes, which go with a refusal.
 abbrev pub no-card : Card
@@ -98,11 +83,6 @@ card-read (refused k s) = record { outcome = outcome.Refused k s; card = no-card
 unfoldable pub slip-read : OrRefused (List Pair) → SlipRead
 slip-read (taken ps) = record { outcome = outcome.Accepted; slip = slip-of ps }
 slip-read (refused k s) = record { outcome = outcome.Refused k s; slip = no-slip }
-
--- What the code answers to a test of an unpacked form.
-unfoldable pub verdict-outcome : Verdict → Outcome
-verdict-outcome passed = outcome.Accepted
-verdict-outcome (fault k s) = outcome.Refused k s
 
 -- What the code answers to a form that is packed: how many bytes it takes.
 unfoldable pub packing-of : OrRefused (List ℕ) → Packing

@@ -2,7 +2,8 @@
 ghost use mathlib.Core.Path.{_≡_};
 ghost use Prim.Native.Nat.{_+_, _*_, _^_, _≤_, _<_};
 ghost use lib.ListN.{length, getD};
-ghost use Rattle.laws.specs.Packed.{byte-count, field-at, put-at};
+ghost use Rattle.laws.specs.Packed.{byte-count, field-at};
+ghost use Rattle.laws.specs.inner.Put.{put-at};
 
 // How many bytes hold so many bits.
 pub fn bytes_for(bits: usize) -> usize

@@ -6,7 +6,7 @@ ghost use Rattle.table.specs.Limits.{slot-limit};
 ghost use Rattle.table.specs.Link.{value-counts};
 ghost use Rattle.model.specs.Result.{pair};
 ghost use Rattle.cards.specs.Forms.{change-fault};
-ghost use Rattle.cards.specs.Cards.{counts-in};
+ghost use Rattle.cards.specs.inner.Fitting.{counts-in};
 use table::SLOTS;
 use table::Table;
 

@@ -10,8 +10,8 @@ use native.Mathlib.Omega.{arith}
 use lib.Dec.{T}
 use lib.ListN.{length}
 use Rattle.laws.proofs.Equations.{from-true}
-use Rattle.table.specs.Limits.{pair-places}
-use Rattle.circles.specs.Links.{row-words, all-words, linked, join-words, join-linked, join-through, close-through}
+use Rattle.table.specs.inner.Flat.{pair-places}
+use Rattle.circles.specs.inner.Links.{row-words, all-words, linked, join-words, join-linked, join-through, close-through}
 use Rattle.circles.proofs.Leading.{join-over, join-here}
 use Rattle.circles.proofs.Links.{join-length, join-kept, join-gets, join-from}
 

@@ -15,8 +15,8 @@ use Rattle.laws.proofs.Equations.{from-true}
 use Rattle.laws.proofs.Flags.{flag-here, flag-kept, flag-from}
 use Rattle.model.specs.Rules.{Pair, among}
 use Rattle.model.proofs.Pairs.{same-refl, same-eq}
-use Rattle.table.specs.Flat.{place-of}
-use Rattle.circles.specs.Links.{linked, leads-to, flag-leading, connected, with-flagged, some-leads}
+use Rattle.table.specs.inner.Flat.{place-of}
+use Rattle.circles.specs.inner.Links.{linked, leads-to, flag-leading, connected, with-flagged, some-leads}
 
 -- Where a place leads.
 pub leads-i : (ws : List ℕ) (p : ℕ) (q : Pair) (qs : List Pair) → T (among q qs) → (p ≡ place-of q) ⊎ T (linked ws p (place-of q)) → T (leads-to ws p qs)

@@ -13,10 +13,9 @@ use Rattle.laws.proofs.Truth.{or-l, or-r, or-e}
 use Rattle.laws.proofs.Equations.{from-true}
 use Rattle.model.specs.Rules.{Pair, among}
 use Rattle.model.proofs.Pairs.{same-refl, same-eq}
-use Rattle.table.specs.Limits.{pair-places}
-use Rattle.table.specs.Flat.{Placed, place-of}
+use Rattle.table.specs.inner.Flat.{Placed, place-of, pair-places}
 use Rattle.table.proofs.Flat.{placed-inside}
-use Rattle.circles.specs.Links.{all-words, linked, add-link, add-links, link-all}
+use Rattle.circles.specs.inner.Links.{all-words, linked, add-link, add-links, link-all}
 use Rattle.circles.proofs.Links.{link-length, link-here, link-kept, link-from}
 
 -- Every pair of a list has a place.

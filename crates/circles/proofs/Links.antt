@@ -16,8 +16,8 @@ use Rattle.laws.proofs.Truth.{or-l, or-r, or-e}
 use Rattle.laws.proofs.Equations.{from-true, either}
 use Rattle.laws.proofs.Words.{bit-or, bit-none, bit-own, bit-other}
 use Rattle.laws.proofs.Filled.{replicate-at}
-use Rattle.table.specs.Limits.{pair-places}
-use Rattle.circles.specs.Links.{row-words, all-words, word-at, linked, no-links, add-link, join-words}
+use Rattle.table.specs.inner.Flat.{pair-places}
+use Rattle.circles.specs.inner.Links.{row-words, all-words, word-at, linked, no-links, add-link, join-words}
 
 pub no-links-length : length no-links ≡ all-words
 unfolding no-links

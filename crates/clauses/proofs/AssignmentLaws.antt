@@ -22,8 +22,8 @@ use Rattle.grammar.specs.Limits.{max-assignments}
 use Rattle.grammar.specs.Files.{Slot}
 use Rattle.grammar.specs.Reading.{Part, took, stop, _then_, expects, a-name, unassigned, read-slot, read-value, read-target, read-assignment, read-assignments, read-assign, no-assignment}
 use Rattle.model.specs.Result.{pair}
-use Rattle.steps.specs.Places.{which, one, other, neither}
-use Rattle.clauses.specs.Assignments.{assignment-list, Unused-zero, pairs-in, value-assignment, single-assignment, Assignment-lies}
+use Rattle.steps.specs.inner.Places.{which, one, other, neither}
+use Rattle.clauses.specs.inner.Assignments.{assignment-list, Unused-zero, pairs-in, value-assignment, single-assignment, Assignment-lies}
 use Rattle.clauses.specs.declared.assignments.Assignments.{Assignments}
 use Rattle.clauses.specs.declared.assignments.AssignmentRead.{AssignmentRead}
 use Rattle.clauses.specs.declared.assignments.AssignmentRead.the-variants as read

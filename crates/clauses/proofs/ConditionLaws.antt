@@ -9,7 +9,7 @@ use lib.ListN.{take, set}
 use borrow.Author.Tests.{eq-eqb, ne-eqb}
 use types.Run.{OneOf, miss}
 use denote.Enum.Declared.{tagOf}
-use Rattle.laws.specs.Filled.{Filled}
+use Rattle.laws.specs.inner.Filled.{Filled}
 use Rattle.laws.proofs.Filled.{filled-used}
 use Rattle.laws.proofs.Lists.{map-append}
 use Rattle.text.specs.Tokens.{Token, word, NOT, AND, THEN, TRUE}
@@ -23,7 +23,7 @@ use Rattle.table.specs.declared.Literal.{Literal}
 use Rattle.grammar.specs.Files.{Slot}
 use Rattle.grammar.specs.Reading.{took, stop, expects, fork, read-literal, no-literal, read-literals, read-condition}
 use Rattle.grammar.specs.Limits.{max-literals}
-use Rattle.steps.specs.Places.{fault-of, shown-past, which, one, other, neither}
+use Rattle.steps.specs.inner.Places.{fault-of, shown-past, which, one, other, neither}
 use Rattle.steps.proofs.Places.{follow, fork-which, next-is, next-not}
 use Rattle.clauses.proofs.ListLaws as lists
 

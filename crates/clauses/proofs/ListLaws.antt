@@ -5,7 +5,7 @@ use mathlib.Core.Path.{_≡_, ap, _∙_}
 use mathlib.Core.List.{List, [], _∷_, _++_}
 use Rattle.text.specs.Tokens.{Token}
 use Rattle.grammar.specs.Reading.{Part, took, stop, _then_, read-list}
-use Rattle.steps.specs.Places.{which, one, other, neither}
+use Rattle.steps.specs.inner.Places.{which, one, other, neither}
 use Rattle.steps.proofs.Places.{follow, fork-which}
 
 module _ {A : Type 0} (each : List A → List Token → Part A) (none : List A → List Token → Part (List A)) (sep end : ℕ) where

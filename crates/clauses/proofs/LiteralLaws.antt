@@ -17,8 +17,8 @@ use Rattle.text.proofs.Cut.{place-le}
 use Rattle.grammar.specs.Files.{Slot, spellings, slot-names, place-in}
 use Rattle.grammar.specs.Reading.{Part, took, stop, _then_, a-name, known-slot, read-slot, read-value, read-literal, plain-literal}
 use Rattle.model.specs.Result.{pair}
-use Rattle.steps.specs.Places.{shown-past, which, one, other, neither}
-use Rattle.clauses.specs.Literals.{value-literal, Literal-lies}
+use Rattle.steps.specs.inner.Places.{shown-past, which, one, other, neither}
+use Rattle.clauses.specs.inner.Literals.{value-literal, Literal-lies}
 use Rattle.clauses.specs.declared.literals.LiteralRead.{LiteralRead}
 use Rattle.clauses.specs.declared.literals.LiteralRead.the-variants as read
 use Rattle.steps.proofs.Places.{no-word, follow, fork-which}

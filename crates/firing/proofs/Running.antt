@@ -16,7 +16,7 @@ use Rattle.laws.specs.Numbers.{Numbered}
 use Rattle.laws.specs.Tabulated.{tabulate}
 use Rattle.laws.proofs.Equations.{from-true, either}
 use Rattle.laws.proofs.Numbers.{is-false}
-use Rattle.laws.specs.Flags.{flags-set}
+use Rattle.laws.specs.inner.Flags.{flags-set}
 use Rattle.laws.proofs.Flags.{flags-more, flags-top}
 use Rattle.laws.proofs.Tabulated.{is-tabulate}
 use Rattle.model.specs.Rules.{enabled}
@@ -27,16 +27,16 @@ use Rattle.model.proofs.Orders.{Ready}
 use Rattle.model.proofs.Loop.{Reached, start, level-fires, levels-end}
 use Rattle.model.proofs.Exists.{loop-end}
 use Rattle.table.specs.declared.Table.{Table}
-use Rattle.table.specs.Limits.{rule-limit, pair-places}
+use Rattle.table.specs.Limits.{rule-limit}
 use Rattle.table.specs.Shape.{zero-rule, Shaped}
 use Rattle.table.specs.Link.{rule-of, rules-of, assignments-of, stratum-at}
-use Rattle.table.specs.Flat.{set-of, flags-of, pairs-of, add-pairs}
-use Rattle.table.specs.Fits.{TableFits}
+use Rattle.table.specs.inner.Flat.{set-of, flags-of, pairs-of, add-pairs, pair-places}
+use Rattle.table.specs.inner.Fits.{TableFits}
 use Rattle.table.proofs.Link.{rule-at-is}
 use Rattle.table.proofs.Fits.{assigned-placed, count-of, number}
 use Rattle.table.proofs.Flat.{added, added-length, pairs-of-set, is-flags}
 use Rattle.firing.specs.declared.Firing.{Firing}
-use Rattle.firing.specs.Firing.{fired-in, carried-firing}
+use Rattle.firing.specs.inner.Firing.{fired-in, carried-firing}
 use Rattle.firing.proofs.Sorted.{Sorts, stratum-small}
 
 -- In a pass the flags of fired rules are kept, and where something fired there are more.

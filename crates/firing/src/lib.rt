@@ -2,7 +2,7 @@
 pub mod order;
 
 ghost use mathlib.Core.Path.{_≡_};
-ghost use Rattle.firing.specs.Firing.{CanFire, table-firing};
+ghost use Rattle.firing.specs.inner.Firing.{CanFire, table-firing};
 use table::PAIRS;
 use table::RULES;
 use table::SLOTS;

@@ -6,3 +6,4 @@ pub mod Reading
 pub mod Pieces
 pub mod Standing
 pub mod Refusals
+pub mod TableFor

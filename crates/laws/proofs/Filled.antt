@@ -8,7 +8,8 @@ use mathlib.Core.List.{List, [], _∷_, _++_, append-assoc}
 use mathlib.Core.Logic.{⊎-elim}
 use lib.ListN.{length, getD, length-append, take, drop, set, replicate, length-set, length-replicate, take-append-drop, getD-replicate, List·getD-append, List·getD-eq-default}
 use lib.Seq.{length-take-le, take-suc-set, take-append-seam}
-use Rattle.laws.specs.Filled.{filled, Filled}
+use Rattle.laws.specs.Filled.{filled}
+use Rattle.laws.specs.inner.Filled.{Filled}
 use Rattle.laws.proofs.Truth.{le-or-lt}
 
 -- An array of one value has it at every place, as reading past the end gives.

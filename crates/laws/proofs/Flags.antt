@@ -11,7 +11,7 @@ use lib.Dec.{T, eqb}
 use lib.ListN.{length, getD, set, List·getD-eq-default}
 use lib.Seq.{getD-set-same, getD-set-other}
 use borrow.Author.Tests.{eqb-true, eqb-false}
-use Rattle.laws.specs.Flags.{flags-set, all-set}
+use Rattle.laws.specs.inner.Flags.{flags-set, all-set}
 use Rattle.laws.proofs.Truth.{and-l, and-r, and-i, le-or-lt}
 
 pub flag-here : (bs : List Bool) (i : ℕ) → i < length bs → T (getD (set bs i true) i false)

@@ -8,7 +8,8 @@ use mathlib.Core.Bool.{Bool, true, false, cond}
 use mathlib.Core.Logic.{_⊎_, inl, inr, ⊎-elim}
 use lib.Dec.{T}
 use Rattle.laws.specs.Truth.{_∨ᵇ_, notᵇ}
-use Rattle.laws.specs.Numbers.{Numbered, some-of, first-of, how-many, total}
+use Rattle.laws.specs.Numbers.{Numbered, some-of, first-of, how-many}
+use Rattle.laws.specs.inner.Total.{total}
 use Rattle.laws.proofs.Truth.{or-l, or-r, or-e, not-e}
 
 pub some-i : (f : ℕ → Bool) (k i : ℕ) → Numbered k i → T (f i) → T (some-of f k)

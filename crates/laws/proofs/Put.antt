@@ -10,7 +10,8 @@ use lib.ListN.{length, getD, take, drop, set, replicate, length-append, length-d
 use lib.Seq.{drop-drop, take-at, drop-at, take-append-le, drop-append-le, drop-append-add, drop-cons, set-split, set-at, ext-getD, getD-take, getD-append-add, getD-drop, length-take-le}
 use lib.Pow.{pow-pos, pow-add, shl-lt, shr-lt}
 use Rattle.laws.specs.Tabulated.{tabulate}
-use Rattle.laws.specs.Packed.{bits, byte-bits, byte-count, byte-at, pack, field-at, put-at}
+use Rattle.laws.specs.Packed.{bits, byte-bits, byte-count, byte-at, pack, field-at}
+use Rattle.laws.specs.inner.Put.{put-at}
 use Rattle.laws.proofs.Tabulated.{tabulate-length, tabulate-at}
 use Rattle.laws.proofs.Packed.{bits-length, bits-split, bits-join, bits-more, pack-bytes, bits-zero, number-bits, drop-bytes, pack-length, pack-at, byte-at-bits, byte-at-same, pack-same, pack-append, pad-bit}
 

@@ -5,7 +5,8 @@ use native.Mathlib.Omega.{arith}
 use mathlib.Core.Path.{_≡_, refl, ap, ap₂, _∙_}
 use mathlib.Core.List.{List, _∷_}
 use lib.ListN.{getD, length}
-use Rattle.laws.specs.Rearranged.{Perm, p-nil, p-skip, p-swap, p-trans, under, swap01, goes, p-sym}
+use Rattle.laws.specs.Rearranged.{Perm, p-nil, p-skip, p-swap, p-trans, under, swap01, goes}
+use Rattle.laws.specs.inner.Back.{p-sym}
 
 pub under-under : (h k : ℕ → ℕ) → ((i : ℕ) → k (h i) ≡ i) → (i : ℕ) → under k (under h i) ≡ i
 under-under h k e zero = refl

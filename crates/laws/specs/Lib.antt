@@ -4,9 +4,9 @@ pub mod Below
 pub mod Tabulated
 pub mod Listed
 pub mod Words
-pub mod Flags
 pub mod Filled
 pub mod Rearranged
 pub mod Quoted
 pub mod Packed
 pub mod Answers
+pub mod inner

@@ -22,8 +22,3 @@ first-of f (suc k) = cond (some-of f k) (first-of f k) (cond (f (suc k)) (suc k)
 unfoldable pub how-many : (ℕ → Bool) → ℕ → ℕ
 how-many f zero = 0
 how-many f (suc k) = cond (f (suc k)) 1 0 + how-many f k
-
--- The sum over 1 to k.
-unfoldable pub total : (ℕ → ℕ) → ℕ → ℕ
-total f zero = 0
-total f (suc k) = f (suc k) + total f k

@@ -1,5 +1,5 @@
 -- Packed fields, for every format: document 01, 'Cards and slips'. Fields are packed most significant bit first; zero bits fill the last byte.
-use Prim.Native.Nat.{ℕ, zero, suc, _+_, _*_, _^_, _/_, _%_, _<_}
+use Prim.Native.Nat.{ℕ, zero, suc, _+_, _*_, _^_, _/_, _<_}
 use mathlib.Core.Bool.{Bool, false, cond}
 use mathlib.Core.List.{List, [], _∷_, _++_}
 use lib.Dec.{ltb}
@@ -73,7 +73,3 @@ bits-in (w ∷ ws) = w + bits-in ws
 -- The number of a field has no more bits than the field.
 abbrev pub field-fits : Field → Bool
 field-fits f = ltb (f .number) (2 ^ f .width)
-
--- Bytes with a field of w bits put at place p: the bits before it stay, zero bits fill the byte that it ends in, and the bytes after that one stay.
-unfoldable pub put-at : List ℕ → ℕ → ℕ → ℕ → List ℕ
-put-at ys p w x = take (p / 8) ys ++ pack (take (p % 8) (bits 8 (getD ys (p / 8) 0)) ++ bits w x) ++ drop (byte-count (p + w)) ys

@@ -27,10 +27,3 @@ module _ {A : Type 0} where
   goes (p-skip p) i = under (goes p) i
   goes p-swap i = swap01 i
   goes (p-trans p q) i = goes q (goes p i)
-
-  -- The rearrangement back.
-  unfoldable pub p-sym : {l m : List A} → Perm l m → Perm m l
-  p-sym p-nil = p-nil
-  p-sym (p-skip p) = p-skip (p-sym p)
-  p-sym p-swap = p-swap
-  p-sym (p-trans p q) = p-trans (p-sym q) (p-sym p)

@@ -28,15 +28,15 @@ use Rattle.model.proofs.Justified.{justified-least, least-justified}
 use Rattle.model.proofs.Strata.{no-circle, least-i, least-e}
 use Rattle.table.specs.declared.Rule.{Rule}
 use Rattle.table.specs.declared.Table.{Table}
-use Rattle.table.specs.Limits.{row, pair-places}
+use Rattle.table.specs.Limits.{row}
 use Rattle.table.specs.Shape.{zero-rule, Shaped}
 use Rattle.table.specs.Link.{assignments-of, rule-of, rules-of, stratum-at}
-use Rattle.table.specs.Flat.{place-of}
-use Rattle.table.specs.Fits.{RuleFits, TableFits}
+use Rattle.table.specs.inner.Flat.{place-of, pair-places}
+use Rattle.table.specs.inner.Fits.{RuleFits, TableFits}
 use Rattle.table.proofs.Link.{rule-at-is, stratum-at-is}
 use Rattle.table.proofs.Flat.{same-place, placed-inside}
 use Rattle.table.proofs.Fits.{assigned-placed, count-of, number, tested-in}
-use Rattle.strata.specs.Heights.{asked-at, Small, raise-all}
+use Rattle.strata.specs.inner.Heights.{asked-at, Small, raise-all}
 use Rattle.leastness.specs.CarriesLeast.{carries-least}
 use Rattle.strata.proofs.Heights.{highest-ge, highest-lt, raise-ge, raise-hit, raise-from, raise-length}
 

@@ -14,10 +14,9 @@ use Rattle.laws.proofs.Truth.{or-l, or-r, or-e}
 use Rattle.laws.proofs.Equations.{either}
 use Rattle.model.specs.Rules.{Pair, among}
 use Rattle.model.proofs.Pairs.{same-refl, same-eq}
-use Rattle.table.specs.Limits.{pair-places}
-use Rattle.table.specs.Flat.{Placed, place-of}
+use Rattle.table.specs.inner.Flat.{Placed, place-of, pair-places}
 use Rattle.table.proofs.Flat.{placed-inside}
-use Rattle.leastness.specs.Chains.{needs-places, head-at, nexts-at, heads-with, nexts-with}
+use Rattle.leastness.specs.inner.Chains.{needs-places, head-at, nexts-at, heads-with, nexts-with}
 
 -- One place chained, or not.
 pub at-level : (hs : List ℕ) (s k o : ℕ) (heads nexts : List ℕ) → getD hs k 0 ≡ s → (set heads k (o + 1) ≡ head-at hs s k o heads) × (set nexts o (getD heads k 0) ≡ nexts-at hs s k o heads nexts)

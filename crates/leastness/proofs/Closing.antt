@@ -10,7 +10,7 @@ use native.Mathlib.Omega.{arith}
 use lib.Dec.{T}
 use lib.ListN.{length, getD, set, take, replicate, length-set, length-replicate, length-map, length-take}
 use Rattle.laws.specs.Numbers.{Numbered}
-use Rattle.laws.specs.Flags.{flags-set}
+use Rattle.laws.specs.inner.Flags.{flags-set}
 use Rattle.laws.proofs.Flags.{flag-here, flag-kept, flag-from}
 use Rattle.laws.proofs.Filled.{replicate-at}
 use Rattle.model.specs.Rules.{Pair, Literal, among}
@@ -21,17 +21,17 @@ use Rattle.model.specs.Justified.{Justified, at-first, one-above}
 use Rattle.model.proofs.Pairs.{needed-tested, barred-tested, meet-i}
 use Rattle.table.specs.declared.Rule.{Rule}
 use Rattle.table.specs.declared.Table.{Table}
-use Rattle.table.specs.Limits.{rule-limit, pair-places}
+use Rattle.table.specs.Limits.{rule-limit}
 use Rattle.table.specs.Shape.{zero-rule, Shaped}
 use Rattle.table.specs.Link.{assignments-of, rule-of, rules-of, stratum-at, literals-of}
-use Rattle.table.specs.Flat.{place-of}
-use Rattle.table.specs.Fits.{RuleFits, TableFits}
+use Rattle.table.specs.inner.Flat.{place-of, pair-places}
+use Rattle.table.specs.inner.Fits.{RuleFits, TableFits}
 use Rattle.table.proofs.Link.{rule-at-is, stratum-at-is}
 use Rattle.table.proofs.Fits.{number, tested-in, assigned-in}
-use Rattle.leastness.specs.OneBelow.{one-below}
+use Rattle.leastness.specs.inner.OneBelow.{one-below}
 use Rattle.leastness.proofs.OneBelow.{below-e}
-use Rattle.leastness.specs.Chains.{needs-places, heads-with, nexts-with}
-use Rattle.leastness.specs.Flagging.{Flagging, flagging, flag-all}
+use Rattle.leastness.specs.inner.Chains.{needs-places, heads-with, nexts-with}
+use Rattle.leastness.specs.inner.Flagging.{Flagging, flagging, flag-all}
 use Rattle.leastness.proofs.Flagging.{Queued, FlaggedAll, flagged-all}
 use Rattle.leastness.proofs.Chains.{On, first, Falls, Linked, LinkedAll, Kept, linked-all, on-none}
 use Rattle.leastness.proofs.Carried.{Carried}

@@ -18,10 +18,9 @@ use Rattle.laws.proofs.Numbers.{is-false}
 use Rattle.laws.proofs.Flags.{flag-here, flag-kept, flag-from, flags-more, flags-top}
 use Rattle.model.specs.Rules.{Pair, among}
 use Rattle.model.proofs.Pairs.{same-refl, same-eq}
-use Rattle.table.specs.Limits.{pair-places}
-use Rattle.table.specs.Flat.{Placed, place-of}
+use Rattle.table.specs.inner.Flat.{Placed, place-of, pair-places}
 use Rattle.table.proofs.Flat.{placed-inside}
-use Rattle.leastness.specs.Flagging.{Flagging, flagging, Room, flag-one, flag-all}
+use Rattle.leastness.specs.inner.Flagging.{Flagging, flagging, Room, flag-one, flag-all}
 
 -- Pairs flagged.
 pub flag-off : (hs : List ℕ) (s : ℕ) (p : Pair) (ps : List Pair) (m : Flagging) → (getD hs (place-of p) 0 ≡ s → ⊥) → flag-all hs s (p ∷ ps) m ≡ flag-all hs s ps m

@@ -10,7 +10,7 @@ use native.Mathlib.Omega.{arith}
 use lib.Dec.{T}
 use lib.ListN.{length, getD, set}
 use Rattle.laws.specs.Numbers.{Numbered}
-use Rattle.laws.specs.Flags.{all-set}
+use Rattle.laws.specs.inner.Flags.{all-set}
 use Rattle.laws.proofs.Truth.{bool-ext, le-or-lt}
 use Rattle.laws.proofs.Flags.{flag-here, flag-kept, all-set-i, all-set-e}
 use Rattle.model.specs.Rules.{Pair, among}
@@ -23,15 +23,15 @@ use Rattle.model.proofs.Justified.{all-justified}
 use Rattle.table.specs.declared.Table.{Table}
 use Rattle.table.specs.Shape.{zero-rule, Shaped}
 use Rattle.table.specs.Link.{assignments-of, rules-of, stratum-at}
-use Rattle.table.specs.Flat.{place-of}
-use Rattle.table.specs.Fits.{TableFits}
+use Rattle.table.specs.inner.Flat.{place-of}
+use Rattle.table.specs.inner.Fits.{TableFits}
 use Rattle.table.proofs.Flat.{same-place}
 use Rattle.table.proofs.Fits.{count-of, number, tested-in, assigned-in}
-use Rattle.strata.specs.Heights.{asked-at}
+use Rattle.strata.specs.inner.Heights.{asked-at}
 use Rattle.strata.proofs.Heights.{highest-ge}
 use Rattle.leastness.proofs.OneBelow.{below-i}
-use Rattle.leastness.specs.Chains.{needs-places}
-use Rattle.leastness.specs.Flagging.{Flagging, flagging, flag-all}
+use Rattle.leastness.specs.inner.Chains.{needs-places}
+use Rattle.leastness.specs.inner.Flagging.{Flagging, flagging, flag-all}
 use Rattle.leastness.specs.CarriesLeast.{carries-least}
 use Rattle.leastness.proofs.Flagging.{FlaggedAll}
 use Rattle.leastness.proofs.Chains.{On, first, later, Falls, on-none, on-split}

@@ -13,8 +13,8 @@ use Rattle.laws.proofs.Truth.{or-l, or-r, or-e}
 use Rattle.laws.proofs.Equations.{from-true}
 use Rattle.model.specs.Rules.{Pair, among}
 use Rattle.model.proofs.Pairs.{same-refl, same-eq}
-use Rattle.table.specs.Flat.{place-of}
-use Rattle.leastness.specs.OneBelow.{one-below}
+use Rattle.table.specs.inner.Flat.{place-of}
+use Rattle.leastness.specs.inner.OneBelow.{one-below}
 
 pub below-here : (hs : List ℕ) (s : ℕ) (p : Pair) (ps : List Pair) → getD hs (place-of p) 0 + 1 ≡ s → one-below hs s (p ∷ ps) ≡ true
 unfolding one-below _∨ᵇ_

@@ -1,4 +1,2 @@
 pub mod CarriesLeast
-pub mod OneBelow
-pub mod Chains
-pub mod Flagging
+pub mod inner

@@ -3,15 +3,16 @@
 // In time that grows with the rules and their literals: a pair is flagged once, and a place where a pair is needed is looked at once.
 ghost use mathlib.Core.Path.{_≡_};
 ghost use Prim.Native.Nat.{_*_, _≤_, _<_};
-ghost use Rattle.laws.specs.Flags.{all-set};
+ghost use Rattle.laws.specs.inner.Flags.{all-set};
 ghost use Rattle.model.specs.Strata.{needed, barred};
-ghost use Rattle.table.specs.Limits.{rule-limit, pair-places};
+ghost use Rattle.table.specs.Limits.{rule-limit};
+ghost use Rattle.table.specs.inner.Flat.{pair-places};
 ghost use Rattle.table.specs.Link.{rule-of, assignments-of};
-ghost use Rattle.table.specs.Fits.{RuleFits};
-ghost use Rattle.strata.specs.Heights.{Small};
-ghost use Rattle.leastness.specs.OneBelow.{one-below};
-ghost use Rattle.leastness.specs.Chains.{needs-places, head-at, nexts-at, heads-with, nexts-with};
-ghost use Rattle.leastness.specs.Flagging.{flagging, Room, flag-all};
+ghost use Rattle.table.specs.inner.Fits.{RuleFits};
+ghost use Rattle.strata.specs.inner.Heights.{Small};
+ghost use Rattle.leastness.specs.inner.OneBelow.{one-below};
+ghost use Rattle.leastness.specs.inner.Chains.{needs-places, head-at, nexts-at, heads-with, nexts-with};
+ghost use Rattle.leastness.specs.inner.Flagging.{flagging, Room, flag-all};
 use table::PAIRS;
 use table::RULES;
 use table::Rule;

@@ -13,14 +13,16 @@ use Rattle.laws.specs.Filled.{filled}
 use Rattle.text.specs.Tokens.{Name}
 use Rattle.grammar.specs.Files.{Slot, spellings, slot-names, values-of, no-slot}
 use Rattle.table.specs.declared.Name as stretch
-use Rattle.table.specs.Limits.{slot-limit, value-limit, row, pair-places}
+use Rattle.table.specs.Limits.{slot-limit, value-limit, row}
+use Rattle.table.specs.inner.Flat.{pair-places}
 use Rattle.table.specs.Shape.{zero-name}
 use Rattle.laws.proofs.Lists.{map-append}
 use Rattle.laws.proofs.Truth.{le-or-lt}
-use Rattle.steps.specs.Places.{name-past, Named-lies}
-use Rattle.steps.specs.Spans.{span, Span-lies, Listed}
-use Rattle.lines.specs.Index.{span-name, span-names, span-slot, Spanned, row-of, Indexed, name-for, slot-for, stretch-at, slot-by}
-use Rattle.lines.specs.Lines.{Remainder, Declared-lies, Values-lie}
+use Rattle.steps.specs.inner.Places.{name-past, Named-lies}
+use Rattle.steps.specs.inner.Spans.{span, Span-lies, Listed}
+use Rattle.lines.specs.inner.Index.{span-name, span-names, span-slot, Spanned, row-of, Indexed, stretch-at, slot-by}
+use Rattle.grammar.specs.TableFor.{name-for, slot-for}
+use Rattle.lines.specs.inner.Lines.{Remainder, Declared-lies, Values-lie}
 use Rattle.steps.specs.declared.step.Named.the-variants as named
 use Rattle.lines.specs.declared.Declared.the-variants as declared
 

@@ -11,10 +11,10 @@ use Rattle.grammar.specs.Limits.{max-values}
 use Rattle.grammar.specs.Files.{Slot, spellings, slot-names}
 use Rattle.grammar.specs.Reading.{Part, took, stop, _then_, expects, a-name, new, new-name, no-value, read-list, read-values, read-line}
 use Rattle.table.specs.Limits.{value-limit}
-use Rattle.steps.specs.Places.{Choice, which, step-part, outcome-part}
-use Rattle.steps.specs.Spans.{Span-lies}
-use Rattle.lines.specs.Index.{span-name, span-names}
-use Rattle.lines.specs.Lines.{span-limit, Remainder, read-head, Values-lie, Line-lies}
+use Rattle.steps.specs.inner.Places.{Choice, which, step-part, outcome-part}
+use Rattle.steps.specs.inner.Spans.{Span-lies}
+use Rattle.lines.specs.inner.Index.{span-name, span-names}
+use Rattle.lines.specs.inner.Lines.{span-limit, Remainder, read-head, Values-lie, Line-lies}
 use Rattle.steps.specs.declared.step.Step.{Step}
 use Rattle.steps.specs.declared.step.Step.the-variants as step
 use Rattle.steps.proofs.Places.{follow, fork-which}

@@ -12,7 +12,7 @@ use Rattle.table.specs.declared.Rule.{Rule}
 use Rattle.table.specs.Limits.{row, literal-limit}
 use Rattle.table.specs.Shape.{zero-literal, RuleShaped}
 use Rattle.table.specs.Link.{literal-of, rule-of}
-use Rattle.table.specs.Flat.{place-of, set-of}
+use Rattle.table.specs.inner.Flat.{place-of, set-of}
 use Rattle.table.proofs.Flat.{set-in}
 use Rattle.table.proofs.Walks.{literals-from, literals-start, literals-next, literals-end}
 

@@ -7,7 +7,8 @@ use mathlib.Core.List.{List, map}
 use lib.Dec.{T}
 use lib.ListN.{length}
 use Rattle.laws.specs.Numbers.{Numbered}
-use Rattle.laws.specs.Rearranged.{Perm, under, goes, p-sym}
+use Rattle.laws.specs.Rearranged.{Perm, under, goes}
+use Rattle.laws.specs.inner.Back.{p-sym}
 use Rattle.laws.proofs.Rearranged.{p-sym-sym}
 use Rattle.model.specs.Rules.{Pair, Rule}
 use Rattle.model.specs.Orders.{names, changes, firing-order, whole-order}

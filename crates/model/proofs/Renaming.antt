@@ -9,7 +9,8 @@ use lib.Dec.{T}
 use lib.ListN.{length}
 use Rattle.laws.specs.Truth.{_∨ᵇ_}
 use Rattle.laws.specs.Numbers.{Numbered}
-use Rattle.laws.specs.Rearranged.{Perm, under, goes, p-sym}
+use Rattle.laws.specs.Rearranged.{Perm, under, goes}
+use Rattle.laws.specs.inner.Back.{p-sym}
 use Rattle.laws.proofs.Truth.{bool-ext}
 use Rattle.laws.proofs.Rearranged.{under-under, under-at, goes-back, back-goes, goes-at, goes-lt}
 use Rattle.model.specs.Rules.{Pair, Pairs, Rule, among}

@@ -9,7 +9,8 @@ use mathlib.Core.List.{List}
 use mathlib.Core.Logic.{_⊎_, inl, inr, ⊎-elim, _↔_}
 use lib.Dec.{T}
 use lib.ListN.{length}
-use Rattle.laws.specs.Numbers.{Numbered, how-many, total}
+use Rattle.laws.specs.Numbers.{Numbered, how-many}
+use Rattle.laws.specs.inner.Total.{total}
 use Rattle.laws.proofs.Truth.{or-l, or-r, or-e, not-i, le-or-lt}
 use Rattle.laws.proofs.Numbers.{how-many-top, how-many-le, how-many-lt, total-lt, total-top, settles}
 use Rattle.model.specs.Rules.{Rule}

@@ -16,10 +16,11 @@ use Rattle.grammar.specs.Meaning.{Is-file}
 use Rattle.grammar.proofs.Declared.{Declared-pair, Declared-rule, Valued, file-declared}
 use Rattle.laws.specs.Listed.{Each}
 use Rattle.laws.proofs.Listed.{each-map, each-imply}
-use Rattle.style.specs.Printed.{print, Named, Well-named}
-use Rattle.writing.specs.Puts.{slot-line-most, rule-line-most, longest}
-use Rattle.writing.specs.Written.{followed, separated, test-bytes, literal-bytes, condition-bytes, assign-bytes, rule-bytes, line-bytes, lines-joined}
-use Rattle.printing.specs.Lines.{pair-bytes, slot-bytes, file-bytes}
+use Rattle.style.specs.Printed.{print}
+use Rattle.style.specs.inner.Named.{Named, Well-named}
+use Rattle.writing.specs.inner.Puts.{slot-line-most, rule-line-most, longest}
+use Rattle.writing.specs.inner.Written.{followed, separated, test-bytes, literal-bytes, condition-bytes, assign-bytes, rule-bytes, line-bytes, lines-joined}
+use Rattle.printing.specs.inner.Lines.{pair-bytes, slot-bytes, file-bytes}
 use Rattle.style.proofs.Formed.{file-formed}
 use Rattle.style.proofs.Spelled.{slot-formed, value-formed}
 use Rattle.printing.proofs.Written.{print-written}

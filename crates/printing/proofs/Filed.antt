@@ -21,27 +21,27 @@ use Rattle.grammar.proofs.Stands.{file-stands}
 use Rattle.grammar.proofs.Declared.{Declared-pair, slot-declared, value-declared, Declared-rule, Valued, Declared-file, file-declared}
 use Rattle.table.specs.declared.Table.{Table}
 use Rattle.table.specs.Shape.{Shaped, zero-slot, zero-rule}
-use Rattle.table.specs.Fits.{TableFits}
+use Rattle.table.specs.inner.Fits.{TableFits}
 use Rattle.table.specs.Limits.{value-limit, row}
-use Rattle.table.specs.Flat.{place-of}
+use Rattle.table.specs.inner.Flat.{place-of}
 use Rattle.table.specs.Link.{assignment-of, rule-of}
 use Rattle.table.proofs.Link.{rules-length, rule-is}
 use Rattle.strata.specs.Layered.{with-strata}
 use Rattle.soundness.specs.Sound.{sound, well-formed}
 use Rattle.leastness.specs.CarriesLeast.{carries-least}
 use Rattle.soundness.proofs.WellFormed.{well-formed-e, well-formed-fits}
-use Rattle.lines.specs.Index.{Spanned, row-of, Indexed}
-use Rattle.reader.specs.Tables.{table-for}
+use Rattle.lines.specs.inner.Index.{Spanned, row-of, Indexed}
+use Rattle.grammar.specs.TableFor.{table-for}
 use Rattle.reader.specs.declared.Outcome.the-variants.{Accepted}
 use Rattle.rule_file.specs.Whole.{reading}
 use Rattle.rule_file.proofs.Answers.{accepted-table, reading-passes}
 use Rattle.style.specs.Printed.{print}
 use Rattle.style.proofs.Formed.{file-formed}
-use Rattle.writing.specs.Puts.{longest}
-use Rattle.writing.specs.Written.{Pairing, separated, test-bytes, literal-bytes, condition-bytes, assign-bytes, rule-bytes, line-bytes, lines-joined}
-use Rattle.printing.specs.Lines.{slot-bytes, pair-bytes, file-bytes}
-use Rattle.writing.specs.Spelled.{spelled, spelled-pair, spelled-values, spelled-line, spelled-lines, spelled-rules, spelled-file, LinesFit}
-use Rattle.printing.specs.Tabled.{Tabled}
+use Rattle.writing.specs.inner.Puts.{longest}
+use Rattle.writing.specs.inner.Written.{Pairing, separated, test-bytes, literal-bytes, condition-bytes, assign-bytes, rule-bytes, line-bytes, lines-joined}
+use Rattle.printing.specs.inner.Lines.{slot-bytes, pair-bytes, file-bytes}
+use Rattle.writing.specs.inner.Spelled.{spelled, spelled-pair, spelled-values, spelled-line, spelled-lines, spelled-rules, spelled-file, LinesFit}
+use Rattle.printing.specs.inner.Tabled.{Tabled}
 use Rattle.printing.proofs.Tabled.{slot-there}
 use Rattle.printing.proofs.Written.{print-written}
 use Rattle.printing.proofs.Bounded.{print-bounded}

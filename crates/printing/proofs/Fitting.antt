@@ -15,7 +15,7 @@ use Rattle.reader.specs.declared.Outcome.the-variants.{Accepted, Refused}
 use Rattle.rule_file.specs.Whole.{reading}
 use Rattle.style.specs.Printed.{print}
 use Rattle.printing.specs.declared.Printing.the-variants as printing
-use Rattle.writing.specs.Puts.{put-in}
+use Rattle.writing.specs.inner.Puts.{put-in}
 use Rattle.printing.specs.Printing.{print-of, fitted, after-reading, print-into, printing-of}
 use Rattle.writing.proofs.Putting.{put-front}
 

@@ -22,14 +22,14 @@ use Rattle.table.specs.declared.Table.{Table}
 use Rattle.table.specs.Limits.{slot-limit, value-limit, row}
 use Rattle.table.specs.Shape.{zero-name, zero-slot}
 use Rattle.table.specs.Empty.{unused-slot}
-use Rattle.steps.specs.Spans.{span, Span-lies}
-use Rattle.lines.specs.Index.{span-name, span-names, span-slot, Spanned, Indexed, name-for, slot-for}
-use Rattle.lines.specs.Lines.{Values-lie}
+use Rattle.steps.specs.inner.Spans.{span, Span-lies}
+use Rattle.lines.specs.inner.Index.{span-name, span-names, span-slot, Spanned, Indexed}
+use Rattle.grammar.specs.TableFor.{name-for, slot-for}
+use Rattle.lines.specs.inner.Lines.{Values-lie}
 use Rattle.lines.proofs.Index.{indexed-more}
 use Rattle.rule_file.proofs.FileTable.{image-at}
-use Rattle.style.specs.Layout.{Is-name}
-use Rattle.style.specs.Printed.{Named, Well-named}
-use Rattle.printing.specs.Tabled.{span-of, SmallName, SmallNames, Tabled}
+use Rattle.style.specs.inner.Named.{Is-name, Named, Well-named}
+use Rattle.printing.specs.inner.Tabled.{span-of, SmallName, SmallNames, Tabled}
 
 -- A name has a letter.
 name-some : (letters : List ℕ) → Is-name letters → 0 < length letters

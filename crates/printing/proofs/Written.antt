@@ -19,8 +19,8 @@ use Rattle.style.specs.Layout.{token-bytes, tight, gap, layout}
 use Rattle.laws.specs.Listed.{Each}
 use Rattle.laws.proofs.Listed.{each-imply}
 use Rattle.style.specs.Printed.{literal-tree, condition-tree, assign-tree, assignment-tree, rule-tree, values-tree, line-tree, print}
-use Rattle.writing.specs.Written.{followed, separated, test-bytes, literal-bytes, condition-bytes, assign-bytes, rule-bytes, line-bytes, lines-joined}
-use Rattle.printing.specs.Lines.{pair-bytes, slot-bytes, file-bytes}
+use Rattle.writing.specs.inner.Written.{followed, separated, test-bytes, literal-bytes, condition-bytes, assign-bytes, rule-bytes, line-bytes, lines-joined}
+use Rattle.printing.specs.inner.Lines.{pair-bytes, slot-bytes, file-bytes}
 
 -- `unfolding laying` opens a layout.
 unfoldable laying : Unit {0}

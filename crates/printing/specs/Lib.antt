@@ -1,3 +1,2 @@
 pub mod Printing
-pub mod Lines
-pub mod Tabled
+pub mod inner

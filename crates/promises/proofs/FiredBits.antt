@@ -16,8 +16,8 @@ use Rattle.laws.proofs.Numbers.{is-false}
 use Rattle.laws.proofs.Tabulated.{tabulate-length, tabulate-at, is-tabulate}
 use Rattle.laws.proofs.Packed.{pack-bit}
 use Rattle.model.specs.Orders.{names}
-use Rattle.results.specs.Record.{fired-bits, ones-in}
-use Rattle.results.specs.Record as firing
+use Rattle.results.specs.Record.{ones-in}
+use Rattle.results.specs.inner.Record.{fired-bits, flag-record}
 use Rattle.results.proofs.Bits as bits
 use Rattle.response.specs.Ending.{fired-record}
 use Rattle.promises.specs.Agreement.{bit-of}
@@ -36,7 +36,7 @@ record-bit count ns only (suc i) =
 
 -- How many rules fired is how many are named.
 pub record-ones : (count : ℕ) (ns : List ℕ) → ones-in (fired-record count ns) ≡ how-many (names ns) count
-unfolding fired-record firing.flag-record fired-bits
+unfolding fired-record flag-record fired-bits
 record-ones count ns =
     ap (λ (bs : List Bool). ones-in (pack bs))
     (is-tabulate (λ i. getD (tabulate (λ j. names ns (suc j)) count) i false) count false (tabulate (λ j. names ns (suc j)) count) (tabulate-length (λ j. names ns (suc j)) count) (λ i h. refl))

@@ -22,7 +22,7 @@ use Rattle.grammar.specs.Reading.{Parsed, accepted, parse}
 use Rattle.grammar.specs.Refusals.{Fault, no-token, no-place, ends-inside, too-long, in-place}
 use Rattle.grammar.proofs.Refusals.{refusal-stands}
 use Rattle.strata.specs.Layered.{with-strata}
-use Rattle.reader.specs.Tables.{table-for}
+use Rattle.grammar.specs.TableFor.{table-for}
 use Rattle.reader.specs.declared.Outcome.the-variants.{Accepted, Refused}
 use Rattle.reader.specs.declared.FileRead.{FileRead}
 use Rattle.rule_file.specs.Whole.{layered, answered-whole, reading}

@@ -12,18 +12,20 @@ use Rattle.model.specs.Rules as model
 use Rattle.grammar.specs.Limits.{max-text}
 use Rattle.grammar.specs.Files.{Slot, File}
 use Rattle.grammar.specs.Reading.{Parsed, accepted, refused, parse, read-tokens, read-lines}
-use Rattle.table.specs.Limits.{slot-limit, rule-limit, pair-places, row}
+use Rattle.table.specs.Limits.{slot-limit, rule-limit, row}
+use Rattle.table.specs.inner.Flat.{pair-places}
 use Rattle.table.specs.Empty.{empty-table}
 use Rattle.table.specs.Link.{rule-of}
 use Rattle.table.specs.declared.Rule.{Rule}
 use Rattle.table.specs.declared.Table.{Table}
-use Rattle.steps.specs.Places.{tokens-past}
-use Rattle.steps.specs.Spans.{Span-lies}
-use Rattle.lines.specs.Index.{Indexed, span-slot, slot-by, slot-for}
-use Rattle.lines.specs.Lines.{Remainder, Values-lie}
-use Rattle.reader.specs.Rules.{Plain-rule}
-use Rattle.reader.specs.Statements.{read-on}
-use Rattle.reader.specs.Tables.{rule-for, table-for, file-read}
+use Rattle.steps.specs.inner.Places.{tokens-past}
+use Rattle.steps.specs.inner.Spans.{Span-lies}
+use Rattle.lines.specs.inner.Index.{Indexed, span-slot, slot-by}
+use Rattle.grammar.specs.TableFor.{slot-for, rule-for, table-for}
+use Rattle.lines.specs.inner.Lines.{Remainder, Values-lie}
+use Rattle.reader.specs.inner.Rules.{Plain-rule}
+use Rattle.reader.specs.inner.Statements.{read-on}
+use Rattle.reader.specs.Tables.{file-read}
 use Rattle.reader.specs.declared.Outcome.the-variants as outcome
 use Rattle.lines.proofs.Index.{indexed-none, indexed-more, slot-placed}
 use Rattle.lines.proofs.LineLaws.{remainder-whole, remainder-next}

@@ -8,8 +8,8 @@ use Rattle.model.specs.Rules.{Pair, Literal, Rule}
 use Rattle.grammar.specs.Files.{Slot}
 use Rattle.grammar.specs.Reading.{Part, took, stop, _then_, expects, read-slot, read-value, read-condition, read-assign, read-rule}
 use Rattle.model.specs.Result.{pair}
-use Rattle.reader.specs.Rules.{trigger-pair, read-trigger, read-rest, Plain-rule}
-use Rattle.steps.specs.Places.{step-part, outcome-part}
+use Rattle.reader.specs.inner.Rules.{trigger-pair, read-trigger, read-rest, Plain-rule}
+use Rattle.steps.specs.inner.Places.{step-part, outcome-part}
 use Rattle.steps.specs.declared.step.Step.{Step}
 use Rattle.steps.specs.declared.step.Step.the-variants as step
 use Rattle.laws.proofs.Filled.{filled-none}

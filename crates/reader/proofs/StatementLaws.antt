@@ -17,11 +17,11 @@ use denote.Enum.Declared.{tagOf}
 use Rattle.text.specs.declared.Token as code
 use Rattle.text.specs.declared.Token.the-variants as v
 use Rattle.text.proofs.Token as kinds
-use Rattle.steps.specs.Places.{shown-past}
-use Rattle.lines.specs.Index.{Indexed}
-use Rattle.clauses.specs.Literals.{Looked}
+use Rattle.steps.specs.inner.Places.{shown-past}
+use Rattle.lines.specs.inner.Index.{Indexed}
+use Rattle.clauses.specs.inner.Literals.{Looked}
 use Rattle.lines.proofs.Index.{indexed-slots, indexed-values}
-use Rattle.reader.specs.Statements.{read-on, Rule-next}
+use Rattle.reader.specs.inner.Statements.{read-on, Rule-next}
 
 longer : {A : Type 0} (xs : List A) (x : A) → length (xs ++ x ∷ []) ≡ suc (length xs)
 longer xs x = length-append xs (x ∷ []) ∙ omega arith

@@ -20,10 +20,8 @@ use Rattle.table.specs.declared.Rule.{Rule}
 use Rattle.table.specs.declared.Slot as slotted
 use Rattle.table.specs.declared.Table.{Table}
 use Rattle.grammar.specs.Files.{Slot}
-use Rattle.reader.specs.Tables.{literal-for, rule-for, table-for}
-use Rattle.lines.specs.Index.{slot-for}
-use Rattle.clauses.specs.Assignments.{assignment-for}
-use Rattle.reader.specs.Rules.{Plain-rule}
+use Rattle.grammar.specs.TableFor.{slot-for, assignment-for, literal-for, rule-for, table-for}
+use Rattle.reader.specs.inner.Rules.{Plain-rule}
 
 -- What goes to the model and back is what it was.
 literals-back : (ls : List Literal) → map literal-for (map literal-of ls) ≡ ls

@@ -1,3 +1,2 @@
-pub mod Rules
-pub mod Statements
 pub mod Tables
+pub mod inner

@@ -28,28 +28,29 @@ use Rattle.model.specs.Result.{pair, value-in, is-changed, new-value, conflict-
 use Rattle.model.proofs.Alike.{SameCard}
 use Rattle.model.proofs.Pairs.{same-eq}
 use Rattle.table.specs.declared.Table.{Table}
-use Rattle.table.specs.Limits.{slot-limit, row, pair-places, rule-limit}
+use Rattle.table.specs.Limits.{slot-limit, row, rule-limit}
 use Rattle.table.specs.Shape.{Shaped}
 use Rattle.table.specs.Link.{rules-of}
-use Rattle.table.specs.Flat.{set-of, add-pairs}
+use Rattle.table.specs.inner.Flat.{set-of, add-pairs, pair-places}
 use Rattle.table.proofs.Link.{rules-length}
 use Rattle.cards.specs.declared.Card.{Card}
 use Rattle.cards.specs.declared.Slip.{Slip}
 use Rattle.laws.specs.Answers.{taken, refused, written}
 use Rattle.cards.specs.Forms.{card-bits, slip-bits, card-bytes, slip-bytes}
-use Rattle.cards.specs.Cards.{CardFits, SlipFits, no-change, pair-of, change-of, card-values, changes-of, card-of, slip-of}
+use Rattle.cards.specs.Cards.{no-change, pair-of, change-of, card-values, changes-of, card-of, slip-of}
+use Rattle.cards.specs.inner.Fitting.{CardFits, SlipFits}
 use Rattle.cards.proofs.Formed.{slip-length}
 use Rattle.cards.proofs.EntryTrips.{card-of-values, slip-of-changes}
 use Rattle.cards.proofs.Written.{card-bytes-length, slip-bytes-length}
 use Rattle.firing.specs.declared.Firing.{Firing}
-use Rattle.firing.specs.Firing.{table-firing}
-use Rattle.results.specs.Record.{fired-bits, ones-in}
-use Rattle.results.specs.Record as firing
-use Rattle.results.specs.Ending.{new-places}
+use Rattle.firing.specs.inner.Firing.{table-firing}
+use Rattle.results.specs.Record.{ones-in}
+use Rattle.results.specs.inner.Record.{fired-bits, flag-record}
+use Rattle.results.specs.inner.Ending.{new-places}
 use Rattle.response.specs.Ending.{fired-record, answer-of, unless-conflict, answer-by-firing}
 use Rattle.response.specs.declared.Outcome.the-variants.{Answered, Refused}
-use Rattle.response.specs.Respond.{Outputs, outputs, outcome-of, outputs-after, Ends}
-use Rattle.response.specs.InOrder.{InOrder}
+use Rattle.response.specs.Respond.{Outputs, outputs, outcome-of, outputs-after}
+use Rattle.response.specs.inner.InOrder.{InOrder, Ends}
 use Rattle.response.proofs.Fired.{AllPlaced, fired-changes, fired-rules}
 
 -- A card whose places beyond its count are empty has the values of its places.
@@ -164,21 +165,21 @@ module _ (D : Pairs) (width : ℕ) (few : width ≤ slot-limit) where
   listed-room = omega (arith, slip-count, slip-few D width, few)
 
 -- The record of the flags is that of the rules fired.
-pub record-same : (ns : List ℕ) (ran : List Bool) (count : ℕ) → ran ≡ tabulate (λ i. names ns (suc i)) rule-limit → count ≤ rule-limit → firing.flag-record ran count ≡ fired-record count ns
-unfolding firing.flag-record fired-bits fired-record
+pub record-same : (ns : List ℕ) (ran : List Bool) (count : ℕ) → ran ≡ tabulate (λ i. names ns (suc i)) rule-limit → count ≤ rule-limit → flag-record ran count ≡ fired-record count ns
+unfolding flag-record fired-bits fired-record
 record-same ns ran count e h =
     rw e (ap pack (is-tabulate (λ i. names ns (suc i)) count false (tabulate (λ i. getD (tabulate (λ k. names ns (suc k)) rule-limit) i false) count)
     (tabulate-length (λ i. getD (tabulate (λ k. names ns (suc k)) rule-limit) i false) count)
     (λ i l. tabulate-at (λ i. getD (tabulate (λ k. names ns (suc k)) rule-limit) i false) count i false l ∙ tabulate-at (λ k. names ns (suc k)) rule-limit i false (omega (arith, l, h)))))
 
 -- The record takes the bytes that its bits fill.
-record-length : (ran : List Bool) (count : ℕ) → length (firing.flag-record ran count) ≡ byte-count count
-unfolding firing.flag-record fired-bits
+record-length : (ran : List Bool) (count : ℕ) → length (flag-record ran count) ≡ byte-count count
+unfolding flag-record fired-bits
 record-length ran count = pack-length (tabulate (λ i. getD ran i false) count) ∙ ap (λ (k : ℕ). byte-count k) (tabulate-length (λ i. getD ran i false) count)
 
 -- An output with the record at its front has room for it.
-pub record-there : (ran : List Bool) (count : ℕ) (c c′ : List ℕ) → c′ ≡ firing.flag-record ran count ++ drop (byte-count count) c → byte-count count ≤ length c′
-record-there ran count c c′ e = rw (e, length-append (firing.flag-record ran count) (drop (byte-count count) c), record-length ran count) (omega arith)
+pub record-there : (ran : List Bool) (count : ℕ) (c c′ : List ℕ) → c′ ≡ flag-record ran count ++ drop (byte-count count) c → byte-count count ≤ length c′
+record-there ran count c c′ e = rw (e, length-append (flag-record ran count) (drop (byte-count count) c), record-length ran count) (omega arith)
 
 -- Written to the front of an output, bytes of so great a length.
 front-is : (ys out : List ℕ) (n : ℕ) → length ys ≡ n → ys ++ drop n out ≡ written ys out
@@ -231,7 +232,7 @@ module _ (t : Table) (card : Card) (slip : Slip) (O : InOrder t card slip) (sh :
       → a′ ≡ card-bytes (card-values (record { values = new-places (t .width) (g .changes) (card .values); count = t .width })) ++ drop (byte-count (card-bits (t .width))) a
       → (s : Slip) → s ≡ slip-of (changes-slip (t .width) row (set-of (g .changes)))
       → n ≡ byte-count (slip-bits (s .count)) → b′ ≡ slip-bytes (changes-of s) ++ drop (byte-count (slip-bits (s .count))) b
-      → c′ ≡ firing.flag-record (g .fired) (t .count) ++ drop (byte-count (t .count)) c → m ≡ ones-in (take (byte-count (t .count)) c′)
+      → c′ ≡ flag-record (g .fired) (t .count) ++ drop (byte-count (t .count)) c → m ≡ ones-in (take (byte-count (t .count)) c′)
       → Ends (answer-by-firing (rules-of t) (t .width) (card-values card) (changes-of slip)) (Answered n m) (outputs a b c) (outputs a′ b′ c′)
   unfolding outcome-of outputs-after answer-of
   answer-ends slot n m a b c a′ b′ c′ e h ea s es en eb ec em =
@@ -248,16 +249,16 @@ module _ (t : Table) (card : Card) (slip : Slip) (O : InOrder t card slip) (sh :
       changes-size : byte-count (slip-bits (s .count)) ≡ length (slip-bytes (changes-slip (t .width) row ends-with))
       changes-size = ap (λ (k : ℕ). byte-count (slip-bits k)) size ∙ sym (slip-bytes-length (changes-slip (t .width) row ends-with))
 
-      record-is : firing.flag-record (g .fired) (t .count) ≡ fired-record (length (rules-of t)) fired-in-order
+      record-is : flag-record (g .fired) (t .count) ≡ fired-record (length (rules-of t)) fired-in-order
       record-is = record-same fired-in-order (g .fired) (t .count) same-rules few-rules ∙ ap (λ (k : ℕ). fired-record k fired-in-order) (sym counted-rules)
 
-      record-size : length (firing.flag-record (g .fired) (t .count)) ≡ byte-count (t .count)
+      record-size : length (flag-record (g .fired) (t .count)) ≡ byte-count (t .count)
       record-size = record-length (g .fired) (t .count)
 
       fired-front : take (byte-count (t .count)) c′ ≡ fired-record (length (rules-of t)) fired-in-order
       fired-front =
-          ap (take (byte-count (t .count))) ec ∙ ap (λ (k : ℕ). take k (firing.flag-record (g .fired) (t .count) ++ drop (byte-count (t .count)) c)) (sym record-size)
-          ∙ take-append-seam (firing.flag-record (g .fired) (t .count)) (drop (byte-count (t .count)) c) ∙ record-is
+          ap (take (byte-count (t .count))) ec ∙ ap (λ (k : ℕ). take k (flag-record (g .fired) (t .count) ++ drop (byte-count (t .count)) c)) (sym record-size)
+          ∙ take-append-seam (flag-record (g .fired) (t .count)) (drop (byte-count (t .count)) c) ∙ record-is
 
       card-part : a′ ≡ written (card-bytes (new-card (t .width) row ends-with (card-values card))) a
       card-part =
@@ -272,4 +273,4 @@ module _ (t : Table) (card : Card) (slip : Slip) (O : InOrder t card slip) (sh :
 
       fired-part : c′ ≡ written (fired-record (length (rules-of t)) fired-in-order) c
       fired-part =
-          ec ∙ front-is (firing.flag-record (g .fired) (t .count)) c (byte-count (t .count)) record-size ∙ ap (λ (ys : List ℕ). written ys c) record-is
+          ec ∙ front-is (flag-record (g .fired) (t .count)) c (byte-count (t .count)) record-size ∙ ap (λ (ys : List ℕ). written ys c) record-is

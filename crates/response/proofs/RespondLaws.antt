@@ -23,7 +23,8 @@ use Rattle.cards.specs.declared.CardRead.{CardRead}
 use Rattle.cards.specs.declared.SlipRead.{SlipRead}
 use Rattle.laws.specs.Answers.{OrRefused, taken, refused}
 use Rattle.cards.specs.Forms.{card-bits, card-test, slip-test, read-card, read-slip}
-use Rattle.cards.specs.Cards.{CardFits, SlipFits, card-of, slip-of, card-read, slip-read, if-sound}
+use Rattle.cards.specs.Cards.{card-of, slip-of, card-read, slip-read, if-sound}
+use Rattle.cards.specs.inner.Fitting.{CardFits, SlipFits}
 use Rattle.cards.proofs.Passed.{slots-length, sound-slots, card-pass, card-fits, slip-fits}
 use Rattle.cards.proofs.EntryTrips.{card-of-values, slip-of-changes}
 use Rattle.cards.proofs.Having.{tested-few, card-tested, slip-tested}
@@ -32,9 +33,9 @@ use Rattle.tally.specs.declared.Tally.{Tally}
 use Rattle.response.specs.declared.Outcome.{Outcome}
 use Rattle.response.specs.declared.Outcome.the-variants as response
 use Rattle.response.specs.Ending.{Answer, answer-by-firing}
-use Rattle.response.specs.Respond.{Rooms, Outputs, changes-room, _and-then_, if-room, answer-by-rules, answer-by-table, counted, tally-after, outcome-of, outputs-after, answer-to, response-to, Ends}
+use Rattle.response.specs.Respond.{Rooms, Outputs, changes-room, _and-then_, if-room, answer-by-rules, answer-by-table, counted, tally-after, outcome-of, outputs-after, answer-to, response-to}
 use Rattle.tally.specs.Counting.{is-full, one-answered, one-refused}
-use Rattle.response.specs.InOrder.{InOrder}
+use Rattle.response.specs.inner.InOrder.{InOrder, Ends}
 
 -- What the code says of a card is what was taken or refused.
 pub card-taken : (u : OrRefused (List ℕ)) (q : CardRead) → q ≡ card-read u → q .outcome ≡ Accepted → (S : List ℕ) × (u ≡ taken S) × (q .card ≡ card-of S)

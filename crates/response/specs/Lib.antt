@@ -1,3 +1,3 @@
 pub mod Ending
 pub mod Respond
-pub mod InOrder
+pub mod inner

@@ -1,6 +1,5 @@
 -- The response to a slip: document 01, 'Order of a response: 32, 31, 20 to 28, 30, 40. Each of these but 32 adds one to slips refused; an answer adds one to slips answered.'
 use Prim.Native.Nat.{ℕ}
-use mathlib.Core.Path.{_≡_}
 use mathlib.Core.Bool.{cond}
 use mathlib.Core.List.{List}
 use lib.Dec.{ltb}
@@ -9,7 +8,6 @@ use Rattle.laws.specs.Packed.{byte-count}
 use Rattle.model.specs.Rules.{Rule}
 use Rattle.table.specs.declared.Table.{Table}
 use Rattle.table.specs.Link.{rules-of, value-counts}
-use Rattle.soundness.specs.Sound.{sound}
 use Rattle.laws.specs.Answers.{OrRefused, taken, refused, written}
 use Rattle.cards.specs.Cards.{if-sound}
 use Rattle.cards.specs.Forms.{card-bits, read-card, read-slip}
@@ -92,10 +90,6 @@ rooms-of a b c = record { for-card = length a; for-changes = length b; for-fired
 unfoldable pub outputs-after : OrRefused Answer → Outputs → Outputs
 outputs-after (taken a) o = outputs (written (a .new-card) (o .card)) (written (a .changes) (o .changes)) (written (a .fired) (o .fired))
 outputs-after (refused k s) o = o
-
--- What a function that works out a response leaves: its outcome, and the outputs.
-abbrev pub Ends : OrRefused Answer → Outcome → Outputs → Outputs → Type 0
-Ends u r before after = (r ≡ outcome-of u) × (after ≡ outputs-after u before)
 
 -- The number of a refusal, 0 for none, and its second number.
 abbrev pub response-refusal : Outcome → ℕ

@@ -3,7 +3,8 @@ pub mod answering;
 pub mod slips;
 
 ghost use mathlib.Core.Path.{_≡_};
-ghost use Rattle.response.specs.Respond.{rooms-of, outputs, outputs-after, answer-by-table, answer-to, response-to, Ends};
+ghost use Rattle.response.specs.Respond.{rooms-of, outputs, outputs-after, answer-by-table, answer-to, response-to};
+ghost use Rattle.response.specs.inner.InOrder.{Ends};
 use answering::finish;
 use table::Table;
 use tally::Tally;

@@ -18,7 +18,8 @@ use Rattle.laws.proofs.Packed.{number-lt}
 use Rattle.laws.proofs.Counted.{count-over}
 use Rattle.laws.proofs.Tabulated.{tabulate-length, tabulate-at}
 use Rattle.laws.proofs.Fronts.{tabulate-next}
-use Rattle.results.specs.Record.{fired-bits, flag-record, ones-in}
+use Rattle.results.specs.Record.{ones-in}
+use Rattle.results.specs.inner.Record.{fired-bits, flag-record}
 
 pub one-top : (b : Bool) → cond b 1 0 ≤ 1
 one-top true = omega arith

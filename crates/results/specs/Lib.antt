@@ -1,2 +1,2 @@
 pub mod Record
-pub mod Ending
+pub mod inner

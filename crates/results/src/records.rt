@@ -7,7 +7,8 @@ ghost use lib.Count.{ones};
 ghost use lib.ListN.{length, drop, getD};
 ghost use Rattle.laws.specs.Packed.{byte-count, byte-at};
 ghost use Rattle.table.specs.Limits.{rule-limit};
-ghost use Rattle.results.specs.Record.{fired-bits, flag-record, ones-in};
+ghost use Rattle.results.specs.Record.{ones-in};
+ghost use Rattle.results.specs.inner.Record.{fired-bits, flag-record};
 use table::RULES;
 
 // Bit i of the record: the flag of rule i + 1, and 0 in the padding.

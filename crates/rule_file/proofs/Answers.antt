@@ -17,7 +17,7 @@ use Rattle.model.proofs.Strata.{no-circle, least-strata}
 use Rattle.model.proofs.Steps.{through-not-i, lowest-through-not, one-lowest}
 use Rattle.table.specs.declared.Table.{Table}
 use Rattle.table.specs.Empty.{empty-table}
-use Rattle.table.specs.Fits.{TableFits}
+use Rattle.table.specs.inner.Fits.{TableFits}
 use Rattle.table.specs.Link.{rules-of}
 use Rattle.text.specs.Tokens.{Token}
 use Rattle.grammar.specs.Files.{File}
@@ -37,7 +37,8 @@ use Rattle.soundness.specs.Sound.{sound}
 use Rattle.soundness.proofs.WellFormed.{well-formed-fits}
 use Rattle.strata.proofs.Written.{same-rules, same-counts, stratum-now}
 use Rattle.soundness.proofs.Passes.{layer-passes, empty-passes}
-use Rattle.reader.specs.Tables.{table-for, file-read, reading-refusal}
+use Rattle.reader.specs.Tables.{file-read, reading-refusal}
+use Rattle.grammar.specs.TableFor.{table-for}
 use Rattle.reader.specs.declared.Outcome.{Outcome}
 use Rattle.reader.specs.declared.Outcome.the-variants.{Accepted, Refused}
 use Rattle.reader.specs.declared.FileRead.{FileRead}

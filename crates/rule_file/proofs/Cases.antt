@@ -9,7 +9,7 @@ use Rattle.table.specs.Empty.{empty-table}
 use Rattle.table.specs.Link.{rules-of, carried-strata}
 use Rattle.strata.specs.Layered.{rule-with-stratum, with-strata}
 use Rattle.grammar.proofs.Cases.{reads, after-slots}
-use Rattle.reader.specs.Tables.{table-for}
+use Rattle.grammar.specs.TableFor.{table-for}
 use Rattle.reader.specs.declared.Outcome.the-variants.{Accepted, Refused}
 use Rattle.rule_file.specs.Whole.{layered, answered-whole, reading}
 

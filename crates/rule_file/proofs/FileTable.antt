@@ -29,11 +29,10 @@ use Rattle.grammar.specs.Files as files
 use Rattle.grammar.specs.Limits.{max-slots, max-values, max-rules, max-literals, max-assignments}
 use Rattle.grammar.specs.Files.{File, slot-counts}
 use Rattle.grammar.proofs.Declared.{Declared-pair, slot-declared, value-declared, Declared-rule, Valued, Declared-file}
-use Rattle.soundness.specs.Sound.{has-pair, named, rule-right, well-formed}
+use Rattle.soundness.specs.Sound.{has-pair, named, well-formed}
+use Rattle.soundness.specs.inner.Right.{rule-right}
 use Rattle.soundness.proofs.WellFormed.{well-formed-i}
-use Rattle.lines.specs.Index.{slot-for, name-for}
-use Rattle.clauses.specs.Assignments.{assignment-for}
-use Rattle.reader.specs.Tables.{literal-for, rule-for, table-for}
+use Rattle.grammar.specs.TableFor.{slot-for, name-for, assignment-for, literal-for, rule-for, table-for}
 
 -- What goes into its place and back is what it was.
 literals-kept : (ls : List model.Literal) → map literal-of (map literal-for ls) ≡ ls

@@ -19,8 +19,7 @@ use Rattle.table.specs.Shape.{zero-name, zero-slot}
 use Rattle.table.specs.Empty.{unused-slot}
 use Rattle.names.specs.Names.{not-shown, has-slot, has-value, show-name, show-slot, show-value-of, show-value}
 use Rattle.names.proofs.Names.{slot-inside, value-inside, name-inside}
-use Rattle.lines.specs.Index.{name-for, slot-for}
-use Rattle.reader.specs.Tables.{table-for}
+use Rattle.grammar.specs.TableFor.{name-for, slot-for, table-for}
 use Rattle.rule_file.specs.Carries.{declared-slot, declared-value}
 use Rattle.rule_file.proofs.FileTable.{image-at}
 

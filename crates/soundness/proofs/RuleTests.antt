@@ -15,7 +15,8 @@ use Rattle.table.specs.declared.Rule.{Rule}
 use Rattle.table.specs.Limits.{literal-limit, assignment-limit}
 use Rattle.table.specs.Link.{rule-of, literals-of, assignments-of}
 use Rattle.names.specs.Names.{has-slot, has-value}
-use Rattle.soundness.specs.Sound.{has-pair, named, rule-right}
+use Rattle.soundness.specs.Sound.{has-pair, named}
+use Rattle.soundness.specs.inner.Right.{rule-right}
 
 pub pair-lacking : (width : ℕ) (counts : List ℕ) (p : Pair) → has-slot width (p .slot) ≡ false → has-pair width counts p ≡ false
 unfolding has-pair _∧ᵇ_

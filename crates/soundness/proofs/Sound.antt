@@ -14,7 +14,7 @@ use Rattle.table.specs.declared.Table.{Table}
 use Rattle.table.specs.Limits.{slot-limit, value-limit}
 use Rattle.table.specs.Shape.{zero-slot, Shaped}
 use Rattle.table.specs.Link.{rules-of, stratum-at}
-use Rattle.table.specs.Fits.{TableFits}
+use Rattle.table.specs.inner.Fits.{TableFits}
 use Rattle.soundness.specs.Sound.{within-limits, well-formed, sound}
 use Rattle.soundness.proofs.WellFormed.{well-formed-e, well-formed-fits, sound-parts}
 use Rattle.leastness.proofs.Carried.{carries-iff}

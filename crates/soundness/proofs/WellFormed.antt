@@ -22,11 +22,12 @@ use Rattle.table.specs.Limits.{slot-limit, value-limit, rule-limit, literal-lim
 use Rattle.table.specs.Shape.{zero-literal, zero-assignment, zero-rule, zero-slot, RuleShaped, Shaped}
 use Rattle.table.specs.Link.{literal-of, assignment-of, rule-of, literals-of, assignments-of, slots-of, used-rules, value-counts}
 use Rattle.names.specs.Names.{has-slot}
-use Rattle.table.specs.Flat.{Placed}
-use Rattle.table.specs.Fits.{RuleFits, TableFits}
+use Rattle.table.specs.inner.Flat.{Placed}
+use Rattle.table.specs.inner.Fits.{RuleFits, TableFits}
 use Rattle.table.proofs.Link.{count-is}
 use Rattle.names.proofs.Names.{slot-inside, value-inside}
-use Rattle.soundness.specs.Sound.{within-limits, slots-have-values, has-pair, named, names-its-own, assigns-once, well-formed, rule-right, sound}
+use Rattle.soundness.specs.Sound.{within-limits, slots-have-values, has-pair, named, names-its-own, assigns-once, well-formed, sound}
+use Rattle.soundness.specs.inner.Right.{rule-right}
 use Rattle.leastness.specs.CarriesLeast.{carries-least}
 use Rattle.soundness.proofs.RuleTests.{pair-lacking, pair-there}
 

@@ -20,7 +20,7 @@ use Rattle.text.specs.Cut.{moved}
 use Rattle.text.proofs.Cut.{tokens-moved}
 use Rattle.text.proofs.Position.{tokens-next, next-lies}
 use Rattle.grammar.specs.Reading.{Part, took, stop, expects, fork, a-name, begins-with, if-next}
-use Rattle.steps.specs.Places.{fault-of, tokens-past, shown-past, Choice, one, other, neither, which, Step-lies}
+use Rattle.steps.specs.inner.Places.{fault-of, tokens-past, shown-past, Choice, one, other, neither, which, Step-lies}
 use Rattle.steps.specs.declared.step.Step.{Step}
 use Rattle.steps.specs.declared.step.Step.the-variants as step
 

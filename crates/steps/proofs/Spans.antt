@@ -12,7 +12,7 @@ use Rattle.text.specs.Tokens.{Name, Token, same-letters, place}
 use Rattle.grammar.specs.Files.{Slot, spellings, place-in, slot-names, values-of}
 use Rattle.grammar.specs.Reading.{Part, took, stop, _then_, a-name, known-value, known-slot, read-slot, read-value}
 use Rattle.text.proofs.Steps.{counted, place-counted}
-use Rattle.steps.specs.Spans.{span-letters, Span-lies, Listed, read-place, Number-lies}
+use Rattle.steps.specs.inner.Spans.{span-letters, Span-lies, Listed, read-place, Number-lies}
 use Rattle.steps.specs.declared.names.Number.{Number}
 use Rattle.steps.specs.declared.names.Number.the-variants as number
 

@@ -3,7 +3,7 @@ ghost use mathlib.Core.Path.{_≡_};
 ghost use Prim.Native.Nat.{ℕ};
 ghost use lib.ListN.{length};
 ghost use Rattle.grammar.specs.Reading.{expects, a-name};
-ghost use Rattle.steps.specs.Places.{fault-of, tokens-past, step-part, Step-lies, which, choice, Fork-lies, named-part, Named-lies};
+ghost use Rattle.steps.specs.inner.Places.{fault-of, tokens-past, step-part, Step-lies, which, choice, Fork-lies, named-part, Named-lies};
 use text::Token;
 
 // What must stand next stood there, and the position after it; or a refusal.

@@ -18,7 +18,7 @@ use Rattle.table.specs.declared.Table.{Table}
 use Rattle.table.specs.Shape.{Shaped}
 use Rattle.table.specs.Empty.{empty-table}
 use Rattle.table.specs.Link.{rules-of, stratum-at}
-use Rattle.table.specs.Fits.{TableFits}
+use Rattle.table.specs.inner.Fits.{TableFits}
 use Rattle.strata.specs.declared.Outcome.the-variants.{Layered, Circle}
 use Rattle.strata.specs.declared.Layering.{Layering}
 use Rattle.strata.specs.Layered.{with-strata, layering}

@@ -26,16 +26,16 @@ use Rattle.model.proofs.Gradings.{plain-no-higher, under-not-smaller}
 use Rattle.model.proofs.Strata.{no-circle, least-strata, least-top, least-e}
 use Rattle.table.specs.declared.Rule.{Rule}
 use Rattle.table.specs.declared.Table.{Table}
-use Rattle.table.specs.Limits.{rule-limit, pair-places}
+use Rattle.table.specs.Limits.{rule-limit}
 use Rattle.table.specs.Shape.{zero-rule, Shaped}
 use Rattle.table.specs.Link.{assignments-of, rule-of, rules-of}
-use Rattle.table.specs.Flat.{place-of}
-use Rattle.table.specs.Fits.{RuleFits, TableFits}
+use Rattle.table.specs.inner.Flat.{place-of, pair-places}
+use Rattle.table.specs.inner.Fits.{RuleFits, TableFits}
 use Rattle.table.proofs.Link.{rule-at-is}
 use Rattle.table.proofs.Flat.{same-place, placed-inside}
 use Rattle.table.proofs.Fits.{assigned-placed, count-of, number, tested-in}
 use Rattle.strata.specs.declared.least.Found.{Found}
-use Rattle.strata.specs.Heights.{asked-at, Small, raise-all, least-numbers, circled, found}
+use Rattle.strata.specs.inner.Heights.{asked-at, Small, raise-all, least-numbers, circled, found}
 use Rattle.strata.proofs.Heights.{highest-ge, highest-lt, raise-ge, raise-hit, raise-below, raise-length}
 
 -- The sum of a list.

@@ -1,2 +1,2 @@
 pub mod Layered
-pub mod Heights
+pub mod inner

@@ -1,8 +1,8 @@
 // The least strata of a table's rules, by passes over an array indexed by pair.
 ghost use mathlib.Core.Path.{_≡_};
 ghost use Rattle.table.specs.Link.{rule-of, assignments-of};
-ghost use Rattle.table.specs.Fits.{RuleFits, TableFits};
-ghost use Rattle.strata.specs.Heights.{asked-at, Small, raise-all, circled, found};
+ghost use Rattle.table.specs.inner.Fits.{RuleFits, TableFits};
+ghost use Rattle.strata.specs.inner.Heights.{asked-at, Small, raise-all, circled, found};
 use table::PAIRS;
 use table::RULES;
 use table::Rule;

@@ -2,7 +2,7 @@
 pub mod least;
 
 ghost use mathlib.Core.Path.{_≡_};
-ghost use Rattle.table.specs.Fits.{TableFits};
+ghost use Rattle.table.specs.inner.Fits.{TableFits};
 ghost use Rattle.strata.specs.Layered.{layering};
 use table::RuleNumber;
 use table::Stratum;

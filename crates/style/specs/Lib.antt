@@ -1,3 +1,4 @@
 pub mod Layout
 pub mod Printed
 pub mod Tidy
+pub mod inner

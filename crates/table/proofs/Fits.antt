@@ -20,8 +20,8 @@ use Rattle.table.specs.declared.Rule.{Rule}
 use Rattle.table.specs.declared.Table.{Table}
 use Rattle.table.specs.Shape.{zero-literal, zero-assignment, zero-rule, Shaped}
 use Rattle.table.specs.Link.{literal-of, assignment-of, assignments-of, rule-of, rules-of}
-use Rattle.table.specs.Flat.{Placed}
-use Rattle.table.specs.Fits.{RuleFits, TableFits}
+use Rattle.table.specs.inner.Flat.{Placed}
+use Rattle.table.specs.inner.Fits.{RuleFits, TableFits}
 use Rattle.table.proofs.Link.{rules-length, rule-at-is}
 
 -- A pair of a list stands at a place of it.

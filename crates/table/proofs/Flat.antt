@@ -18,8 +18,8 @@ use Rattle.laws.proofs.Tabulated.{is-tabulate}
 use Rattle.laws.proofs.Filled.{replicate-at}
 use Rattle.model.specs.Rules.{Pair, Pairs, same, among}
 use Rattle.model.proofs.Pairs.{same-refl, same-eq}
-use Rattle.table.specs.Limits.{row, pair-places}
-use Rattle.table.specs.Flat.{Placed, place-of, pair-at, set-of, flags-of, pairs-below, pairs-of, add-pairs}
+use Rattle.table.specs.Limits.{row}
+use Rattle.table.specs.inner.Flat.{Placed, place-of, pair-at, set-of, flags-of, pairs-below, pairs-of, add-pairs, pair-places}
 
 -- Two pairs that have a place stand at the same one only where they are the same.
 pub same-place : (p q : Pair) → p .value < row → q .value < row → place-of p ≡ place-of q → p ≡ q

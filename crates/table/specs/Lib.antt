@@ -2,5 +2,4 @@ pub mod Limits
 pub mod Shape
 pub mod Empty
 pub mod Link
-pub mod Flat
-pub mod Fits
+pub mod inner

@@ -24,7 +24,3 @@ assignment-limit = 4
 -- The places of one slot in an array indexed by pair: its values, and 0.
 abbrev pub row : ℕ
 row = 16
-
--- The places of all slots.
-abbrev pub pair-places : ℕ
-pair-places = 512

@@ -8,7 +8,6 @@ use Rattle.model.specs.Result.{pair}
 use Rattle.table.specs.declared.Literal.{Literal}
 use Rattle.table.specs.declared.Assignment.{Assignment}
 use Rattle.table.specs.declared.Rule.{Rule}
-use Rattle.table.specs.declared.Name.{Name}
 use Rattle.table.specs.declared.Slot.{Slot}
 use Rattle.table.specs.declared.Table.{Table}
 
@@ -51,10 +50,6 @@ stratum-at t n = getD (0 ∷ carried-strata t) n 0
 -- The slots of a table, slot 0 first.
 abbrev pub slots-of : Table → List Slot
 slots-of t = take (t .width) (t .slots)
-
--- The names of a slot's values, value 1 first.
-abbrev pub value-names : Slot → List Name
-value-names s = take (s .count) (s .values)
 
 -- How many values each slot has.
 unfoldable pub value-counts : Table → List ℕ

@@ -1,7 +1,7 @@
 // The table of document 01, 'Rule text': slots, values and rules by value.
 ghost use mathlib.Core.Path.{_≡_};
 ghost use Rattle.table.specs.Empty.{unused-rule, empty-table};
-ghost use Rattle.table.specs.Flat.{Placed, At};
+ghost use Rattle.table.specs.inner.Flat.{Placed, At};
 ghost use Rattle.table.specs.Link.{literal-of};
 ghost use Rattle.model.specs.Strata.{is-becomes, is-plain, is-under-not};
 

@@ -13,7 +13,7 @@ use Rattle.table.specs.Shape.{zero-literal, zero-assignment, RuleShaped}
 use Rattle.table.specs.Limits.{literal-limit, assignment-limit}
 use Rattle.table.specs.Link.{literal-of, literals-of, assignments-of}
 use Rattle.table.proofs.Walks.{literals-from, literals-start, literals-next, literals-end, assigned-from, assigned-start, assigned-next, assigned-end}
-use Rattle.writing.specs.Written.{Pairing, followed, separated, literal-bytes, condition-bytes, assign-bytes}
+use Rattle.writing.specs.inner.Written.{Pairing, followed, separated, literal-bytes, condition-bytes, assign-bytes}
 
 module _ (paired : Pairing) (r : Rule) where
   -- A literal of the rule, and those from place j on, each after AND.

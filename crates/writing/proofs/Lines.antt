@@ -16,8 +16,8 @@ use Rattle.table.specs.declared.Table.{Table}
 use Rattle.table.specs.Shape.{zero-slot, zero-rule, Shaped}
 use Rattle.table.specs.Limits.{row, rule-limit}
 use Rattle.table.specs.Link.{rule-of, rules-of}
-use Rattle.writing.specs.Written.{followed, separated, rule-bytes, lines-joined}
-use Rattle.writing.specs.Spelled.{spelled, spelled-pair, spelled-values, spelled-line, spelled-lines, spelled-rules, spelled-file}
+use Rattle.writing.specs.inner.Written.{followed, separated, rule-bytes, lines-joined}
+use Rattle.writing.specs.inner.Spelled.{spelled, spelled-pair, spelled-values, spelled-line, spelled-lines, spelled-rules, spelled-file}
 
 -- A list by its rule, from a place on.
 tabulate-from : {A : Type 0} (f : ℕ → A) (n i : ℕ) (d : A) → i < n → drop i (tabulate f n) ≡ f i ∷ drop (i + 1) (tabulate f n)

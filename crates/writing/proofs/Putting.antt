@@ -6,7 +6,7 @@ use mathlib.Core.Path.{_≡_, refl, sym, ap, subst, _∙_}
 use mathlib.Core.List.{List, [], _∷_, _++_, append-assoc}
 use lib.ListN.{length, getD, set, take, drop, length-append, length-drop, take-append-drop}
 use lib.Seq.{length-take-le, take-at, drop-at, drop-drop, drop-cons, set-at}
-use Rattle.writing.specs.Puts.{longest, put-in, Puts}
+use Rattle.writing.specs.inner.Puts.{longest, put-in, Puts}
 
 -- No bytes change nothing.
 pub put-none : (out : List ℕ) (at : ℕ) → put-in out at [] ≡ out

@@ -1,8 +1,8 @@
 // Parts put into an output one after the other: what does not fit is counted and not written.
 ghost use Prim.Native.Nat.{_+_, _≤_};
 ghost use lib.ListN.{length};
-ghost use Rattle.writing.specs.Puts.{longest, Puts};
-ghost use Rattle.writing.specs.Spelled.{spelled};
+ghost use Rattle.writing.specs.inner.Puts.{longest, Puts};
+ghost use Rattle.writing.specs.inner.Spelled.{spelled};
 
 // Puts a part at a place of the output, where it fits there; says the place after it.
 pub fn put(out: &mut [u8], at: usize, part: &[u8]) -> usize

@@ -4,7 +4,7 @@ use mathlib.Core.Path.{sym}
 use Prim.Native.Nat.{_<_}
 use lib.ListN.{length}
 use Rattle.model.specs.Result.{pair}
-use Rattle.cards.specs.Cards.{counts-in}
+use Rattle.cards.specs.inner.Fitting.{counts-in}
 use Rattle.cards.proofs.Tested.{counts-length, count-at, fault-25, fault-26, fault-27, fault-high, no-fault}
 use native.Mathlib.Omega.{arith}
 use borrow.Author.Needs.{needs}

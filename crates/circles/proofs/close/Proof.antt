@@ -5,8 +5,8 @@ use Prim.Native.Nat.{ℕ, _-_, _≤_}
 use mathlib.Core.List.{List}
 use native.Mathlib.Numerals.{add-one}
 use borrow.Author.Tests.{not-true, not-false}
-use Rattle.table.specs.Limits.{pair-places}
-use Rattle.circles.specs.Links.{join-linked, join-through, close-through}
+use Rattle.table.specs.inner.Flat.{pair-places}
+use Rattle.circles.specs.inner.Links.{join-linked, join-through, close-through}
 use Rattle.circles.proofs.Leading.{join-over, join-here}
 use native.Mathlib.Omega.{arith}
 use borrow.Author.Needs.{needs}

@@ -12,7 +12,7 @@ use mathlib.Core.List.{_∷_}
 use Rattle.model.specs.Rules.{Pair}
 use Rattle.model.specs.Result.{pair}
 use Rattle.table.specs.Link.{rule-of, assignments-of}
-use Rattle.circles.specs.Links.{some-leads, circled-by}
+use Rattle.circles.specs.inner.Links.{some-leads, circled-by}
 use Rattle.circles.proofs.Leading.{some-here, some-over, some-none}
 use borrow.Author.Needs.{needs}
 use Rattle.circles.proofs.is_circled.Statement.{statement}

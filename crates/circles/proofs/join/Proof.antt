@@ -3,7 +3,7 @@
 use native.Mathlib.Numerals.{add-one}
 use mathlib.Core.Path.{_≡_, refl}
 use Prim.Native.Nat.{_-_, _≤_}
-use Rattle.circles.specs.Links.{row-words, join-words}
+use Rattle.circles.specs.inner.Links.{row-words, join-words}
 use native.Mathlib.Omega.{arith}
 use borrow.Author.Needs.{needs}
 use Rattle.circles.proofs.join.Statement.{statement}

@@ -10,7 +10,7 @@ use Prim.Native.Nat.{_+_, _-_, _≤_}
 use Rattle.table.proofs.Shape.{rule-shaped}
 use Rattle.table.specs.Shape.{RuleShaped, zero-assignment}
 use Rattle.table.proofs.Walks.{assigned-from, assigned-start, assigned-end, assigned-next}
-use Rattle.circles.specs.Links.{linked, leads-to}
+use Rattle.circles.specs.inner.Links.{linked, leads-to}
 use native.Mathlib.Omega.{arith}
 use borrow.Author.Needs.{needs}
 use Rattle.circles.proofs.leads_to.Statement.{statement}

@@ -3,7 +3,7 @@
 use Prim.Native.Nat.{_%_}
 use native.Mathlib.Nat.{one-mul}
 use lib.Pow.{shl-exact}
-use Rattle.circles.specs.Links.{add-link}
+use Rattle.circles.specs.inner.Links.{add-link}
 use native.Mathlib.Omega.{arith}
 use borrow.Author.Needs.{needs}
 use Rattle.circles.proofs.link.Statement.{statement}

@@ -9,7 +9,7 @@ use mathlib.Core.List.{List}
 use Rattle.model.specs.Rules.{Pair}
 use Rattle.model.specs.Strata.{tested}
 use Rattle.table.specs.Link.{rule-of}
-use Rattle.circles.specs.Links.{link-all}
+use Rattle.circles.specs.inner.Links.{link-all}
 use borrow.Author.Needs.{needs}
 use Rattle.circles.proofs.link_rule.Statement.{statement}
 use Rattle.circles.proofs.link_rule.Tie as tie

@@ -8,7 +8,7 @@ use Rattle.table.specs.Shape.{RuleShaped}
 use Rattle.table.proofs.Walks.{picked-from, tested-start, picked-end, picked-next, picked-over}
 use borrow.Author.Tests.{not-true, not-false}
 use mathlib.Core.List.{List}
-use Rattle.circles.specs.Links.{add-link, add-links}
+use Rattle.circles.specs.inner.Links.{add-link, add-links}
 use borrow.Author.Needs.{needs}
 use Rattle.circles.proofs.link_tested.Statement.{statement}
 use Rattle.circles.proofs.link_tested.Tie as tie

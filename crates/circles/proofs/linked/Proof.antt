@@ -2,7 +2,7 @@
 -- Assumes nothing.
 use mathlib.Core.Path.{refl}
 use Rattle.laws.specs.Words.{bit}
-use Rattle.circles.specs.Links.{linked}
+use Rattle.circles.specs.inner.Links.{linked}
 use borrow.Author.Needs.{needs}
 use Rattle.circles.proofs.linked.Statement.{statement}
 use Rattle.circles.proofs.linked.Tie as tie

@@ -10,7 +10,7 @@ use lib.Dec.{T}
 use lib.ListN.{getD}
 use borrow.Author.Tests.{not-true, not-false}
 use borrow.Author.Needs.{needs}
-use Rattle.laws.specs.Flags.{all-set}
+use Rattle.laws.specs.inner.Flags.{all-set}
 use Rattle.laws.proofs.Truth.{bool-ext}
 use Rattle.laws.proofs.Equations.{from-true}
 use Rattle.laws.proofs.Flags.{all-set-i, all-set-e}

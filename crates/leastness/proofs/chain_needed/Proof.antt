@@ -8,7 +8,7 @@ use Rattle.model.specs.Strata.{is-plain}
 use Rattle.table.specs.Shape.{RuleShaped}
 use Rattle.table.proofs.Shape.{rule-shaped}
 use Rattle.table.proofs.Walks.{picked-from, needed-start, picked-end, picked-next, picked-over}
-use Rattle.leastness.specs.Chains.{heads-with, nexts-with}
+use Rattle.leastness.specs.inner.Chains.{heads-with, nexts-with}
 use Rattle.leastness.proofs.Chains.{heads-next, nexts-next, heads-none, nexts-none}
 use Prim.Native.Nat.{_<_}
 use native.Mathlib.Omega.{arith}

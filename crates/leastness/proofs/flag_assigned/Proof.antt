@@ -12,12 +12,11 @@ use Rattle.model.specs.Rules.{Pair}
 use Rattle.table.specs.Shape.{RuleShaped, zero-assignment}
 use Rattle.table.proofs.Shape.{rule-shaped}
 use Rattle.table.proofs.Walks.{assigned-from, assigned-start, assigned-end, assigned-next}
-use Rattle.leastness.specs.Flagging.{flagging, Room, flag-all}
+use Rattle.leastness.specs.inner.Flagging.{flagging, Room, flag-all}
 use Rattle.leastness.proofs.Flagging.{flag-off, flag-old, flag-new, flag-none, room-more}
 use Prim.Native.Nat.{_<_}
 use lib.ListN.{set}
-use Rattle.table.specs.Limits.{pair-places}
-use Rattle.table.specs.Flat.{place-of}
+use Rattle.table.specs.inner.Flat.{place-of, pair-places}
 use native.Mathlib.Omega.{arith}
 use borrow.Author.Needs.{needs}
 use Rattle.leastness.proofs.flag_assigned.Statement.{statement}

@@ -11,7 +11,7 @@ use Rattle.model.specs.Strata.{is-under-not, barred}
 use Rattle.table.specs.Shape.{RuleShaped, zero-literal}
 use Rattle.table.proofs.Shape.{rule-shaped}
 use Rattle.table.proofs.Walks.{picked-from, barred-start, picked-end, picked-next, picked-over}
-use Rattle.leastness.specs.OneBelow.{one-below}
+use Rattle.leastness.specs.inner.OneBelow.{one-below}
 use Rattle.leastness.proofs.OneBelow.{below-here, below-over, below-none}
 use native.Mathlib.Omega.{arith}
 use borrow.Author.Needs.{needs}

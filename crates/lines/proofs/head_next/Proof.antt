@@ -7,9 +7,9 @@ use lib.ListN.{length}
 use Rattle.text.specs.Tokens.{SLOT}
 use Rattle.grammar.specs.Files.{Slot, spellings, slot-names}
 use Rattle.grammar.specs.Reading.{expects, new-name}
-use Rattle.steps.specs.Places.{tokens-past, step-part, Step-lies}
-use Rattle.steps.specs.Spans.{Listed}
-use Rattle.lines.specs.Lines.{declared-part, Declared-lies}
+use Rattle.steps.specs.inner.Places.{tokens-past, step-part, Step-lies}
+use Rattle.steps.specs.inner.Spans.{Listed}
+use Rattle.lines.specs.inner.Lines.{declared-part, Declared-lies}
 use Rattle.steps.specs.declared.step.Step.the-variants as step
 use Rattle.lines.specs.declared.Declared.the-variants as declared
 use Rattle.lines.proofs.LineLaws as lines

@@ -7,10 +7,10 @@ use lib.ListN.{length}
 use Rattle.grammar.specs.Limits.{max-values}
 use Rattle.grammar.specs.Files.{Slot, spellings, slot-names}
 use Rattle.grammar.specs.Reading.{read-values}
-use Rattle.steps.specs.Places.{tokens-past, Step-lies, outcome-part}
-use Rattle.steps.specs.Spans.{Listed}
-use Rattle.lines.specs.Index.{span-names}
-use Rattle.lines.specs.Lines.{read-head, declared-part, Declared-lies}
+use Rattle.steps.specs.inner.Places.{tokens-past, Step-lies, outcome-part}
+use Rattle.steps.specs.inner.Spans.{Listed}
+use Rattle.lines.specs.inner.Index.{span-names}
+use Rattle.lines.specs.inner.Lines.{read-head, declared-part, Declared-lies}
 use Rattle.steps.specs.declared.step.Step.{Step}
 use Rattle.lines.specs.declared.Declared.the-variants as declared
 use Rattle.steps.proofs.Places as places

@@ -9,10 +9,10 @@ use native.Mathlib.Nat.{add-sub-cancel-left}
 use Rattle.text.specs.Tokens.{Name, place}
 use Rattle.grammar.specs.Files.{spellings}
 use Rattle.grammar.specs.Reading.{took, a-name}
-use Rattle.steps.specs.Spans.{Listed}
-use Rattle.steps.specs.Places.{tokens-past, named-part, Named-lies}
+use Rattle.steps.specs.inner.Spans.{Listed}
+use Rattle.steps.specs.inner.Places.{tokens-past, named-part, Named-lies}
 use Rattle.steps.specs.declared.step.Named.the-variants as named
-use Rattle.lines.specs.Lines.{Remainder, span-limit}
+use Rattle.lines.specs.inner.Lines.{Remainder, span-limit}
 use Rattle.lines.proofs.Index as index
 use Rattle.lines.proofs.LineLaws as lines
 use borrow.Author.Needs.{needs}

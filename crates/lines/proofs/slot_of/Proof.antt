@@ -9,7 +9,7 @@ use lib.ListN.{length, take, getD, length-set}
 use lib.Seq.{take-all, take-suc, take-suc-set}
 use Rattle.table.specs.Limits.{value-limit}
 use Rattle.laws.proofs.Lists.{map-append}
-use Rattle.lines.specs.Index.{stretch-at}
+use Rattle.lines.specs.inner.Index.{stretch-at}
 use borrow.Author.Needs.{needs}
 use Rattle.lines.proofs.slot_of.Statement.{statement}
 use Rattle.lines.proofs.slot_of.Tie as tie

@@ -8,9 +8,9 @@ use lib.ListN.{length, set}
 use Rattle.grammar.specs.Limits.{max-values}
 use Rattle.grammar.specs.Reading.{took, new-name, read-values}
 use Rattle.table.specs.Limits.{value-limit}
-use Rattle.steps.specs.Places.{tokens-past, choice, Fork-lies}
-use Rattle.lines.specs.Index.{span-names}
-use Rattle.lines.specs.Lines.{declared-part, Declared-lies, Values-lie}
+use Rattle.steps.specs.inner.Places.{tokens-past, choice, Fork-lies}
+use Rattle.lines.specs.inner.Index.{span-names}
+use Rattle.lines.specs.inner.Lines.{declared-part, Declared-lies, Values-lie}
 use Rattle.lines.specs.declared.Declared.the-variants as declared
 use Rattle.steps.specs.declared.step.Fork.{Fork}
 use Rattle.steps.proofs.Places.{follow}

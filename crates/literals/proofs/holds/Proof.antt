@@ -4,7 +4,7 @@ use mathlib.Core.Path.{_≡_, sym, _∙_}
 use mathlib.Core.Logic.{⊎-elim}
 use Rattle.model.specs.Rules.{test}
 use Rattle.table.specs.Link.{literal-of}
-use Rattle.table.specs.Flat.{set-of}
+use Rattle.table.specs.inner.Flat.{set-of}
 use Rattle.literals.proofs.Holding.{test-becomes, test-was, holds-not, holds-plain}
 use borrow.Author.Needs.{needs}
 use Rattle.literals.proofs.holds.Statement.{statement}

@@ -14,7 +14,8 @@ use Rattle.soundness.specs.Sound.{sound}
 use Rattle.soundness.proofs.Sound.{sound-width}
 use Rattle.laws.specs.Answers.{passed}
 use Rattle.cards.specs.Forms.{card-bits, card-test, card-bytes}
-use Rattle.cards.specs.Cards.{counts-in, card-values, verdict-outcome}
+use Rattle.cards.specs.Cards.{card-values}
+use Rattle.cards.specs.inner.Fitting.{counts-in, verdict-outcome}
 use Rattle.cards.proofs.Formed.{card-length}
 use Rattle.cards.proofs.Written.{card-bytes-length}
 use Rattle.cards.proofs.Passed.{slots-length, card-pass, sound-slots, counts-all, outcome-fault, outcome-passed, card-fits}

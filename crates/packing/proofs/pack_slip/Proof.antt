@@ -14,7 +14,8 @@ use Rattle.soundness.specs.Sound.{sound}
 use Rattle.soundness.proofs.Sound.{sound-width}
 use Rattle.laws.specs.Answers.{passed}
 use Rattle.cards.specs.Forms.{slip-bits, slip-test, slip-bytes}
-use Rattle.cards.specs.Cards.{counts-in, changes-of, verdict-outcome}
+use Rattle.cards.specs.Cards.{changes-of}
+use Rattle.cards.specs.inner.Fitting.{counts-in, verdict-outcome}
 use Rattle.cards.proofs.Formed.{slip-length}
 use Rattle.cards.proofs.Written.{slip-bytes-length}
 use Rattle.cards.proofs.Passed.{sound-slots, counts-all, outcome-fault, outcome-passed, slip-fits}

@@ -11,13 +11,13 @@ use Rattle.grammar.specs.Reading.{parse}
 use Rattle.table.specs.declared.Table.{Table}
 use Rattle.table.specs.Shape.{Shaped}
 use Rattle.table.proofs.Shape.{shaped}
-use Rattle.lines.specs.Index.{Indexed}
+use Rattle.lines.specs.inner.Index.{Indexed}
 use Rattle.reader.specs.declared.Outcome.the-variants.{Accepted}
 use Rattle.rule_file.specs.Whole.{reading}
-use Rattle.writing.specs.Puts.{put-in}
+use Rattle.writing.specs.inner.Puts.{put-in}
 use Rattle.printing.specs.Printing.{print-of}
-use Rattle.printing.specs.Tabled.{Tabled}
-use Rattle.writing.specs.Spelled.{spelled-file}
+use Rattle.printing.specs.inner.Tabled.{Tabled}
+use Rattle.writing.specs.inner.Spelled.{spelled-file}
 use Rattle.printing.proofs.Filed.{file, is-file, tabled, lines-fit, table-fits, print-spelled, spelled-bounded}
 use Rattle.printing.proofs.Fitting.{print-is, fitted-34, fitted-33, fitted-all, answer-refused, answer-taken}
 use Rattle.printing.proofs.print_table.Statement.{statement}

@@ -6,7 +6,7 @@ use mathlib.Core.Path.{_≡_, sym, ap, subst, _∙_}
 use lib.ListN.{length, length-take, length-drop}
 use Rattle.text.specs.Tokens.{tokens}
 use Rattle.grammar.specs.Reading.{read-tokens}
-use Rattle.reader.specs.Statements.{kind-answer, Kind-lies}
+use Rattle.reader.specs.inner.Statements.{kind-answer, Kind-lies}
 use Rattle.lines.proofs.LineLaws.{remainder-place}
 use Rattle.reader.proofs.ReadLaws.{Halfway, halfway-start, halfway-width, halfway-count, halfway-slot, halfway-rule, answer-end, answer-refused}
 use Rattle.reader.specs.declared.statements.Kind.{Kind}

@@ -14,7 +14,8 @@ use Rattle.soundness.proofs.Sound.{sound-width}
 use Rattle.model.specs.Rules.{Pair}
 use Rattle.laws.specs.Answers.{taken}
 use Rattle.cards.specs.Forms.{read-card, read-slip}
-use Rattle.cards.specs.Cards.{counts-in, card-values, changes-of, card-of, slip-of, card-read, slip-read}
+use Rattle.cards.specs.Cards.{card-values, changes-of, card-of, slip-of, card-read, slip-read}
+use Rattle.cards.specs.inner.Fitting.{counts-in}
 use Rattle.cards.proofs.Passed.{counts-all, slots-length}
 use Rattle.cards.proofs.EntryTrips.{card-of-values, slip-of-changes}
 use Rattle.response.specs.Ending.{answer-by-firing}

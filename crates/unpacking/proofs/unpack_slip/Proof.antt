@@ -10,7 +10,8 @@ use Rattle.table.proofs.Shape.{shaped}
 use Rattle.soundness.specs.Sound.{sound}
 use Rattle.soundness.proofs.Sound.{sound-width}
 use Rattle.cards.specs.Forms.{read-slip}
-use Rattle.cards.specs.Cards.{counts-in, slip-read}
+use Rattle.cards.specs.Cards.{slip-read}
+use Rattle.cards.specs.inner.Fitting.{counts-in}
 use Rattle.cards.proofs.Passed.{counts-all}
 use Rattle.cards.proofs.Answered.{unsound-slip-read, sound-slip-read}
 use borrow.Author.Needs.{needs}

@@ -3,7 +3,7 @@
 use native.Mathlib.Omega.{arith}
 use mathlib.Core.Path.{ap, subst, _∙_}
 use lib.ListN.{length}
-use Rattle.steps.specs.Places.{step-part, Step-lies}
+use Rattle.steps.specs.inner.Places.{step-part, Step-lies}
 use Rattle.steps.specs.declared.step.Step.the-variants as step
 use Rattle.steps.proofs.Places as places
 use Rattle.clauses.proofs.AssignmentLaws as assignments

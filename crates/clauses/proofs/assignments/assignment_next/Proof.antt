@@ -3,7 +3,7 @@
 use native.Mathlib.Omega.{arith}
 use mathlib.Core.Path.{ap, subst, _∙_}
 use lib.ListN.{length}
-use Rattle.steps.specs.Spans.{number-part, Slot-lies}
+use Rattle.steps.specs.inner.Spans.{number-part, Slot-lies}
 use Rattle.steps.specs.declared.names.Number.the-variants as number
 use Rattle.clauses.proofs.AssignmentLaws as assignments
 use borrow.Author.Needs.{needs}

@@ -3,9 +3,9 @@
 use native.Mathlib.Omega.{arith}
 use mathlib.Core.Path.{ap, subst, _∙_}
 use lib.ListN.{length}
-use Rattle.steps.specs.Places.{step-part, Step-lies}
+use Rattle.steps.specs.inner.Places.{step-part, Step-lies}
 use Rattle.steps.specs.declared.step.Step.the-variants as step
-use Rattle.steps.specs.Spans.{number-part, Number-lies}
+use Rattle.steps.specs.inner.Spans.{number-part, Number-lies}
 use Rattle.steps.specs.declared.names.Number.the-variants as number
 use Rattle.clauses.proofs.AssignmentLaws as assignments
 use borrow.Author.Needs.{needs}

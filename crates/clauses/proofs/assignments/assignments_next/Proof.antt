@@ -9,9 +9,9 @@ use Rattle.grammar.specs.Limits.{max-assignments}
 use Rattle.grammar.specs.Files.{Slot}
 use Rattle.grammar.specs.Reading.{read-assignments}
 use Rattle.table.specs.Limits.{assignment-limit}
-use Rattle.steps.specs.Places.{tokens-past, choice, Fork-lies}
-use Rattle.clauses.specs.Literals.{Looked}
-use Rattle.clauses.specs.Assignments.{pairs-in, Unused-zero, assignment-part, Assignment-lies}
+use Rattle.steps.specs.inner.Places.{tokens-past, choice, Fork-lies}
+use Rattle.clauses.specs.inner.Literals.{Looked}
+use Rattle.clauses.specs.inner.Assignments.{pairs-in, Unused-zero, assignment-part, Assignment-lies}
 use Rattle.steps.specs.declared.step.Fork.the-variants as way
 use Rattle.clauses.specs.declared.assignments.AssignmentRead.the-variants as read
 use Rattle.clauses.proofs.AssignmentLaws as assignments

@@ -10,7 +10,7 @@ use Rattle.table.specs.Link.{assignment-of}
 use Rattle.table.specs.Shape.{zero-assignment}
 use Rattle.model.proofs.Pairs.{assigns-here, assigns-later}
 use Rattle.model.specs.Rules.{assigns}
-use Rattle.clauses.specs.Assignments.{pairs-in}
+use Rattle.clauses.specs.inner.Assignments.{pairs-in}
 use Rattle.clauses.proofs.AssignmentLaws as assignments
 use borrow.Author.Needs.{needs}
 use Rattle.clauses.proofs.assignments.is_assigned.Statement.{statement}

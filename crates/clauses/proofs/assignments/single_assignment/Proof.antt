@@ -3,7 +3,7 @@
 use native.Mathlib.Omega.{arith}
 use mathlib.Core.Path.{sym, ap, subst, _∙_}
 use lib.ListN.{length}
-use Rattle.clauses.specs.Assignments.{Unused-zero, assignment-part, Assignment-lies}
+use Rattle.clauses.specs.inner.Assignments.{Unused-zero, assignment-part, Assignment-lies}
 use Rattle.clauses.specs.declared.assignments.AssignmentRead.the-variants as read
 use Rattle.clauses.proofs.AssignmentLaws as assignments
 use borrow.Author.Needs.{needs}

@@ -1,7 +1,7 @@
 -- `clauses::assignments::surplus_fault` meets its contract.
 -- Assumes nothing.
 use mathlib.Core.Path.{ap, _∙_}
-use Rattle.steps.specs.Places.{named-part}
+use Rattle.steps.specs.inner.Places.{named-part}
 use Rattle.clauses.proofs.AssignmentLaws as assignments
 use borrow.Author.Needs.{needs}
 use Rattle.clauses.proofs.assignments.surplus_fault.Statement.{statement}

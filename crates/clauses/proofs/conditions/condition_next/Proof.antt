@@ -8,7 +8,7 @@ use Rattle.laws.proofs.Filled.{filled-none}
 use Rattle.table.specs.Shape.{zero-literal}
 use Rattle.text.specs.Tokens.{TRUE}
 use Rattle.grammar.specs.Reading.{took, expects}
-use Rattle.steps.specs.Places.{tokens-past, step-part, Step-lies, choice, Fork-lies}
+use Rattle.steps.specs.inner.Places.{tokens-past, step-part, Step-lies, choice, Fork-lies}
 use Rattle.steps.specs.declared.step.Step.the-variants as step
 use Rattle.steps.proofs.Places as places
 use Rattle.clauses.proofs.ConditionLaws as conditions

@@ -7,15 +7,15 @@ use mathlib.Core.Bool.{false}
 use Rattle.model.specs.Rules as model
 use mathlib.Core.List.{List, []}
 use lib.ListN.{length}
-use Rattle.laws.specs.Filled.{Filled}
+use Rattle.laws.specs.inner.Filled.{Filled}
 use Rattle.laws.proofs.Filled.{filled-none, filled-add}
 use Rattle.table.specs.Shape.{zero-literal}
 use Rattle.grammar.specs.Files.{Slot}
 use Rattle.grammar.specs.Limits.{max-literals}
 use Rattle.grammar.specs.Reading.{took, read-literal, read-literals}
-use Rattle.steps.specs.Places.{tokens-past, choice, Fork-lies}
-use Rattle.clauses.specs.Literals.{Looked, literal-part, Literal-lies}
-use Rattle.clauses.specs.Conditions.{literals-in}
+use Rattle.steps.specs.inner.Places.{tokens-past, choice, Fork-lies}
+use Rattle.clauses.specs.inner.Literals.{Looked, literal-part, Literal-lies}
+use Rattle.clauses.specs.inner.Conditions.{literals-in}
 use Rattle.clauses.specs.declared.literals.LiteralRead.the-variants as read
 use Rattle.clauses.proofs.ConditionLaws as conditions
 use borrow.Author.Needs.{needs}

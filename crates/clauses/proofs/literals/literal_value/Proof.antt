@@ -4,7 +4,7 @@ use Prim.Native.Nat.{_-_}
 use native.Mathlib.Omega.{arith}
 use mathlib.Core.Path.{ap, subst, _∙_}
 use lib.ListN.{length}
-use Rattle.steps.specs.Spans.{number-part, Number-lies}
+use Rattle.steps.specs.inner.Spans.{number-part, Number-lies}
 use Rattle.steps.specs.declared.names.Number.the-variants as number
 use Rattle.clauses.proofs.LiteralLaws as literals
 use borrow.Author.Needs.{needs}

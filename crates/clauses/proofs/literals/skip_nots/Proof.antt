@@ -8,7 +8,7 @@ use lib.ListN.{length}
 use mathlib.Core.Bool.{false}
 use Rattle.grammar.specs.Files.{Slot}
 use Rattle.grammar.specs.Reading.{read-literal, plain-literal}
-use Rattle.steps.specs.Places.{tokens-past}
+use Rattle.steps.specs.inner.Places.{tokens-past}
 use Rattle.steps.proofs.Places as places
 use Rattle.clauses.proofs.LiteralLaws as literals
 use borrow.Author.Needs.{needs}

@@ -5,7 +5,8 @@ use Prim.Native.Nat.{_-_, _≤_, _<_}
 use lib.ListN.{length, getD}
 use Rattle.table.specs.Limits.{slot-limit}
 use Rattle.laws.specs.Answers.{passed, fault}
-use Rattle.cards.specs.Cards.{counts-in, card-values, verdict-outcome}
+use Rattle.cards.specs.Cards.{card-values}
+use Rattle.cards.specs.inner.Fitting.{counts-in, verdict-outcome}
 use Rattle.cards.proofs.Tested.{ValuesLeft, values-start, values-next, values-fault, values-end, other-count, same-count, counts-length, count-at}
 use Rattle.cards.proofs.Formed.{card-length, card-at}
 use native.Mathlib.Omega.{arith}

@@ -6,7 +6,8 @@ use lib.ListN.{length, getD}
 use Rattle.model.specs.Result.{pair}
 use Rattle.table.specs.Limits.{slot-limit}
 use Rattle.cards.specs.Forms.{change-fault}
-use Rattle.cards.specs.Cards.{counts-in, changes-of, verdict-outcome}
+use Rattle.cards.specs.Cards.{changes-of}
+use Rattle.cards.specs.inner.Fitting.{counts-in, verdict-outcome}
 use Rattle.cards.proofs.Tested.{no-pair, ChangesLeft, changes-start, changes-next, changes-fault, changes-end, change-right, counts-length}
 use Rattle.cards.proofs.Formed.{slip-length, slip-at}
 use native.Mathlib.Omega.{arith}

@@ -7,9 +7,9 @@ use lib.ListN.{length, take}
 use lib.Seq.{take-all}
 use borrow.Author.Needs.{needs}
 use Rattle.grammar.specs.Files.{Slot}
-use Rattle.lines.specs.Index.{Indexed}
+use Rattle.lines.specs.inner.Index.{Indexed}
 use Rattle.lines.proofs.Index.{indexed-none}
-use Rattle.printing.specs.Tabled.{Tabled}
+use Rattle.printing.specs.inner.Tabled.{Tabled}
 use Rattle.printing.proofs.Tabled.{slot-small, values-small, entered-next}
 use Rattle.printing.proofs.spans.enter_slots.Statement.{statement}
 use Rattle.printing.proofs.spans.enter_slots.Tie as tie

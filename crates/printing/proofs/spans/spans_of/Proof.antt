@@ -11,7 +11,7 @@ use Rattle.laws.proofs.Lists.{map-append}
 use Rattle.table.specs.Limits.{value-limit}
 use Rattle.table.specs.Shape.{zero-name}
 use Rattle.table.proofs.Shape.{slot-shaped}
-use Rattle.printing.specs.Tabled.{span-of}
+use Rattle.printing.specs.inner.Tabled.{span-of}
 use borrow.Author.Needs.{needs}
 use Rattle.printing.proofs.spans.spans_of.Statement.{statement}
 use Rattle.printing.proofs.spans.spans_of.Tie as tie

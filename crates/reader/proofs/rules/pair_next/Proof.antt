@@ -7,9 +7,9 @@ use mathlib.Core.List.{List}
 use lib.ListN.{length}
 use Rattle.grammar.specs.Files.{Slot}
 use Rattle.grammar.specs.Reading.{took, read-slot}
-use Rattle.steps.specs.Places.{tokens-past, step-part, Step-lies}
-use Rattle.steps.specs.Spans.{number-part, Slot-lies, Number-lies}
-use Rattle.clauses.specs.Literals.{Looked}
+use Rattle.steps.specs.inner.Places.{tokens-past, step-part, Step-lies}
+use Rattle.steps.specs.inner.Spans.{number-part, Slot-lies, Number-lies}
+use Rattle.clauses.specs.inner.Literals.{Looked}
 use Rattle.steps.specs.declared.names.Number.the-variants as number
 use Rattle.clauses.proofs.LiteralLaws.{slot-inside}
 use Rattle.reader.proofs.RuleLaws as rules

@@ -3,9 +3,9 @@
 use Prim.Native.Nat.{_-_}
 use native.Mathlib.Omega.{arith}
 use mathlib.Core.Path.{refl, ap, subst, _∙_}
-use Rattle.steps.specs.Places.{Step-lies, outcome-part}
-use Rattle.clauses.specs.Conditions.{literals-in}
-use Rattle.clauses.specs.Assignments.{pairs-in}
+use Rattle.steps.specs.inner.Places.{Step-lies, outcome-part}
+use Rattle.clauses.specs.inner.Conditions.{literals-in}
+use Rattle.clauses.specs.inner.Assignments.{pairs-in}
 use Rattle.steps.proofs.Places as places
 use Rattle.reader.proofs.RuleLaws as rules
 use borrow.Author.Needs.{needs}

@@ -3,7 +3,7 @@
 use Prim.Native.Nat.{_-_}
 use native.Mathlib.Omega.{arith}
 use mathlib.Core.Path.{ap, subst, _∙_}
-use Rattle.reader.specs.Rules.{pair-part, Pair-lies}
+use Rattle.reader.specs.inner.Rules.{pair-part, Pair-lies}
 use Rattle.steps.proofs.Places as places
 use Rattle.reader.proofs.RuleLaws as rules
 use borrow.Author.Needs.{needs}

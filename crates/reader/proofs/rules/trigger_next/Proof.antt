@@ -3,8 +3,8 @@
 use Prim.Native.Nat.{_-_}
 use native.Mathlib.Omega.{arith}
 use mathlib.Core.Path.{ap, subst, _∙_}
-use Rattle.steps.specs.Places.{step-part, Step-lies}
-use Rattle.reader.specs.Rules.{pair-part, Pair-lies}
+use Rattle.steps.specs.inner.Places.{step-part, Step-lies}
+use Rattle.reader.specs.inner.Rules.{pair-part, Pair-lies}
 use Rattle.reader.proofs.RuleLaws as rules
 use borrow.Author.Needs.{needs}
 use Rattle.reader.proofs.rules.trigger_next.Statement.{statement}

@@ -4,7 +4,7 @@ use Prim.Native.Nat.{_-_}
 use native.Mathlib.Omega.{arith}
 use mathlib.Core.Path.{ap, subst, _∙_}
 use Rattle.grammar.specs.Limits.{max-rules}
-use Rattle.steps.specs.Places.{step-part, Step-lies, outcome-part}
+use Rattle.steps.specs.inner.Places.{step-part, Step-lies, outcome-part}
 use Rattle.table.specs.Link.{rule-of}
 use Rattle.reader.proofs.StatementLaws as statements
 use borrow.Author.Needs.{needs}

@@ -4,9 +4,9 @@ use Prim.Native.Nat.{_-_}
 use native.Mathlib.Omega.{arith}
 use mathlib.Core.Path.{refl, ap, subst, _∙_}
 use Rattle.grammar.specs.Limits.{max-slots}
-use Rattle.steps.specs.Places.{Step-lies, outcome-part}
-use Rattle.lines.specs.Index.{span-slot}
-use Rattle.lines.specs.Lines.{Line-lies}
+use Rattle.steps.specs.inner.Places.{Step-lies, outcome-part}
+use Rattle.lines.specs.inner.Index.{span-slot}
+use Rattle.lines.specs.inner.Lines.{Line-lies}
 use Rattle.lines.proofs.Index.{indexed-slots}
 use Rattle.reader.proofs.StatementLaws as statements
 use borrow.Author.Needs.{needs}

@@ -7,8 +7,8 @@ use mathlib.Core.Logic.{⊎-elim}
 use lib.ListN.{length}
 use Rattle.model.specs.Rules as model
 use Rattle.text.specs.Tokens.{SLOT}
-use Rattle.steps.specs.Places.{tokens-past, step-part}
-use Rattle.reader.specs.Statements.{read-on, statement-answer, Statement-lies}
+use Rattle.steps.specs.inner.Places.{tokens-past, step-part}
+use Rattle.reader.specs.inner.Statements.{read-on, statement-answer, Statement-lies}
 use Rattle.steps.proofs.Places as places
 use Rattle.reader.proofs.StatementLaws as statements
 use borrow.Author.Needs.{needs}

@@ -7,14 +7,13 @@ use Prim.Native.Nat.{ℕ}
 use lib.ListN.{take, drop, replicate}
 use lib.Seq.{length-take-le}
 use Rattle.table.specs.Shape.{Shaped}
-use Rattle.table.specs.Limits.{pair-places}
 use Rattle.laws.specs.Packed.{byte-count}
-use Rattle.table.specs.Flat.{set-of, add-pairs}
+use Rattle.table.specs.inner.Flat.{set-of, add-pairs, pair-places}
 use Rattle.table.proofs.Shape.{shaped}
 use Rattle.cards.specs.Forms.{card-bits, card-bytes}
 use Rattle.cards.specs.Cards.{card-values, changes-of}
 use Rattle.results.specs.Record.{ones-in}
-use Rattle.firing.specs.Firing.{table-firing}
+use Rattle.firing.specs.inner.Firing.{table-firing}
 use Rattle.response.proofs.AnswerLaws.{conflict-ends, next-in-order, listed-fits, listed-room, record-there, answer-ends}
 use native.Mathlib.Omega.{arith}
 use borrow.Author.Needs.{needs}

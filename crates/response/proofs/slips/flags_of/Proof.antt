@@ -4,8 +4,7 @@ use mathlib.Core.Path.{_≡_, refl}
 use mathlib.Core.Bool.{false}
 use Prim.Native.Nat.{_-_, _≤_}
 use lib.ListN.{drop, replicate}
-use Rattle.table.specs.Limits.{pair-places}
-use Rattle.table.specs.Flat.{add-pairs}
+use Rattle.table.specs.inner.Flat.{add-pairs, pair-places}
 use Rattle.cards.specs.Cards.{changes-of}
 use Rattle.response.proofs.SlipLaws.{changes-next, changes-end}
 use borrow.Author.Needs.{needs}

@@ -1,7 +1,7 @@
 -- `response::slips::slip_of` meets its contract.
 -- Assumes nothing.
 use Prim.Native.Nat.{_-_, _≤_}
-use Rattle.table.specs.Flat.{set-of}
+use Rattle.table.specs.inner.Flat.{set-of}
 use Rattle.response.proofs.SlipLaws.{Listed, listed-start, listed-over, listed-more, listed-end}
 use borrow.Author.Needs.{needs}
 use Rattle.response.proofs.slips.slip_of.Statement.{statement}

@@ -1,7 +1,7 @@
 -- `results::records::bit_at` meets its contract.
 -- Assumes nothing.
 use Rattle.results.proofs.Bits.{bits-size, bit-inside, bit-past}
-use Rattle.results.specs.Record.{fired-bits}
+use Rattle.results.specs.inner.Record.{fired-bits}
 use native.Mathlib.Omega.{arith}
 use borrow.Author.Needs.{needs}
 use Rattle.results.proofs.records.bit_at.Statement.{statement}

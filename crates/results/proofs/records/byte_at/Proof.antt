@@ -4,7 +4,7 @@ use mathlib.Core.Path.{_≡_, _∙_}
 use mathlib.Core.Bool.{false}
 use Prim.Native.Nat.{_+_, _*_, _-_, _≤_, _<_}
 use lib.ListN.{getD}
-use Rattle.results.specs.Record.{fired-bits}
+use Rattle.results.specs.inner.Record.{fired-bits}
 use Rattle.results.proofs.Bits.{one-top, bits-until, until-start, until-next, until-half, until-end}
 use native.Mathlib.Omega.{arith}
 use borrow.Author.Needs.{needs}

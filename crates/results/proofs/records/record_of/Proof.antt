@@ -7,7 +7,7 @@ use lib.ListN.{length, drop}
 use Rattle.laws.specs.Tabulated.{tabulate}
 use Rattle.laws.specs.Packed.{byte-count, byte-at, pack}
 use Rattle.laws.proofs.Fronts.{front-start, front-next, front-length}
-use Rattle.results.specs.Record.{fired-bits, flag-record}
+use Rattle.results.specs.inner.Record.{fired-bits, flag-record}
 use Rattle.results.proofs.Bits.{bits-size}
 use native.Mathlib.Omega.{arith}
 use borrow.Author.Needs.{needs}

@@ -4,7 +4,7 @@ use Prim.Native.Nat.{ℕ, _-_, _≤_, _<_}
 use native.Mathlib.Omega.{arith}
 use mathlib.Core.List.{List}
 use lib.ListN.{length}
-use Rattle.steps.specs.Spans.{Listed}
+use Rattle.steps.specs.inner.Spans.{Listed}
 use Rattle.steps.proofs.Spans.{Left, left-start, left-end, left-zero, left-found, left-next}
 use borrow.Author.Needs.{needs}
 use Rattle.steps.proofs.names.find.Statement.{statement}

@@ -9,8 +9,8 @@ use native.Mathlib.Nat.{add-sub-cancel-left}
 use Rattle.text.specs.Tokens.{place}
 use Rattle.grammar.specs.Files.{spellings}
 use Rattle.grammar.specs.Reading.{a-name}
-use Rattle.steps.specs.Spans.{Listed}
-use Rattle.steps.specs.Places.{tokens-past, named-part, Named-lies}
+use Rattle.steps.specs.inner.Spans.{Listed}
+use Rattle.steps.specs.inner.Places.{tokens-past, named-part, Named-lies}
 use Rattle.steps.specs.declared.step.Named.the-variants as named
 use Rattle.steps.proofs.Spans as spans
 use borrow.Author.Needs.{needs}

@@ -5,7 +5,7 @@ use native.Mathlib.Omega.{arith}
 use mathlib.Core.Path.{_≡_, ap, subst, _∙_}
 use lib.ListN.{length}
 use Rattle.grammar.specs.Files.{slot-names}
-use Rattle.steps.specs.Spans.{number-part, Number-lies}
+use Rattle.steps.specs.inner.Spans.{number-part, Number-lies}
 use Rattle.steps.specs.declared.names.Number.the-variants as number
 use Rattle.steps.proofs.Spans as spans
 use borrow.Author.Needs.{needs}

@@ -1,7 +1,7 @@
 -- `steps::step::fork_next` meets its contract.
 -- Assumes nothing.
 use mathlib.Core.Path.{refl, sym, ap, _∙_}
-use Rattle.steps.specs.Places.{which, neither}
+use Rattle.steps.specs.inner.Places.{which, neither}
 use Rattle.steps.proofs.Places as places
 use borrow.Author.Needs.{needs}
 use Rattle.steps.proofs.step.fork_next.Statement.{statement}

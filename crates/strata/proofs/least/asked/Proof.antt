@@ -16,7 +16,7 @@ use Rattle.table.specs.Shape.{RuleShaped, zero-literal}
 use Rattle.table.specs.Link.{rule-of, literal-of}
 use Rattle.table.proofs.Shape.{rule-shaped}
 use Rattle.table.proofs.Walks.{picked-from, needed-start, barred-start, picked-end, picked-next, picked-over}
-use Rattle.strata.specs.Heights.{highest-at, asked-at}
+use Rattle.strata.specs.inner.Heights.{highest-at, asked-at}
 use Rattle.strata.proofs.least.asked.Statement.{statement}
 use Rattle.strata.proofs.least.asked.Tie as tie
 

@@ -7,7 +7,7 @@ use Prim.Native.Nat.{_-_, _≤_, max}
 use Rattle.table.proofs.Shape.{rule-shaped}
 use Rattle.table.specs.Shape.{RuleShaped}
 use Rattle.table.proofs.Walks.{assigned-from, assigned-start, assigned-end, assigned-next}
-use Rattle.strata.specs.Heights.{raise-all}
+use Rattle.strata.specs.inner.Heights.{raise-all}
 use native.Mathlib.Omega.{arith}
 use borrow.Author.Needs.{needs}
 use Rattle.strata.proofs.least.raise.Statement.{statement}

@@ -8,7 +8,8 @@ use Rattle.laws.specs.Packed.{byte-count}
 use Rattle.table.specs.Limits.{slot-limit}
 use Rattle.laws.specs.Answers.{passed, fault}
 use Rattle.cards.specs.Forms.{card-bits, count-in, values-in, padding, card-test}
-use Rattle.cards.specs.Cards.{counts-in, card-read, card-of}
+use Rattle.cards.specs.Cards.{card-read, card-of}
+use Rattle.cards.specs.inner.Fitting.{counts-in}
 use Rattle.cards.proofs.Tested.{ValuesLeft, values-start, values-next, values-fault, values-end, other-count, same-count, counts-length, count-at}
 use Rattle.cards.proofs.Taken.{values-length, value-at, card-short, card-fault, card-padded, card-taken, map-same, Gathered, gathered-start, gathered-next, gathered-all}
 use native.Mathlib.Omega.{arith}

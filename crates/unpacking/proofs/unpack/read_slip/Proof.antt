@@ -8,7 +8,8 @@ use Rattle.model.specs.Result.{pair}
 use Rattle.table.specs.Limits.{slot-limit}
 use Rattle.laws.specs.Answers.{passed}
 use Rattle.cards.specs.Forms.{slip-bits, count-in, changes-in, padding, change-fault, slip-test}
-use Rattle.cards.specs.Cards.{counts-in, no-change, change-of, slip-read, slip-of}
+use Rattle.cards.specs.Cards.{no-change, change-of, slip-read, slip-of}
+use Rattle.cards.specs.inner.Fitting.{counts-in}
 use Rattle.cards.proofs.Tested.{no-pair, ChangesLeft, changes-start, changes-next, changes-fault, changes-end, Right, change-right, counts-length}
 use Rattle.cards.proofs.Taken.{changes-length, change-at, slip-short, slip-fault, slip-padded, slip-taken, Gathered, gathered-start, gathered-next, gathered-all}
 use native.Mathlib.Omega.{arith}

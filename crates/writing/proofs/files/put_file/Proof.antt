@@ -7,7 +7,7 @@ use mathlib.Core.List.{List, _++_, append-assoc}
 use borrow.Author.Needs.{needs}
 use Rattle.table.specs.Shape.{Shaped}
 use Rattle.table.proofs.Shape.{shaped}
-use Rattle.writing.specs.Spelled.{spelled-file}
+use Rattle.writing.specs.inner.Spelled.{spelled-file}
 use Rattle.writing.proofs.Putting.{Left, left-start, left-on, left-room, left-as, left-end}
 use Rattle.writing.proofs.Lines.{line-at, lines-from, rule-at, rules-from, file-lines, lines-on, lines-over, rules-on, rules-over}
 use Rattle.writing.proofs.files.put_file.Statement.{statement}

@@ -5,9 +5,9 @@ use mathlib.Core.List.{List, _++_}
 use lib.ListN.{length, getD}
 use borrow.Author.Needs.{needs}
 use Rattle.laws.specs.Quoted.{bytes-from, bytes}
-use Rattle.writing.specs.Puts.{longest}
-use Rattle.writing.specs.Written.{separated, line-bytes}
-use Rattle.writing.specs.Spelled.{spelled, spelled-values}
+use Rattle.writing.specs.inner.Puts.{longest}
+use Rattle.writing.specs.inner.Written.{separated, line-bytes}
+use Rattle.writing.specs.inner.Spelled.{spelled, spelled-values}
 use Rattle.writing.proofs.Putting.{Left, left-start, left-on, left-room}
 use Rattle.writing.proofs.files.put_line.Statement.{statement}
 use Rattle.writing.proofs.files.put_line.Tie as tie

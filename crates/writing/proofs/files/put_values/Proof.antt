@@ -8,8 +8,8 @@ use lib.ListN.{length, getD}
 use borrow.Author.Needs.{needs}
 use Rattle.laws.specs.Quoted.{bytes-from, bytes}
 use Rattle.table.specs.Limits.{row}
-use Rattle.writing.specs.Puts.{longest}
-use Rattle.writing.specs.Spelled.{spelled}
+use Rattle.writing.specs.inner.Puts.{longest}
+use Rattle.writing.specs.inner.Spelled.{spelled}
 use Rattle.writing.proofs.Putting.{puts-on, puts-as, room-first, room-rest, Left, left-start, left-on, left-room, left-as, left-end}
 use Rattle.writing.proofs.Lines.{value-at, more-values, values-some, values-on, values-over}
 use Rattle.writing.proofs.files.put_values.Statement.{statement}

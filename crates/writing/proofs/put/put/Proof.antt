@@ -8,7 +8,7 @@ use mathlib.Core.Path.{_≡_, refl, sym, ap, _∙_}
 use lib.Seq.{length-take-le, take-suc, take-length}
 use lib.ListN.{length, getD, set, take}
 use borrow.Author.Needs.{needs}
-use Rattle.writing.specs.Puts.{put-in}
+use Rattle.writing.specs.inner.Puts.{put-in}
 use Rattle.writing.proofs.Putting.{put-none, put-length, put-byte}
 use Rattle.writing.proofs.put.put.Statement.{statement}
 use Rattle.writing.proofs.put.put.Tie as tie

@@ -8,7 +8,7 @@ use mathlib.Core.List.{List, []}
 use lib.ListN.{length, take, drop}
 use borrow.Author.Tests.{le-leb, lt-leb}
 use borrow.Author.Needs.{needs}
-use Rattle.writing.specs.Spelled.{spelled}
+use Rattle.writing.specs.inner.Spelled.{spelled}
 use Rattle.writing.proofs.Putting.{puts-none, puts-as}
 use Rattle.writing.proofs.put.put_name.Statement.{statement}
 use Rattle.writing.proofs.put.put_name.Tie as tie

@@ -9,9 +9,9 @@ use borrow.Author.Needs.{needs}
 use Rattle.laws.specs.Quoted.{bytes-from, bytes}
 use Rattle.table.specs.Shape.{RuleShaped}
 use Rattle.table.proofs.Shape.{rule-shaped}
-use Rattle.writing.specs.Puts.{longest}
-use Rattle.writing.specs.Written.{Pairing}
-use Rattle.writing.specs.Spelled.{spelled-pair}
+use Rattle.writing.specs.inner.Puts.{longest}
+use Rattle.writing.specs.inner.Written.{Pairing}
+use Rattle.writing.specs.inner.Spelled.{spelled-pair}
 use Rattle.writing.proofs.Putting.{puts-on, puts-as, room-first, room-rest}
 use Rattle.writing.proofs.Clauses.{listed, assign-one, assign-more}
 use Rattle.writing.proofs.rules.put_assign.Statement.{statement}

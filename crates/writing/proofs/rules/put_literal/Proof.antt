@@ -7,9 +7,9 @@ use borrow.Author.Needs.{needs}
 use Rattle.laws.specs.Quoted.{bytes-from, bytes}
 use Rattle.model.specs.Rules.{Literal}
 use Rattle.table.specs.Link.{literal-of}
-use Rattle.writing.specs.Puts.{longest}
-use Rattle.writing.specs.Written.{Pairing, test-bytes, literal-bytes}
-use Rattle.writing.specs.Spelled.{spelled-pair}
+use Rattle.writing.specs.inner.Puts.{longest}
+use Rattle.writing.specs.inner.Written.{Pairing, test-bytes, literal-bytes}
+use Rattle.writing.specs.inner.Spelled.{spelled-pair}
 use Rattle.writing.proofs.Putting.{puts-on, puts-as, room-first, room-rest}
 use Rattle.writing.proofs.rules.put_literal.Statement.{statement}
 use Rattle.writing.proofs.rules.put_literal.Tie as tie

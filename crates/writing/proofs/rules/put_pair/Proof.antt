@@ -7,8 +7,8 @@ use lib.ListN.{length, getD}
 use borrow.Author.Needs.{needs}
 use Rattle.model.specs.Result.{pair}
 use Rattle.table.specs.Limits.{row}
-use Rattle.writing.specs.Puts.{longest, Puts}
-use Rattle.writing.specs.Spelled.{spelled, spelled-pair}
+use Rattle.writing.specs.inner.Puts.{longest, Puts}
+use Rattle.writing.specs.inner.Spelled.{spelled, spelled-pair}
 use Rattle.writing.proofs.Putting.{puts-on, room-first, room-rest}
 use Rattle.writing.proofs.rules.put_pair.Statement.{statement}
 use Rattle.writing.proofs.rules.put_pair.Tie as tie

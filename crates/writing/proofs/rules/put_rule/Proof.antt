@@ -7,9 +7,9 @@ use borrow.Author.Needs.{needs}
 use Rattle.laws.specs.Quoted.{bytes-from, bytes}
 use Rattle.model.specs.Rules.{Rule}
 use Rattle.table.specs.Link.{rule-of}
-use Rattle.writing.specs.Puts.{longest}
-use Rattle.writing.specs.Written.{Pairing, condition-bytes, assign-bytes, rule-bytes}
-use Rattle.writing.specs.Spelled.{spelled-pair}
+use Rattle.writing.specs.inner.Puts.{longest}
+use Rattle.writing.specs.inner.Written.{Pairing, condition-bytes, assign-bytes, rule-bytes}
+use Rattle.writing.specs.inner.Spelled.{spelled-pair}
 use Rattle.writing.proofs.Putting.{Left, left-start, left-on, left-room}
 use Rattle.writing.proofs.rules.put_rule.Statement.{statement}
 use Rattle.writing.proofs.rules.put_rule.Tie as tie

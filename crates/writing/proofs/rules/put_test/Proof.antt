@@ -2,7 +2,7 @@
 -- Assumes nothing.
 use borrow.Author.Needs.{needs}
 use Rattle.laws.specs.Quoted.{bytes-from, bytes}
-use Rattle.writing.specs.Written.{test-bytes}
+use Rattle.writing.specs.inner.Written.{test-bytes}
 use Rattle.writing.proofs.rules.put_test.Statement.{statement}
 use Rattle.writing.proofs.rules.put_test.Tie as tie
 

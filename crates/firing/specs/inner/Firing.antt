@@ -1,0 +1,34 @@
+-- Document 01, 'Preconditions and response': what firing the rules of a table gives, in arrays of flags.
+use mathlib.Core.Bool.{Bool}
+use mathlib.Core.List.{List}
+use Prim.Native.Nat.{ℕ, suc}
+use Rattle.laws.specs.Tabulated.{tabulate}
+use Rattle.model.specs.Orders.{names, changes}
+use Rattle.model.specs.Strata.{weak, Strata}
+use Rattle.model.specs.Response.{response-by, response}
+use Rattle.table.specs.declared.Table.{Table}
+use Rattle.table.specs.Limits.{rule-limit}
+use Rattle.table.specs.Link.{rules-of, stratum-at}
+use Rattle.table.specs.inner.Flat.{flags-of, pairs-of}
+use Rattle.table.specs.inner.Fits.{TableFits}
+use Rattle.firing.specs.declared.Firing.{Firing}
+
+-- What firing asks of a table: every pair that its rules name has a place, and the numbers that it carries are strata. A table that 31 lets pass has it.
+pub record CanFire (t : Table) : Type 0 where
+  pub fits : TableFits t
+  pub strata : Strata weak (rules-of t) (stratum-at t)
+
+-- The changes that a firing order ends with, and the rules that it names, rule 1 first; the slip is an array of flags.
+unfoldable pub fired-in : Table → List Bool → List ℕ → Firing
+fired-in t slip ns = record {
+  changes = flags-of (changes (rules-of t) (pairs-of slip) ns);
+  fired = tabulate (λ i. names ns (suc i)) rule-limit;
+}
+
+-- Firing by the numbers that the table carries.
+unfoldable pub carried-firing : Table → List ℕ → List Bool → Firing
+carried-firing t S slip = fired-in t slip (response-by (rules-of t) S (pairs-of slip) (stratum-at t))
+
+-- Firing: the response, by the least strata.
+unfoldable pub table-firing : Table → List ℕ → List Bool → Firing
+table-firing t S slip = fired-in t slip (response weak (rules-of t) S (pairs-of slip))

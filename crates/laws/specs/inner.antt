@@ -1,0 +1,5 @@
+pub mod Flags
+pub mod Filled
+pub mod Put
+pub mod Total
+pub mod Back

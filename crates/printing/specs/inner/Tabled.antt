@@ -1,0 +1,40 @@
+-- What is known of the table of an accepted text's slots when their spans are entered: its names are stretches of the text. Nothing here need be believed: `tabled` shows it of every accepted text.
+use Prim.Native.Nat.{ℕ, _≤_, _<_}
+use mathlib.Core.Path.{_≡_}
+use mathlib.Core.List.{List, map}
+use lib.ListN.{length, getD}
+use Rattle.laws.specs.Filled.{filled}
+use Rattle.grammar.specs.Limits.{max-text, max-values}
+use Rattle.grammar.specs.Files.{Slot}
+use Rattle.grammar.specs.Standing.{Slots-stand}
+use Rattle.table.specs.declared.Name.{Name}
+use Rattle.table.specs.declared.Table.{Table}
+use Rattle.table.specs.Limits.{slot-limit}
+use Rattle.table.specs.Shape.{zero-name}
+use Rattle.table.specs.Empty.{unused-slot}
+use Rattle.steps.specs.inner.Spans.{span}
+use Rattle.grammar.specs.TableFor.{slot-for}
+use Rattle.laws.specs.Listed.{Each}
+use Rattle.style.specs.inner.Named.{Well-named}
+
+-- The span of a name of the table.
+abbrev pub span-of : Name → ℕ
+span-of n = span (n .start) (n .size)
+
+-- A name within the limits of a text and of a name, so that its span says where it stands.
+abbrev pub SmallName : Name → Type 0
+SmallName n = (n .start ≤ max-text) × (n .size < 32)
+
+-- So is each of the names in a list.
+abbrev pub SmallNames : List Name → Type 0
+SmallNames ns = (i : ℕ) → SmallName (getD ns i zero-name)
+
+-- The slots of the table are these, their names stand in the text and are names, and all are within the limits.
+pub record Tabled (text : List ℕ) (slots : List Slot) (t : Table) : Type 0 where
+  pub width-is : t .width ≡ length slots
+  pub slots-are : t .slots ≡ filled slot-limit unused-slot (map slot-for slots)
+  pub few : length slots ≤ slot-limit
+  pub few-values : Each (λ (s : Slot). length (s .values) ≤ max-values) slots
+  pub short : length text ≤ max-text
+  pub stand : Slots-stand text slots
+  pub well-named : Each Well-named slots
