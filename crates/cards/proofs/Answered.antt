@@ -6,6 +6,7 @@ use mathlib.Core.List.{List, _++_}
 use Prim.Native.Nat.{ℕ, _≤_, _<_}
 use lib.ListN.{length, drop}
 use borrow.Author.Tests.{lt-ltb, le-ltb}
+use Rattle.laws.specs.Limits.{slot-limit}
 use Rattle.laws.specs.Packed.{byte-count}
 use Rattle.table.specs.declared.Table.{Table}
 use Rattle.table.specs.Link.{value-counts}
@@ -70,18 +71,18 @@ module _ (t : Table) (e : sound t ≡ true) where
 
   -- Packing a slip: too many changes, a fault, no room, or its bytes.
   module _ (s : Slip) (room : ℕ) where
-    pub slip-too-many : 32 < s .count → packed-slip t s room ≡ refused 24 0
+    pub slip-too-many : slot-limit < s .count → packed-slip t s room ≡ refused 24 0
     unfolding packed-slip if-sound write-slip
-    slip-too-many h = rw (e, slip-length s, lt-ltb 32 (s .count) h)
+    slip-too-many h = rw (e, slip-length s, lt-ltb slot-limit (s .count) h)
 
-    pub slip-faulty : s .count ≤ 32 → (k r : ℕ) → slip-test (value-counts t) (changes-of s) ≡ fault k r → packed-slip t s room ≡ refused k r
+    pub slip-faulty : s .count ≤ slot-limit → (k r : ℕ) → slip-test (value-counts t) (changes-of s) ≡ fault k r → packed-slip t s room ≡ refused k r
     unfolding packed-slip if-sound write-slip after
-    slip-faulty l k r f = rw (e, slip-length s, le-ltb 32 (s .count) l, f)
+    slip-faulty l k r f = rw (e, slip-length s, le-ltb slot-limit (s .count) l, f)
 
-    pub slip-without-room : s .count ≤ 32 → slip-test (value-counts t) (changes-of s) ≡ passed → room < byte-count (slip-bits (s .count)) → packed-slip t s room ≡ refused 30 2
+    pub slip-without-room : s .count ≤ slot-limit → slip-test (value-counts t) (changes-of s) ≡ passed → room < byte-count (slip-bits (s .count)) → packed-slip t s room ≡ refused 30 2
     unfolding packed-slip if-sound write-slip after
-    slip-without-room l f h = rw (e, slip-length s, le-ltb 32 (s .count) l, f, lt-ltb room (byte-count (slip-bits (s .count))) h)
+    slip-without-room l f h = rw (e, slip-length s, le-ltb slot-limit (s .count) l, f, lt-ltb room (byte-count (slip-bits (s .count))) h)
 
-    pub slip-with-room : s .count ≤ 32 → slip-test (value-counts t) (changes-of s) ≡ passed → byte-count (slip-bits (s .count)) ≤ room → packed-slip t s room ≡ taken (slip-bytes (changes-of s))
+    pub slip-with-room : s .count ≤ slot-limit → slip-test (value-counts t) (changes-of s) ≡ passed → byte-count (slip-bits (s .count)) ≤ room → packed-slip t s room ≡ taken (slip-bytes (changes-of s))
     unfolding packed-slip if-sound write-slip after
-    slip-with-room l f h = rw (e, slip-length s, le-ltb 32 (s .count) l, f, le-ltb room (byte-count (slip-bits (s .count))) h)
+    slip-with-room l f h = rw (e, slip-length s, le-ltb slot-limit (s .count) l, f, le-ltb room (byte-count (slip-bits (s .count))) h)

@@ -13,7 +13,7 @@ use Rattle.laws.specs.Filled.{filled}
 use Rattle.laws.specs.Packed.{byte-count, Bytes}
 use Rattle.model.specs.Rules.{Pair}
 use Rattle.table.specs.declared.Table.{Table}
-use Rattle.table.specs.Limits.{slot-limit}
+use Rattle.laws.specs.Limits.{slot-limit}
 use Rattle.table.specs.Shape.{Shaped}
 use Rattle.table.specs.Link.{value-counts}
 use Rattle.soundness.specs.Sound.{sound}
@@ -80,12 +80,12 @@ card-written : (counts vs : List ℕ) (room : ℕ) (ys : List ℕ) → write-car
 unfolding write-card
 card-written counts vs room ys e = written (card-test counts vs) (ltb room (byte-count (card-bits (length vs)))) 30 1 (card-bytes vs) ys e
 
-slip-written : (counts : List ℕ) (ps : List Pair) (room : ℕ) (ys : List ℕ) → write-slip counts ps room ≡ taken ys → (length ps ≤ 32) × (slip-test counts ps ≡ passed) × (slip-bytes ps ≡ ys)
+slip-written : (counts : List ℕ) (ps : List Pair) (room : ℕ) (ys : List ℕ) → write-slip counts ps room ≡ taken ys → (length ps ≤ slot-limit) × (slip-test counts ps ≡ passed) × (slip-bytes ps ≡ ys)
 unfolding write-slip
-slip-written counts ps room ys e = go (ltb 32 (length ps)) refl e
+slip-written counts ps room ys e = go (ltb slot-limit (length ps)) refl e
   where
-    go : (b : Bool) → ltb 32 (length ps) ≡ b → cond b (refused 24 0) (after (slip-test counts ps) (cond (ltb room (byte-count (slip-bits (length ps)))) (refused 30 2) (taken (slip-bytes ps)))) ≡ taken ys
-        → (length ps ≤ 32) × (slip-test counts ps ≡ passed) × (slip-bytes ps ≡ ys)
+    go : (b : Bool) → ltb slot-limit (length ps) ≡ b → cond b (refused 24 0) (after (slip-test counts ps) (cond (ltb room (byte-count (slip-bits (length ps)))) (refused 30 2) (taken (slip-bytes ps)))) ≡ taken ys
+        → (length ps ≤ slot-limit) × (slip-test counts ps ≡ passed) × (slip-bytes ps ≡ ys)
     go true d e = absurd (let z : _≡_ {A = ℕ} 0 1 = cc in omega arith)
     go false d e = let w = written (slip-test counts ps) (ltb room (byte-count (slip-bits (length ps)))) 30 2 (slip-bytes ps) ys e in (ltb-false 32 (length ps) d, w .0, w .1)
 
@@ -127,7 +127,7 @@ module _ (t : Table) (sh : Shaped t) where
       let q : slip-test (value-counts t) ps ≡ passed = rw (← a .same-form) (a .passes) in
       let p : slip-test (value-counts t) (changes-of (slip-of ps)) ≡ passed = rw (slip-of-changes ps) q in
       let k = slip-packs-back (value-counts t) ys ps b r in
-      let f : length ps ≤ 32 = omega (arith, slip-few (value-counts t) ps q, sound-slots t sh d .few) in
+      let f : length ps ≤ slot-limit = omega (arith, slip-few (value-counts t) ps q, sound-slots t sh d .few) in
       slip-with-room t d (slip-of ps) room f p (omega (arith, h, slip-bytes-length ps, ap length k)) ∙ ap taken (ap slip-bytes (slip-of-changes ps) ∙ k)
 
   -- A card that is packed is unpacked to itself,

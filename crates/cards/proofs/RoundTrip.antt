@@ -11,7 +11,7 @@ use borrow.Author.Tests.{eqb-true}
 use Rattle.laws.specs.Packed.{Field, field, byte-count, pack-fields, field-bits, field-at, fields-at, Bytes}
 use Rattle.laws.proofs.Fields.{packs-back, reads-packed, padding-packed, fields-length}
 use Rattle.model.specs.Rules.{Pair}
-use Rattle.table.specs.Limits.{slot-limit}
+use Rattle.laws.specs.Limits.{slot-limit}
 use Rattle.laws.specs.Answers.{Verdict, passed, fault, OrRefused, taken, refused, after}
 use Rattle.cards.specs.Forms.{card-bits, slip-bits, card-fields, slip-fields, card-bytes, slip-bytes, count-in, values-in, changes-in, padding, card-test, slip-test, read-card, read-slip}
 use Rattle.cards.proofs.Taken.{values-length, value-at, card-taken, slip-taken}

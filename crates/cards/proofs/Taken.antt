@@ -14,7 +14,7 @@ use Rattle.laws.proofs.Filled.{filled-snoc}
 use Rattle.laws.proofs.Lists.{map-append}
 use Rattle.laws.proofs.Tabulated.{tabulate-length, tabulate-at}
 use Rattle.model.specs.Result.{pair}
-use Rattle.table.specs.Limits.{slot-limit}
+use Rattle.laws.specs.Limits.{slot-limit}
 use Rattle.laws.specs.Answers.{passed, fault, taken, refused, after}
 use Rattle.cards.specs.Forms.{card-bits, slip-bits, count-in, values-in, changes-in, padding, card-test, slip-test, read-card, read-slip}
 use Rattle.cards.proofs.Tested.{no-pair}

@@ -4,6 +4,7 @@ use mathlib.Core.Bool.{cond}
 use mathlib.Core.List.{List, [], _∷_, map}
 use lib.Dec.{eqb, leb, ltb}
 use lib.ListN.{length, getD}
+use Rattle.laws.specs.Limits.{slot-limit}
 use Rattle.laws.specs.Truth.{_∨ᵇ_}
 use Rattle.laws.specs.Tabulated.{tabulate}
 use Rattle.laws.specs.Packed.{Field, field, byte-count, pack-fields, field-at}
@@ -100,5 +101,5 @@ write-card counts vs room = after (card-test counts vs) (cond (ltb room (byte-co
 -- Packing a slip: 24 where it has over 32 changes, 25 to 27, and 30 with 2.
 unfoldable pub write-slip : List ℕ → List Pair → ℕ → OrRefused (List ℕ)
 write-slip counts ps room =
-    cond (ltb 32 (length ps)) (refused 24 0)
+    cond (ltb slot-limit (length ps)) (refused 24 0)
     (after (slip-test counts ps) (cond (ltb room (byte-count (slip-bits (length ps)))) (refused 30 2) (taken (slip-bytes ps))))

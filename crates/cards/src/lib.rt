@@ -2,7 +2,7 @@
 ghost use mathlib.Core.Path.{_≡_};
 ghost use Prim.Native.Nat.{_≤_};
 ghost use Rattle.laws.specs.Filled.{filled};
-ghost use Rattle.table.specs.Limits.{slot-limit};
+ghost use Rattle.laws.specs.Limits.{slot-limit};
 ghost use Rattle.table.specs.Link.{value-counts};
 ghost use Rattle.model.specs.Result.{pair};
 ghost use Rattle.cards.specs.Forms.{change-fault};

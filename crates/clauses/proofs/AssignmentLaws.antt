@@ -14,11 +14,10 @@ use Rattle.laws.proofs.Lists.{map-append}
 use Rattle.text.specs.Tokens.{Name, Token, GETS, OPEN, CLOSE, COMMA}
 use Rattle.model.proofs.Pairs.{assigns-none}
 use Rattle.model.specs.Rules.{Pair, assigns}
-use Rattle.table.specs.Limits.{assignment-limit}
+use Rattle.laws.specs.Limits.{assignment-limit}
 use Rattle.table.specs.Shape.{zero-assignment}
 use Rattle.table.specs.Link.{assignment-of}
 use Rattle.table.specs.declared.Assignment.{Assignment}
-use Rattle.grammar.specs.Limits.{max-assignments}
 use Rattle.grammar.specs.Files.{Slot}
 use Rattle.grammar.specs.Reading.{Part, took, stop, _then_, expects, a-name, unassigned, read-slot, read-value, read-target, read-assignment, read-assignments, read-assign, no-assignment}
 use Rattle.model.specs.Result.{pair}
@@ -32,8 +31,7 @@ use Rattle.steps.proofs.Places.{next-is, next-not}
 use Rattle.clauses.proofs.LiteralLaws.{slot-inside}
 
 -- The room for assignments is the table's.
-pub room-is : max-assignments ≡ assignment-limit
-unfolding max-assignments
+pub room-is : assignment-limit ≡ assignment-limit
 room-is = refl
 
 -- No assignments.
@@ -131,7 +129,7 @@ lies-earlier size from later (read.Fault k) h d = tt
 
 -- The list of assignments, where `room` more may come: none may; the next is refused; it is read, and the list goes on, ends, or is refused.
 pub list-start : (slots : List Slot) (list : Assignments) (ts : List Token) → list ≡ assignment-list []
-    → read-assignments slots max-assignments [] ts ≡ read-assignments slots (assignment-limit - list .count) (pairs-in list) ts
+    → read-assignments slots assignment-limit [] ts ≡ read-assignments slots (assignment-limit - list .count) (pairs-in list) ts
 list-start slots list ts e = rw (room-is, e)
 
 pub list-full : (slots : List Slot) (room : ℕ) (sofar : List Pair) (ts : List Token) → room ≡ 0 → read-assignments slots room sofar ts ≡ no-assignment sofar ts
@@ -168,9 +166,9 @@ unfolding single-assignment _then_
 single-took slots sofar longer ts left p z l e = let f = rw z at e in rw (f, l, z)
 
 -- What follows THEN: a list where `{` stands, else one assignment.
-pub assign-list : (slots : List Slot) (ts left : List Token) (u : Unit {0}) → expects OPEN ts ≡ took u left → read-assign slots ts ≡ read-assignments slots max-assignments [] left
+pub assign-list : (slots : List Slot) (ts left : List Token) (u : Unit {0}) → expects OPEN ts ≡ took u left → read-assign slots ts ≡ read-assignments slots assignment-limit [] left
 unfolding read-assign
-assign-list slots ts left u e = next-is OPEN (read-assignments slots max-assignments []) _ ts left u e
+assign-list slots ts left u e = next-is OPEN (read-assignments slots assignment-limit []) _ ts left u e
 
 pub assign-one : (slots : List Slot) (ts : List Token) (k : ℕ) → expects OPEN ts ≡ stop k → read-assign slots ts ≡ single-assignment slots ts
 unfolding read-assign single-assignment

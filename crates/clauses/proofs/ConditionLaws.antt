@@ -22,7 +22,7 @@ use Rattle.table.specs.Shape.{zero-literal}
 use Rattle.table.specs.declared.Literal.{Literal}
 use Rattle.grammar.specs.Files.{Slot}
 use Rattle.grammar.specs.Reading.{took, stop, expects, fork, read-literal, no-literal, read-literals, read-condition}
-use Rattle.grammar.specs.Limits.{max-literals}
+use Rattle.laws.specs.Limits.{literal-limit}
 use Rattle.steps.specs.inner.Places.{fault-of, shown-past, which, one, other, neither}
 use Rattle.steps.proofs.Places.{follow, fork-which, next-is, next-not}
 use Rattle.clauses.proofs.ListLaws as lists
@@ -54,9 +54,9 @@ more-other rest base v.Long sofar ts h = refl
 more-other rest base v.Bad sofar ts h = refl
 
 -- The literals in the places used, with one more.
-pub literals-add : (places : List Literal) (count : ℕ) (l : Literal) → Filled 8 zero-literal places count → count < 8
+pub literals-add : (places : List Literal) (count : ℕ) (l : Literal) → Filled literal-limit zero-literal places count → count < literal-limit
     → map literal-of (take (count + 1) (set places count l)) ≡ map literal-of (take count places) ++ literal-of l ∷ []
-literals-add places count l F h = ap (map literal-of) (filled-used 8 zero-literal places count l F h) ∙ map-append literal-of (take count places) (l ∷ [])
+literals-add places count l F h = ap (map literal-of) (filled-used literal-limit zero-literal places count l F h) ∙ map-append literal-of (take count places) (l ∷ [])
 
 -- Literals, one at a time; `room` more may come.
 pub literals-full : (slots : List Slot) (room : ℕ) (sofar : List model.Literal) (ts : List Token) → room ≡ 0 → read-literals slots room sofar ts ≡ no-literal sofar ts
@@ -84,22 +84,22 @@ literals-fault slots room sofar ts left l k h e f = lists.list-fault _ _ AND THE
 
 -- TRUE opens a condition, and AND or THEN follows it; or literals stand there.
 condition-open : (slots : List Slot) (ts left : List Token) (u : Unit {0}) → expects TRUE ts ≡ took u left
-    → read-condition slots ts ≡ follow (read-literals slots max-literals []) (took []) (which AND THEN left)
+    → read-condition slots ts ≡ follow (read-literals slots literal-limit []) (took []) (which AND THEN left)
 unfolding read-condition
-condition-open slots ts left u e = next-is TRUE (fork AND THEN (read-literals slots max-literals []) (took [])) _ ts left u e ∙ fork-which AND THEN _ _ left
+condition-open slots ts left u e = next-is TRUE (fork AND THEN (read-literals slots literal-limit []) (took [])) _ ts left u e ∙ fork-which AND THEN _ _ left
 
 pub condition-on : (slots : List Slot) (ts left more : List Token) (u : Unit {0}) → expects TRUE ts ≡ took u left → which AND THEN left ≡ one more
-    → read-condition slots ts ≡ read-literals slots max-literals [] more
-condition-on slots ts left more u e f = condition-open slots ts left u e ∙ ap (follow (read-literals slots max-literals []) (took [])) f
+    → read-condition slots ts ≡ read-literals slots literal-limit [] more
+condition-on slots ts left more u e f = condition-open slots ts left u e ∙ ap (follow (read-literals slots literal-limit []) (took [])) f
 
 pub condition-end : (slots : List Slot) (ts left more : List Token) (u : Unit {0}) → expects TRUE ts ≡ took u left → which AND THEN left ≡ other more
     → read-condition slots ts ≡ took [] more
-condition-end slots ts left more u e f = condition-open slots ts left u e ∙ ap (follow (read-literals slots max-literals []) (took [])) f
+condition-end slots ts left more u e f = condition-open slots ts left u e ∙ ap (follow (read-literals slots literal-limit []) (took [])) f
 
 pub condition-fault : (slots : List Slot) (ts left : List Token) (u : Unit {0}) (k : ℕ) → expects TRUE ts ≡ took u left → which AND THEN left ≡ neither k
     → read-condition slots ts ≡ stop k
-condition-fault slots ts left u k e f = condition-open slots ts left u e ∙ ap (follow (read-literals slots max-literals []) (took [])) f
+condition-fault slots ts left u k e f = condition-open slots ts left u e ∙ ap (follow (read-literals slots literal-limit []) (took [])) f
 
-pub condition-plain : (slots : List Slot) (ts : List Token) (k : ℕ) → expects TRUE ts ≡ stop k → read-condition slots ts ≡ read-literals slots max-literals [] ts
+pub condition-plain : (slots : List Slot) (ts : List Token) (k : ℕ) → expects TRUE ts ≡ stop k → read-condition slots ts ≡ read-literals slots literal-limit [] ts
 unfolding read-condition
 condition-plain slots ts k e = next-not TRUE _ _ ts k e

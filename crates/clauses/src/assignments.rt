@@ -3,10 +3,10 @@ ghost use mathlib.Core.Path.{_≡_};
 ghost use mathlib.Core.List.{List, [], _∷_, _++_};
 ghost use Prim.Native.Nat.{ℕ, _+_, _*_, _≤_, _<_};
 ghost use lib.ListN.{length, take, drop};
+ghost use Rattle.table.specs.inner.Flat.{pair-places};
 ghost use Rattle.model.specs.Rules.{Pair, assigns};
-ghost use Rattle.table.specs.Limits.{assignment-limit};
+ghost use Rattle.laws.specs.Limits.{assignment-limit, slot-limit, value-limit, row};
 ghost use Rattle.table.specs.Link.{assignment-of};
-ghost use Rattle.grammar.specs.Limits.{max-assignments};
 ghost use Rattle.grammar.specs.Files.{Slot, spellings, slot-names, values-of};
 ghost use Rattle.grammar.specs.Reading.{stop, read-target, read-assignment, no-assignment, read-assignments, read-assign};
 ghost use Rattle.steps.specs.inner.Places.{tokens-past};
@@ -119,8 +119,8 @@ fn assignment_value(
     slot: usize,
     at: usize,
 ) -> AssignmentRead
-    requires { ⌜ (slot ≤ 31) × (length (now valuespans) ≡ 512) ⌝ }
-    ensures { λ r. ⌜ ((base : ℕ) (slots : List Slot) → Listed (now (text .entry)) (take 15 (drop (slot * 16 + 1) (now (valuespans .entry)))) (spellings (values-of slots slot))
+    requires { ⌜ (slot < slot-limit) × (length (now valuespans) ≡ pair-places) ⌝ }
+    ensures { λ r. ⌜ ((base : ℕ) (slots : List Slot) → Listed (now (text .entry)) (take value-limit (drop (slot * row + 1) (now (valuespans .entry)))) (spellings (values-of slots slot))
         → value-assignment slots slot (tokens-past (now (rest .entry)) base at) ≡ assignment-part (now (rest .entry)) base r) × Assignment-lies (length (now (rest .entry))) at r ⌝ }
 {
     let mark = word_next(rest, at, text::GETS);
@@ -151,7 +151,7 @@ fn assignment_next(
     list: Assignments,
     at: usize,
 ) -> AssignmentRead
-    requires { ⌜ length (now valuespans) ≡ 512 ⌝ }
+    requires { ⌜ length (now valuespans) ≡ pair-places ⌝ }
     ensures { λ r. ⌜ ((base : ℕ) (slots : List Slot) → Looked (now (text .entry)) slots (now (slotspans .entry)) (now (valuespans .entry))
         → read-assignment slots (pairs-in list) (tokens-past (now (rest .entry)) base at) ≡ assignment-part (now (rest .entry)) base r) × Assignment-lies (length (now (rest .entry))) at r ⌝ }
 {
@@ -181,9 +181,9 @@ fn assignments_next(
     valuespans: &[usize],
     start: usize,
 ) -> AssignmentsRead
-    requires { ⌜ length (now valuespans) ≡ 512 ⌝ }
+    requires { ⌜ length (now valuespans) ≡ pair-places ⌝ }
     ensures { λ r. ⌜ ((base : ℕ) (slots : List Slot) → Looked (now (text .entry)) slots (now (slotspans .entry)) (now (valuespans .entry))
-        → read-assignments slots max-assignments [] (tokens-past (now (rest .entry)) base start) ≡ assignments-part (now (rest .entry)) base r) × Assignments-lies (length (now (rest .entry))) start r ⌝ }
+        → read-assignments slots assignment-limit [] (tokens-past (now (rest .entry)) base start) ≡ assignments-part (now (rest .entry)) base r) × Assignments-lies (length (now (rest .entry))) start r ⌝ }
 {
     let mut list = no_assignments();
     let mut at = start;
@@ -233,7 +233,7 @@ fn single_assignment(
     valuespans: &[usize],
     at: usize,
 ) -> AssignmentsRead
-    requires { ⌜ length (now valuespans) ≡ 512 ⌝ }
+    requires { ⌜ length (now valuespans) ≡ pair-places ⌝ }
     ensures { λ r. ⌜ ((base : ℕ) (slots : List Slot) → Looked (now (text .entry)) slots (now (slotspans .entry)) (now (valuespans .entry))
         → single-assignment slots (tokens-past (now (rest .entry)) base at) ≡ assignments-part (now (rest .entry)) base r) × Assignments-lies (length (now (rest .entry))) at r ⌝ }
 {
@@ -264,7 +264,7 @@ pub fn assign_next(
     valuespans: &[usize],
     at: usize,
 ) -> AssignmentsRead
-    requires { ⌜ length (now valuespans) ≡ 512 ⌝ }
+    requires { ⌜ length (now valuespans) ≡ pair-places ⌝ }
     ensures { λ r. ⌜ ((base : ℕ) (slots : List Slot) → Looked (now (text .entry)) slots (now (slotspans .entry)) (now (valuespans .entry))
         → read-assign slots (tokens-past (now (rest .entry)) base at) ≡ assignments-part (now (rest .entry)) base r) × Assignments-lies (length (now (rest .entry))) at r ⌝ }
 {

@@ -3,11 +3,12 @@ ghost use mathlib.Core.Path.{_≡_};
 ghost use mathlib.Core.List.{List, []};
 ghost use Prim.Native.Nat.{ℕ, _<_};
 ghost use lib.ListN.{length, replicate};
+ghost use Rattle.table.specs.inner.Flat.{pair-places};
 ghost use Rattle.laws.specs.inner.Filled.{Filled};
 ghost use Rattle.model.specs.Rules as model;
 ghost use Rattle.table.specs.Shape.{zero-literal};
 ghost use Rattle.grammar.specs.Files.{Slot};
-ghost use Rattle.grammar.specs.Limits.{max-literals};
+ghost use Rattle.laws.specs.Limits.{literal-limit};
 ghost use Rattle.grammar.specs.Reading.{stop, read-literals, read-condition, no-literal};
 ghost use Rattle.steps.specs.inner.Places.{tokens-past, Step-lies, outcome-part};
 ghost use Rattle.clauses.specs.inner.Literals.{Looked};
@@ -55,7 +56,7 @@ fn no_more(rest: &[u8], at: usize) -> u8
 
 // No literals.
 fn no_literals() -> Literals
-    ensures { λ r. ⌜ r ≡ record { places = replicate 8 zero-literal; count = 0 } ⌝ }
+    ensures { λ r. ⌜ r ≡ record { places = replicate literal-limit zero-literal; count = 0 } ⌝ }
 {
     let none = Literal {
         becomes: false,
@@ -77,10 +78,10 @@ fn literals_next(
     valuespans: &[usize],
     start: usize,
 ) -> Condition
-    requires { ⌜ length (now valuespans) ≡ 512 ⌝ }
+    requires { ⌜ length (now valuespans) ≡ pair-places ⌝ }
     ensures { λ r. ⌜ ((base : ℕ) (slots : List Slot) → Looked (now (text .entry)) slots (now (slotspans .entry)) (now (valuespans .entry))
-        → read-literals slots max-literals [] (tokens-past (now (rest .entry)) base start) ≡ outcome-part (now (rest .entry)) base (literals-in (r .list)) (r .outcome))
-        × Step-lies (length (now (rest .entry))) start (r .outcome) × Filled 8 zero-literal (r .list .places) (r .list .count) ⌝ }
+        → read-literals slots literal-limit [] (tokens-past (now (rest .entry)) base start) ≡ outcome-part (now (rest .entry)) base (literals-in (r .list)) (r .outcome))
+        × Step-lies (length (now (rest .entry))) start (r .outcome) × Filled literal-limit zero-literal (r .list .places) (r .list .count) ⌝ }
 {
     let mut list = no_literals();
     let mut at = start;
@@ -134,10 +135,10 @@ pub fn condition_next(
     valuespans: &[usize],
     at: usize,
 ) -> Condition
-    requires { ⌜ length (now valuespans) ≡ 512 ⌝ }
+    requires { ⌜ length (now valuespans) ≡ pair-places ⌝ }
     ensures { λ r. ⌜ ((base : ℕ) (slots : List Slot) → Looked (now (text .entry)) slots (now (slotspans .entry)) (now (valuespans .entry))
         → read-condition slots (tokens-past (now (rest .entry)) base at) ≡ outcome-part (now (rest .entry)) base (literals-in (r .list)) (r .outcome))
-        × Step-lies (length (now (rest .entry))) at (r .outcome) × Filled 8 zero-literal (r .list .places) (r .list .count) ⌝ }
+        × Step-lies (length (now (rest .entry))) at (r .outcome) × Filled literal-limit zero-literal (r .list .places) (r .list .count) ⌝ }
 {
     let opening = word_next(rest, at, text::TRUE);
     match opening {

@@ -4,6 +4,8 @@ ghost use mathlib.Core.Bool.{false};
 ghost use mathlib.Core.List.{List};
 ghost use Prim.Native.Nat.{ℕ, _+_, _*_, _≤_, _<_};
 ghost use lib.ListN.{length, take, drop};
+ghost use Rattle.laws.specs.Limits.{slot-limit, value-limit, row};
+ghost use Rattle.table.specs.inner.Flat.{pair-places};
 ghost use Rattle.grammar.specs.Files.{Slot, spellings, values-of};
 ghost use Rattle.grammar.specs.Reading.{read-literal, plain-literal};
 ghost use Rattle.steps.specs.inner.Places.{tokens-past};
@@ -76,8 +78,8 @@ fn literal_value(
     becomes: bool,
     negated: bool,
 ) -> LiteralRead
-    requires { ⌜ (slot ≤ 31) × (length (now valuespans) ≡ 512) ⌝ }
-    ensures { λ r. ⌜ ((base : ℕ) (slots : List Slot) → Listed (now (text .entry)) (take 15 (drop (slot * 16 + 1) (now (valuespans .entry)))) (spellings (values-of slots slot))
+    requires { ⌜ (slot < slot-limit) × (length (now valuespans) ≡ pair-places) ⌝ }
+    ensures { λ r. ⌜ ((base : ℕ) (slots : List Slot) → Listed (now (text .entry)) (take value-limit (drop (slot * row + 1) (now (valuespans .entry)))) (spellings (values-of slots slot))
         → value-literal slots slot becomes negated (tokens-past (now (rest .entry)) base at) ≡ literal-part (now (rest .entry)) base r) × Literal-lies (length (now (rest .entry))) at r ⌝ }
 {
     let found = value_next(text, rest, valuespans, slot, at);
@@ -104,7 +106,7 @@ fn plain_literal(
     at: usize,
     negated: bool,
 ) -> LiteralRead
-    requires { ⌜ length (now valuespans) ≡ 512 ⌝ }
+    requires { ⌜ length (now valuespans) ≡ pair-places ⌝ }
     ensures { λ r. ⌜ ((base : ℕ) (slots : List Slot) → Looked (now (text .entry)) slots (now (slotspans .entry)) (now (valuespans .entry))
         → plain-literal slots negated (tokens-past (now (rest .entry)) base at) ≡ literal-part (now (rest .entry)) base r) × Literal-lies (length (now (rest .entry))) at r ⌝ }
 {
@@ -146,7 +148,7 @@ pub fn literal_next(
     valuespans: &[usize],
     at: usize,
 ) -> LiteralRead
-    requires { ⌜ length (now valuespans) ≡ 512 ⌝ }
+    requires { ⌜ length (now valuespans) ≡ pair-places ⌝ }
     ensures { λ r. ⌜ ((base : ℕ) (slots : List Slot) → Looked (now (text .entry)) slots (now (slotspans .entry)) (now (valuespans .entry))
         → read-literal (tokens-past (now (rest .entry)) base at) slots false ≡ literal-part (now (rest .entry)) base r) × Literal-lies (length (now (rest .entry))) at r ⌝ }
 {

@@ -11,7 +11,7 @@ use borrow.Author.Tests.{leb-true, eqb-true}
 use lib.ListN.{length, length-append}
 use Rattle.text.specs.Tokens.{Name, Token, word, name, long, bad, SLOT, WHEN, IF, THEN, AND, NOT, TRUE, OPEN, CLOSE, COMMA, SEMICOLON, BECOMES, HAS, GETS, tokens}
 use Rattle.model.specs.Rules.{Pair, Literal, Rule, assigns}
-use Rattle.grammar.specs.Limits.{max-text, max-slots, max-values, max-rules, max-literals, max-assignments}
+use Rattle.laws.specs.Limits.{text-limit, slot-limit, value-limit, rule-limit, literal-limit, assignment-limit}
 use Rattle.grammar.specs.Files.{Slot, File, place-in, slot-names, values-of}
 use Rattle.grammar.specs.Grammar.{RuleTree, rule, trigger, ConditionTree, and-literal, one-literal, true-alone, LiteralTree, not-literal, becomes-value, holds-value, AssignTree, one-alone, braces, AssignmentListTree, one-assignment, comma-assignment, AssignmentTree, gets-value, ValueListTree, one-value, comma-value, LineTree, line, FileTree, spell, spell-literal, spell-condition, spell-assignment, spell-assignments, spell-assign, spell-rule, spell-rules, spell-values, spell-line, spell-lines}
 use Rattle.grammar.specs.Reading.{Part, took, stop, Parsed, accepted, refused, _then_, expects, a-name, new-name, read-slot, read-value, read-target, plain-literal, read-literal, no-literal, read-literals, read-condition, read-assignment, no-assignment, read-assignments, read-assign, read-rule, no-value, read-values, read-line, go-on, read-rules, read-lines, read-tokens, parse}
@@ -91,12 +91,12 @@ no-literal-back sofar (bad ∷ ts) out rest e = never 11 out rest e
 
 -- A condition that was read, up to its THEN.
 condition-back : (slots : List Slot) (ts : List Token) (out : List Literal) (rest : List Token) → read-condition slots ts ≡ took out rest
-    → (d : ConditionTree) × (ts ≡ spell-condition d (word THEN ∷ rest)) × Means-condition slots d out × (length out ≤ max-literals)
+    → (d : ConditionTree) × (ts ≡ spell-condition d (word THEN ∷ rest)) × Means-condition slots d out × (length out ≤ literal-limit)
 unfolding read-condition read-literals
 condition-back slots ts out rest e =
-    ⊎-elim (λ x. let r = after-back (λ sofar us. read-literal us slots false) no-literal AND THEN spell-condition (Means-condition slots) no-literal-back grow max-literals true-alone [] (x .0) out rest means-true (x .2) in
+    ⊎-elim (λ x. let r = after-back (λ sofar us. read-literal us slots false) no-literal AND THEN spell-condition (Means-condition slots) no-literal-back grow literal-limit true-alone [] (x .0) out rest means-true (x .2) in
     (r .0, x .1 ∙ r .1, r .2, (let z = r .3 in omega arith)))
-    (λ x. list-back (λ sofar us. read-literal us slots false) no-literal AND THEN spell-condition (Means-condition slots) no-literal-back grow max-literals ts out rest start x)
+    (λ x. list-back (λ sofar us. read-literal us slots false) no-literal AND THEN spell-condition (Means-condition slots) no-literal-back grow literal-limit ts out rest start x)
     (if-next-back TRUE _ _ ts (took out rest) e)
   where
     grow : (c : ConditionTree) (sofar : List Literal) (us : List Token) (m : Literal) (left : List Token) → Means-condition slots c sofar → read-literal us slots false ≡ took m left
@@ -130,16 +130,15 @@ unfolding no-assignment
 no-assignment-back sofar ts out rest e = let a = then-back (a-name ts) _ out rest e in never 15 out rest (a .3)
 
 -- There is room for an assignment without braces.
-room-for-one : 1 ≤ max-assignments
-unfolding max-assignments
+room-for-one : 1 ≤ assignment-limit
 room-for-one = omega arith
 
 -- What was read between THEN and `;`.
 assign-back : (slots : List Slot) (ts : List Token) (out : List Pair) (rest : List Token) → read-assign slots ts ≡ took out rest
-    → (d : AssignTree) × (ts ≡ spell-assign d rest) × Means-assign slots d out × (length out ≤ max-assignments)
+    → (d : AssignTree) × (ts ≡ spell-assign d rest) × Means-assign slots d out × (length out ≤ assignment-limit)
 unfolding read-assign read-assignments
 assign-back slots ts out rest e =
-    ⊎-elim (λ x. let r = list-back (read-assignment slots) no-assignment COMMA CLOSE spell-assignments (Means-assignments slots) no-assignment-back grow max-assignments (x .0) out rest (start (x .0)) (x .2) in
+    ⊎-elim (λ x. let r = list-back (read-assignment slots) no-assignment COMMA CLOSE spell-assignments (Means-assignments slots) no-assignment-back grow assignment-limit (x .0) out rest (start (x .0)) (x .2) in
     (braces (r .0), x .1 ∙ put (word OPEN) (r .1), means-braces (r .2), r .3))
     (λ x. let a = then-back (read-assignment slots [] ts) _ out rest x in
     let b = assignment-back slots [] ts (a .0) (a .1) (a .2) in
@@ -176,8 +175,8 @@ rule-back slots ts r rest e =
     made : (t1 : List Token) (s : ℕ) (t2 : List Token) (v : ℕ) (t3 t4 t5 : List Token) (ls : List Literal) (t6 : List Token) (ps : List Pair) (t7 t8 : List Token)
         → ts ≡ word WHEN ∷ t1 → ((n : Name) × (t1 ≡ name n ∷ t2) × (place-in (slot-names slots) n ≡ suc s)) → t2 ≡ word BECOMES ∷ t3
         → ((n : Name) × (t3 ≡ name n ∷ t4) × (place-in (values-of slots s) n ≡ v) × (1 ≤ v)) → t4 ≡ word IF ∷ t5
-        → ((d : ConditionTree) × (t5 ≡ spell-condition d (word THEN ∷ t6)) × Means-condition slots d ls × (length ls ≤ max-literals))
-        → ((d : AssignTree) × (t6 ≡ spell-assign d t7) × Means-assign slots d ps × (length ps ≤ max-assignments)) → t7 ≡ word SEMICOLON ∷ t8
+        → ((d : ConditionTree) × (t5 ≡ spell-condition d (word THEN ∷ t6)) × Means-condition slots d ls × (length ls ≤ literal-limit))
+        → ((d : AssignTree) × (t6 ≡ spell-assign d t7) × Means-assign slots d ps × (length ps ≤ assignment-limit)) → t7 ≡ word SEMICOLON ∷ t8
         → (record { trigger = pair s v; literals = ls; assignments = ps } ≡ r) × (t8 ≡ rest) → (t : RuleTree) × (ts ≡ spell-rule t rest) × Means-rule slots t r
     made t1 s t2 v t3 t4 t5 ls t6 ps t7 t8 e1 n e3 m e5 c a e8 e9 = (
       rule (trigger (n .0) (m .0)) (c .0) (a .0),
@@ -223,10 +222,10 @@ unfolding no-value
 no-value-back sofar ts out rest e = let a = then-back (new-name sofar ts) _ out rest e in never 15 out rest (a .3)
 
 -- The values that were read, up to the `}`.
-values-back : (ts : List Token) (out : List Name) (rest : List Token) → read-values max-values [] ts ≡ took out rest
-    → (d : ValueListTree) × (ts ≡ spell-values d (word CLOSE ∷ rest)) × Means-values d out × (length out ≤ max-values)
+values-back : (ts : List Token) (out : List Name) (rest : List Token) → read-values value-limit [] ts ≡ took out rest
+    → (d : ValueListTree) × (ts ≡ spell-values d (word CLOSE ∷ rest)) × Means-values d out × (length out ≤ value-limit)
 unfolding read-values
-values-back ts out rest e = list-back new-name no-value COMMA CLOSE spell-values Means-values no-value-back grow max-values ts out rest start e
+values-back ts out rest e = list-back new-name no-value COMMA CLOSE spell-values Means-values no-value-back grow value-limit ts out rest start e
   where
     grow : (c : ValueListTree) (sofar : List Name) (us : List Token) (n : Name) (left : List Token) → Means-values c sofar → new-name sofar us ≡ took n left
         → (d : ValueListTree) × (spell-values c (word COMMA ∷ us) ≡ spell-values d left) × Means-values d (sofar ++ n ∷ [])
@@ -245,14 +244,14 @@ line-back before ts s rest e =
     by-then (expects SLOT ts) _ s rest e (λ u1 t1 e1 f1.
     by-then (new-name (slot-names before) t1) _ s rest f1 (λ n t2 e2 f2.
     by-then (expects OPEN t2) _ s rest f2 (λ u3 t3 e3 f3.
-    by-then (read-values max-values [] t3) _ s rest f3 (λ vs t4 e4 f4.
+    by-then (read-values value-limit [] t3) _ s rest f3 (λ vs t4 e4 f4.
     by-then (expects SEMICOLON t4) _ s rest f4 (λ u5 t5 e5 f5.
     made t1 n t2 t3 vs t4 t5 (expects-back SLOT ts u1 t1 e1) (new-name-back (slot-names before) t1 n t2 e2) (expects-back OPEN t2 u3 t3 e3) (values-back t3 vs t4 e4)
     (expects-back SEMICOLON t4 u5 t5 e5) (took-same _ s t5 rest f5))))))
   where
     made : (t1 : List Token) (n : Name) (t2 t3 : List Token) (vs : List Name) (t4 t5 : List Token)
         → ts ≡ word SLOT ∷ t1 → (t1 ≡ name n ∷ t2) × (place-in (slot-names before) n ≡ 0) → t2 ≡ word OPEN ∷ t3
-        → ((d : ValueListTree) × (t3 ≡ spell-values d (word CLOSE ∷ t4)) × Means-values d vs × (length vs ≤ max-values)) → t4 ≡ word SEMICOLON ∷ t5
+        → ((d : ValueListTree) × (t3 ≡ spell-values d (word CLOSE ∷ t4)) × Means-values d vs × (length vs ≤ value-limit)) → t4 ≡ word SEMICOLON ∷ t5
         → (record { name = n; values = vs } ≡ s) × (t5 ≡ rest) → (t : LineTree) × (ts ≡ spell-line t rest) × Means-line before t s
     made t1 n t2 t3 vs t4 t5 e1 e2 e3 v e5 e6 = (
       line n (v .0),
@@ -268,11 +267,11 @@ record File-found (before : List Slot) (ts : List Token) (f : File) (most : ℕ)
   lines-are : Means-lines before lines (f .slots)
   few-slots : length (f .slots) ≤ most
   rules-are : Means-rules (f .slots) rules (f .rules)
-  few-rules : length (f .rules) ≤ max-rules
+  few-rules : length (f .rules) ≤ rule-limit
 
-rules-only : (before : List Slot) (ts : List Token) (f : File) (most : ℕ) → length before ≤ most → read-rules max-rules before [] ts ≡ accepted f → File-found before ts f most
+rules-only : (before : List Slot) (ts : List Token) (f : File) (most : ℕ) → length before ≤ most → read-rules rule-limit before [] ts ≡ accepted f → File-found before ts f most
 rules-only before ts f most h e =
-    let a = rules-back max-rules before [] ts f e in
+    let a = rules-back rule-limit before [] ts f e in
     subst (λ (g : File). File-found before ts g most) (sym (a .4))
     (record { lines = []; rules = a .0; spelled = a .2; lines-are = no-lines; few-slots = h; rules-are = a .3; few-rules = a .5 })
 
@@ -298,16 +297,16 @@ lines-back (suc room) before ts f most h e =
 -- Tokens that are accepted are derived.
 pub tokens-back : (ts : List Token) (f : File) → read-tokens ts ≡ accepted f → (tree : FileTree) × (spell tree ≡ ts)
 unfolding read-tokens
-tokens-back ts f e = let r = lines-back max-slots [] ts f max-slots (omega arith) e in (record { lines = r .lines; rules = r .rules }, sym (r .spelled))
+tokens-back ts f e = let r = lines-back slot-limit [] ts f slot-limit (omega arith) e in (record { lines = r .lines; rules = r .rules }, sym (r .spelled))
 
 -- A text that is read is a file.
 pub file-back : (text : List ℕ) (f : File) → parse text ≡ accepted f → Is-file text f
 unfolding parse read-tokens
-file-back text f e = go (leb (length text) max-text) refl e
+file-back text f e = go (leb (length text) text-limit) refl e
   where
-    go : (t : Bool) → leb (length text) max-text ≡ t → cond t (read-lines max-slots [] (tokens text)) (refused 10 0) ≡ accepted f → Is-file text f
-    go true q x = let r = lines-back max-slots [] (tokens text) f max-slots (omega arith) x in record {
-      short = leb-true (length text) max-text q;
+    go : (t : Bool) → leb (length text) text-limit ≡ t → cond t (read-lines slot-limit [] (tokens text)) (refused 10 0) ≡ accepted f → Is-file text f
+    go true q x = let r = lines-back slot-limit [] (tokens text) f slot-limit (omega arith) x in record {
+      short = leb-true (length text) text-limit q;
       tree = record { lines = r .lines; rules = r .rules };
       derives = sym (r .spelled);
       means = record { lines-are = r .lines-are; few-slots = r .few-slots; rules-are = r .rules-are; few-rules = r .few-rules };

@@ -8,7 +8,7 @@ use mathlib.Core.List.{List, [], _∷_, _++_}
 use Rattle.laws.specs.Quoted.{bytes-from, bytes}
 use Rattle.classes.specs.Classes.{class-of}
 use Rattle.text.specs.Tokens.{Name, reserved, mark-of, run-token, run, token-here, more-bytes, tokens-from, tokens}
-use Rattle.grammar.specs.Limits.{max-text, max-slots, max-values, max-rules, max-literals, max-assignments}
+use Rattle.laws.specs.Limits.{text-limit, slot-limit, value-limit, rule-limit, literal-limit, assignment-limit}
 use Rattle.grammar.specs.Files.{Slot}
 use Rattle.laws.specs.Truth.{_∨ᵇ_}
 use Rattle.model.specs.Rules.{assigns}
@@ -17,7 +17,7 @@ use Rattle.model.specs.Result.{pair}
 
 -- `unfolding reads` opens all that a reading runs.
 unfoldable pub reads : Unit {0}
-unfolding bytes-from bytes class-of reserved mark-of run-token run token-here more-bytes tokens-from tokens max-text max-slots max-values max-rules max-literals max-assignments _∨ᵇ_ assigns _then_ expects fork a-name if-next new new-name known-slot known-value unassigned read-slot read-value read-target read-list plain-literal read-literal no-literal read-literals read-condition read-assignment no-assignment read-assignments read-assign read-rule no-value read-values read-line go-on read-rules read-lines read-tokens parse
+unfolding bytes-from bytes class-of reserved mark-of run-token run token-here more-bytes tokens-from tokens _∨ᵇ_ assigns _then_ expects fork a-name if-next new new-name known-slot known-value unassigned read-slot read-value read-target read-list plain-literal read-literal no-literal read-literals read-condition read-assignment no-assignment read-assignments read-assign read-rule no-value read-values read-line go-on read-rules read-lines read-tokens parse
 reads = tt
 
 -- The slots of document 01's cases.

@@ -16,7 +16,7 @@ use Rattle.text.specs.Tokens.{Name, place}
 use Rattle.text.proofs.Cut.{place-le}
 use Rattle.text.proofs.Covering.{place-spelled}
 use Rattle.model.specs.Rules.{Pair, Literal, Rule, assigns, each-once}
-use Rattle.grammar.specs.Limits.{max-slots, max-values, max-rules, max-literals, max-assignments}
+use Rattle.laws.specs.Limits.{slot-limit, value-limit, rule-limit, literal-limit, assignment-limit}
 use Rattle.grammar.specs.Files.{Slot, File, spellings, slot-names, no-slot, values-of, slot-named, value-named}
 use Rattle.grammar.specs.Grammar.{RuleTree, ConditionTree, AssignTree, AssignmentListTree, AssignmentTree, ValueListTree, LineTree, FileTree}
 use Rattle.grammar.specs.Meaning.{Names, Means-condition, means-and, means-one, means-true, Means-assignment, means-assignment, Means-assignments, means-first, means-comma, Means-assign, means-alone, means-braces, means-trigger, means-rule, Means-rules, no-rules, more-rules, Means-values, means-value, means-values, means-line, Means-lines, no-lines, more-lines, Means, Is-file}
@@ -103,11 +103,11 @@ once-before (q ∷ os) ps p t =
 pub record Declared-rule (slots : List Slot) (r : Rule) : Type 0 where
   pub trigger-declared : Declared-pair slots (r .trigger)
   pub literals-declared : Each (λ (m : Literal). Declared-pair slots (m .pair)) (r .literals)
-  pub few-literals : length (r .literals) ≤ max-literals
+  pub few-literals : length (r .literals) ≤ literal-limit
   pub assignments-declared : Each (Declared-pair slots) (r .assignments)
   pub once : T (each-once (r .assignments))
   pub some : 0 < length (r .assignments)
-  pub few-assignments : length (r .assignments) ≤ max-assignments
+  pub few-assignments : length (r .assignments) ≤ assignment-limit
 
 module _ (slots : List Slot) where
   condition-declared : (c : ConditionTree) (ms : List Literal) → Means-condition slots c ms → Each (λ (m : Literal). Declared-pair slots (m .pair)) ms
@@ -154,7 +154,7 @@ module _ (slots : List Slot) where
 
 -- A slot has a value, and values within the limit.
 abbrev pub Valued : Slot → Type 0
-Valued s = (0 < length (s .values)) × (length (s .values) ≤ max-values)
+Valued s = (0 < length (s .values)) × (length (s .values) ≤ value-limit)
 
 values-some : (t : ValueListTree) (ns : List Name) → Means-values t ns → 0 < length ns
 values-some t ns means-value = omega arith
@@ -166,9 +166,9 @@ lines-valued before ts slots (more-lines {s = s} {ts = us} (means-line {vs = vs}
 
 -- A file keeps to the limits, each slot has values, and each rule is declared.
 pub record Declared-file (f : File) : Type 0 where
-  pub few-slots : length (f .slots) ≤ max-slots
+  pub few-slots : length (f .slots) ≤ slot-limit
   pub slots-valued : Each Valued (f .slots)
-  pub few-rules : length (f .rules) ≤ max-rules
+  pub few-rules : length (f .rules) ≤ rule-limit
   pub each-rule : Each (Declared-rule (f .slots)) (f .rules)
 
 -- A FILE THAT A TREE MEANS does.

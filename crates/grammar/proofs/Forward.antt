@@ -9,7 +9,7 @@ use borrow.Author.Tests.{le-leb, eq-eqb}
 use lib.ListN.{length, length-append}
 use Rattle.text.specs.Tokens.{Name, Token, word, name, SLOT, WHEN, IF, THEN, AND, TRUE, OPEN, CLOSE, COMMA, SEMICOLON, BECOMES, GETS, tokens}
 use Rattle.model.specs.Rules.{Pair, Literal, Rule, assigns}
-use Rattle.grammar.specs.Limits.{max-text, max-slots, max-values, max-rules, max-literals, max-assignments}
+use Rattle.laws.specs.Limits.{text-limit, slot-limit, value-limit, rule-limit, literal-limit, assignment-limit}
 use Rattle.grammar.specs.Files.{Slot, File, place-in, slot-names}
 use Rattle.grammar.specs.Grammar.{RuleTree, rule, trigger, ConditionTree, LiteralTree, not-literal, becomes-value, holds-value, AssignTree, AssignmentListTree, AssignmentTree, gets-value, ValueListTree, LineTree, line, FileTree, spell, spell-literal, spell-condition, spell-assignment, spell-assignments, spell-assign, spell-rule, spell-rules, spell-values, spell-line, spell-lines}
 use Rattle.grammar.specs.Reading.{Part, took, stop, accepted, _then_, expects, fork, a-name, begins-with, if-next, new, new-name, known-slot, known-value, unassigned, read-slot, read-value, read-target, read-list, plain-literal, read-literal, no-literal, read-literals, read-condition, read-assignment, no-assignment, read-assignments, read-assign, read-rule, no-value, read-values, read-line, go-on, read-rules, read-lines, read-tokens, parse}
@@ -89,25 +89,25 @@ then-here : (slots : List Slot) (room : ℕ) (ms : List Literal) (rest : List To
 unfolding fork
 then-here slots room ms rest = refl
 
-condition-one : (slots : List Slot) (l : LiteralTree) (rest : List Token) → read-condition slots (spell-literal l rest) ≡ read-literals slots max-literals [] (spell-literal l rest)
+condition-one : (slots : List Slot) (l : LiteralTree) (rest : List Token) → read-condition slots (spell-literal l rest) ≡ read-literals slots literal-limit [] (spell-literal l rest)
 unfolding read-condition if-next
 condition-one slots l rest = rw (no-true l rest)
 
-condition-true : (slots : List Slot) (rest : List Token) → read-condition slots (word TRUE ∷ rest) ≡ after-literal slots max-literals [] rest
+condition-true : (slots : List Slot) (rest : List Token) → read-condition slots (word TRUE ∷ rest) ≡ after-literal slots literal-limit [] rest
 unfolding read-condition if-next read-literals
 condition-true slots rest = refl
 
-condition-read : (slots : List Slot) (c : ConditionTree) (ms : List Literal) (rest : List Token) (room : ℕ) → Means-condition slots c ms → room + length ms ≡ max-literals
+condition-read : (slots : List Slot) (c : ConditionTree) (ms : List Literal) (rest : List Token) (room : ℕ) → Means-condition slots c ms → room + length ms ≡ literal-limit
     → read-condition slots (spell-condition c rest) ≡ after-literal slots room ms rest
 condition-read slots c ms rest room (means-and {c = d} {ms = ls} {l = l} {m = m} g h) e =
     condition-read slots d ls (word AND ∷ spell-literal l rest) (suc room) g (let x = length-append ls (m ∷ []) in omega arith)
     ∙ and-here slots (suc room) ls (spell-literal l rest)
     ∙ literals-step slots room ls l m rest h
 condition-read slots c ms rest room (means-one {l = l} {m = m} h) e =
-    let z : max-literals ≡ suc room = omega arith in
+    let z : literal-limit ≡ suc room = omega arith in
     condition-one slots l rest ∙ ap (λ (k : ℕ). read-literals slots k [] (spell-literal l rest)) z ∙ literals-step slots room [] l m rest h
 condition-read slots c ms rest room means-true e =
-    let z : max-literals ≡ room = omega arith in
+    let z : literal-limit ≡ room = omega arith in
     condition-true slots rest ∙ ap (λ (k : ℕ). after-literal slots k [] rest) z
 
 -- Assignments.
@@ -126,11 +126,11 @@ assignments-step : (slots : List Slot) (room : ℕ) (ps : List Pair) (a : Assign
 unfolding read-assignments
 assignments-step slots room ps a p rest n e = list-step _ _ COMMA CLOSE room ps (spell-assignment a rest) p rest (assignment-is slots ps a p rest n e)
 
-assignments-read : (slots : List Slot) (l : AssignmentListTree) (ps : List Pair) (rest : List Token) (room : ℕ) → Means-assignments slots l ps → room + length ps ≡ max-assignments
-    → read-assignments slots max-assignments [] (spell-assignments l rest) ≡ after-assignment slots room ps rest
+assignments-read : (slots : List Slot) (l : AssignmentListTree) (ps : List Pair) (rest : List Token) (room : ℕ) → Means-assignments slots l ps → room + length ps ≡ assignment-limit
+    → read-assignments slots assignment-limit [] (spell-assignments l rest) ≡ after-assignment slots room ps rest
 unfolding fork assigns read-assignments
 assignments-read slots l ps rest room (means-first {a = a} {p = p} n) e =
-    let z : max-assignments ≡ suc room = omega arith in
+    let z : assignment-limit ≡ suc room = omega arith in
     ap (λ (k : ℕ). read-assignments slots k [] (spell-assignment a rest)) z ∙ assignments-step slots room [] a p rest n refl
 assignments-read slots l ps rest room (means-comma {l = k} {ps = qs} {a = a} {p = p} g n d) e =
     assignments-read slots k qs (word COMMA ∷ spell-assignment a rest) (suc room) g (let x = length-append qs (p ∷ []) in omega arith)
@@ -139,11 +139,11 @@ assignments-read slots l ps rest room (means-comma {l = k} {ps = qs} {a = a} {p 
 pub no-open : (a : AssignmentTree) (rest : List Token) → begins-with OPEN (spell-assignment a rest) ≡ false
 no-open (gets-value s v) rest = refl
 
-assign-read : (slots : List Slot) (a : AssignTree) (ps : List Pair) (rest : List Token) → Means-assign slots a ps → length ps ≤ max-assignments
+assign-read : (slots : List Slot) (a : AssignTree) (ps : List Pair) (rest : List Token) → Means-assign slots a ps → length ps ≤ assignment-limit
     → read-assign slots (spell-assign a rest) ≡ took ps rest
 unfolding read-assign if-next fork assigns read-assignments
 assign-read slots a ps rest (means-alone {a = b} {p = p} n) h = rw (no-open b rest, assignment-is slots [] b p rest n refl, took-then)
-assign-read slots a ps rest (means-braces {l = l} g) h = assignments-read slots l ps (word CLOSE ∷ rest) (max-assignments - length ps) g (omega arith)
+assign-read slots a ps rest (means-braces {l = l} g) h = assignments-read slots l ps (word CLOSE ∷ rest) (assignment-limit - length ps) g (omega arith)
 
 -- A rule.
 pub rule-read : (slots : List Slot) (t : RuleTree) (r : Rule) (rest : List Token) → Means-rule slots t r → read-rule slots (spell-rule t rest) ≡ took r rest
@@ -160,7 +160,7 @@ rule-read slots t r rest (means-rule {c = c} {a = a} (means-trigger {s = s} {v =
       took-then,
       expects-here IF _,
       took-then,
-      condition-read slots c (r .literals) _ (max-literals - length (r .literals)) m (omega arith),
+      condition-read slots c (r .literals) _ (literal-limit - length (r .literals)) m (omega arith),
       then-here,
       took-then,
       assign-read slots a (r .assignments) _ g most,
@@ -188,11 +188,11 @@ values-step : (room : ℕ) (ns : List Name) (n : Name) (rest : List Token) → p
 unfolding read-values
 values-step room ns n rest e = list-step _ _ COMMA CLOSE room ns (name n ∷ rest) n rest (new-here ns n rest e)
 
-values-read : (vs : ValueListTree) (ns : List Name) (rest : List Token) (room : ℕ) → Means-values vs ns → room + length ns ≡ max-values
-    → read-values max-values [] (spell-values vs rest) ≡ after-value room ns rest
+values-read : (vs : ValueListTree) (ns : List Name) (rest : List Token) (room : ℕ) → Means-values vs ns → room + length ns ≡ value-limit
+    → read-values value-limit [] (spell-values vs rest) ≡ after-value room ns rest
 unfolding fork read-values
 values-read vs ns rest room (means-value {n = n}) e =
-    let z : max-values ≡ suc room = omega arith in
+    let z : value-limit ≡ suc room = omega arith in
     ap (λ (k : ℕ). read-values k [] (name n ∷ rest)) z ∙ values-step room [] n rest refl
 values-read vs ns rest room (means-values {vs = ws} {ns = ms} {n = n} g d) e =
     values-read ws ms (word COMMA ∷ name n ∷ rest) (suc room) g (let x = length-append ms (n ∷ []) in omega arith)
@@ -212,7 +212,7 @@ line-read before t s rest (means-line {vs = vs} fresh g few) =
       took-then,
       expects-here OPEN _,
       took-then,
-      values-read vs (s .values) _ (max-values - length (s .values)) g (omega arith),
+      values-read vs (s .values) _ (value-limit - length (s .values)) g (omega arith),
       close-here,
       took-then,
       expects-here SEMICOLON _,
@@ -224,7 +224,7 @@ no-slot-first [] = refl
 no-slot-first (rule t c a ∷ ts) = refl
 
 -- Where no SLOT stands next the rules begin.
-pub rules-begin : (room : ℕ) (slots : List Slot) (ts : List Token) → begins-with SLOT ts ≡ false → read-lines room slots ts ≡ read-rules max-rules slots [] ts
+pub rules-begin : (room : ℕ) (slots : List Slot) (ts : List Token) → begins-with SLOT ts ≡ false → read-lines room slots ts ≡ read-rules rule-limit slots [] ts
 unfolding read-lines if-next
 rules-begin zero slots ts e = rw e
 rules-begin (suc room) slots ts e = rw e
@@ -235,7 +235,7 @@ lines-grow before ts all no-lines = omega arith
 lines-grow before ts all (more-lines {s = s} h hs) = let x = length-append before (s ∷ []) in let y = lines-grow _ _ all hs in omega arith
 
 lines-read : (before : List Slot) (ts : List LineTree) (all : List Slot) (us : List RuleTree) (room : ℕ) → Means-lines before ts all → length all ≤ room + length before
-    → read-lines room before (spell-lines ts (spell-rules us [])) ≡ read-rules max-rules all [] (spell-rules us [])
+    → read-lines room before (spell-lines ts (spell-rules us [])) ≡ read-rules rule-limit all [] (spell-rules us [])
 unfolding read-lines if-next go-on
 lines-read before ts all us room no-lines h = rules-begin room before (spell-rules us []) (no-slot-first us)
 lines-read before ts all us zero (more-lines {s = s} g gs) h = absurd (let x = length-append before (s ∷ []) in let y = lines-grow _ _ all gs in omega arith)
@@ -247,13 +247,13 @@ lines-read before ts all us (suc room) (more-lines {t = line n vs} {s = s} {ts =
 pub tree-read : (t : FileTree) (f : File) → Means t f → read-tokens (spell t) ≡ accepted f
 unfolding read-tokens
 tree-read t f m =
-    lines-read [] (t .lines) (f .slots) (t .rules) max-slots (m .lines-are) (let x = m .few-slots in omega arith)
-    ∙ rules-read (f .slots) (t .rules) (f .rules) [] max-rules (m .rules-are) (m .few-rules)
+    lines-read [] (t .lines) (f .slots) (t .rules) slot-limit (m .lines-are) (let x = m .few-slots in omega arith)
+    ∙ rules-read (f .slots) (t .rules) (f .rules) [] rule-limit (m .rules-are) (m .few-rules)
 
 -- A text within the limit is read by its tokens.
-pub read-short : (text : List ℕ) → length text ≤ max-text → parse text ≡ read-tokens (tokens text)
+pub read-short : (text : List ℕ) → length text ≤ text-limit → parse text ≡ read-tokens (tokens text)
 unfolding parse
-read-short text h = rw (le-leb (length text) max-text h)
+read-short text h = rw (le-leb (length text) text-limit h)
 
 -- A text that is a file is read as that file.
 pub file-parsed : (text : List ℕ) (f : File) → Is-file text f → parse text ≡ accepted f

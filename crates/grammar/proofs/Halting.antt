@@ -10,7 +10,7 @@ use lib.ListN.{length, length-append, drop}
 use Rattle.text.specs.Tokens.{Token, word, SLOT, WHEN}
 use Rattle.text.specs.Cut.{is-semi, Free, past-semi}
 use Rattle.model.specs.Rules.{Rule}
-use Rattle.grammar.specs.Limits.{max-rules}
+use Rattle.laws.specs.Limits.{rule-limit}
 use Rattle.grammar.specs.Files.{Slot, File}
 use Rattle.grammar.specs.Grammar.{RuleTree, rule, LineTree, line, spell-rule, spell-rules, spell-line, spell-lines}
 use Rattle.grammar.specs.Reading.{Part, took, stop, Parsed, accepted, refused, expects, begins-with, if-next, read-rule, read-line, go-on, read-rules, read-lines}
@@ -205,15 +205,15 @@ abbrev pub Lines-halt : ℕ → List Slot → List Token → ℕ → ℕ → Typ
 Lines-halt room before ts k n = Halt Begins-file (read-lines room before) (File-done n) ts k n
 
 lines-at-rules : (room : ℕ) (before : List Slot) → Clean (read-lines room before) 0 []
-lines-at-rules room before = inr (record { slots = before; rules = [] }, rules-begin room before [] refl ∙ rules-end max-rules before [], refl)
+lines-at-rules room before = inr (record { slots = before; rules = [] }, rules-begin room before [] refl ∙ rules-end rule-limit before [], refl)
 
 -- The rules are refused.
-rules-refused : (room : ℕ) (before : List Slot) (ts : List Token) (k n : ℕ) → begins-with SLOT ts ≡ false → read-rules max-rules before [] ts ≡ refused k n → Lines-halt room before ts k n
+rules-refused : (room : ℕ) (before : List Slot) (ts : List Token) (k n : ℕ) → begins-with SLOT ts ≡ false → read-rules rule-limit before [] ts ≡ refused k n → Lines-halt room before ts k n
 unfolding stop-where
 rules-refused room before ts k n off e =
-    let h = rules-halt max-rules before [] ts k n e in
+    let h = rules-halt rule-limit before [] ts k n e in
     record {
-      stopped = stop-where Begins-rules (Clean (read-rules max-rules before []) n) (λ us. read-rules max-rules before [] us ≡ refused k n)
+      stopped = stop-where Begins-rules (Clean (read-rules rule-limit before []) n) (λ us. read-rules rule-limit before [] us ≡ refused k n)
           Begins-file (Clean (read-lines room before) n) (λ us. read-lines room before us ≡ refused k n) SLOT false (λ us b. ([], b .0, b .1, b .2))
           (λ us o c. let on = rules-begin room before us (nothing-next SLOT us o) in ⊎-elim (λ q. inl (on ∙ q)) (λ q. inr (q .0, on ∙ q .1, q .2)) c)
           (λ t us o q. rules-begin room before (t ∷ us) o ∙ q) ts k off (h .stopped);
@@ -308,7 +308,7 @@ rules-fit (rule t c a ∷ us) (suc room) slots sofar =
     rules-next room slots sofar v vs = unfold read-rules in refl
 
 pub lines-fit : (ls : List LineTree) (us : List RuleTree) (room : ℕ) (before : List Slot) → Fits-file (read-lines room before (spell-lines ls (spell-rules us [])))
-lines-fit [] us room before = subst Fits-file (sym (rules-begin room before (spell-rules us []) (no-slot-first us))) (rules-fit us max-rules before [])
+lines-fit [] us room before = subst Fits-file (sym (rules-begin room before (spell-rules us []) (no-slot-first us))) (rules-fit us rule-limit before [])
 lines-fit (line n vs ∷ ls) us zero before = subst Fits-file (sym (slot-too-many before _)) (omega arith)
 lines-fit (line n vs ∷ ls) us (suc room) before =
     subst Fits-file (sym (line-next room before (spell-line (line n vs) (spell-lines ls (spell-rules us []))) refl))

@@ -11,7 +11,7 @@ use lib.ListN.{length}
 use borrow.Author.Tests.{leb-true, leb-false}
 use Rattle.laws.proofs.Lists.{two-cuts}
 use Rattle.text.specs.Tokens.{Token, word, name, long, bad, tokens}
-use Rattle.grammar.specs.Limits.{max-text, max-slots}
+use Rattle.laws.specs.Limits.{text-limit, slot-limit}
 use Rattle.grammar.specs.Files.{File}
 use Rattle.grammar.specs.Grammar.{RuleTree, LineTree, FileTree, spell, spell-rules, spell-lines}
 use Rattle.grammar.specs.Reading.{Parsed, accepted, refused, read-tokens, parse}
@@ -28,7 +28,7 @@ goes ts b = record { tree = record { lines = b .0; rules = b .1 }; more = b .2; 
 -- No derivation is refused with 12.
 derived-fits : (tree : FileTree) (n : ℕ) → read-tokens (spell tree) ≡ refused 12 n → ⊥
 unfolding read-tokens
-derived-fits tree n e = let h : 14 ≤ 12 = subst Fits-file e (lines-fit (tree .lines) (tree .rules) max-slots []) in omega arith
+derived-fits tree n e = let h : 14 ≤ 12 = subst Fits-file e (lines-fit (tree .lines) (tree .rules) slot-limit []) in omega arith
 
 -- A token that is refused with 12 whatever follows is out of place.
 out : (before : List Token) (t : Token) (n : ℕ) → is-bad t ≡ false → Whatever-follows (λ us. read-tokens us ≡ refused 12 n) 12 before (t ∷ []) → Out-of-place before t
@@ -53,7 +53,7 @@ decided-of k n mid (t ∷ rest) d = λ later. d t same-token later
 pub tokens-stand : (ts : List Token) (k n : ℕ) → read-tokens ts ≡ refused k n → Stands-at ts k n
 unfolding read-tokens
 tokens-stand ts k n e =
-    let h = lines-halt max-slots [] ts k n e in
+    let h = lines-halt slot-limit [] ts k n e in
     let s = h .stopped in
     let c = h .completed in record {
       before = s .mid;
@@ -68,14 +68,14 @@ tokens-stand ts k n e =
 
 -- A text is refused with 10 for its length, or its refusal stands at one of its tokens or at its end.
 pub refusal-stands : (text : List ℕ) (k n : ℕ) → parse text ≡ refused k n
-    → ((k ≡ 10) × (n ≡ 0) × (max-text < length text)) ⊎ ((length text ≤ max-text) × Stands-at (tokens text) k n)
+    → ((k ≡ 10) × (n ≡ 0) × (text-limit < length text)) ⊎ ((length text ≤ text-limit) × Stands-at (tokens text) k n)
 unfolding parse
-refusal-stands text k n e = go (leb (length text) max-text) refl e
+refusal-stands text k n e = go (leb (length text) text-limit) refl e
   where
-    go : (t : Bool) → leb (length text) max-text ≡ t → cond t (read-tokens (tokens text)) (refused 10 0) ≡ refused k n
-        → ((k ≡ 10) × (n ≡ 0) × (max-text < length text)) ⊎ ((length text ≤ max-text) × Stands-at (tokens text) k n)
-    go true q x = inr (leb-true (length text) max-text q, tokens-stand (tokens text) k n x)
-    go false q x = let z = refused-same 10 0 k n x in inl (sym (z .0), sym (z .1), leb-false (length text) max-text q)
+    go : (t : Bool) → leb (length text) text-limit ≡ t → cond t (read-tokens (tokens text)) (refused 10 0) ≡ refused k n
+        → ((k ≡ 10) × (n ≡ 0) × (text-limit < length text)) ⊎ ((length text ≤ text-limit) × Stands-at (tokens text) k n)
+    go true q x = inr (leb-true (length text) text-limit q, tokens-stand (tokens text) k n x)
+    go false q x = let z = refused-same 10 0 k n x in inl (sym (z .0), sym (z .1), leb-false (length text) text-limit q)
 
 -- What begins a derivation begins one after fewer tokens too.
 goes-front : (ts us : List Token) → Goes-on (ts ++ us) → Goes-on ts

@@ -14,7 +14,7 @@ use Rattle.text.specs.Tokens.{Token, word, SLOT, WHEN, SEMICOLON, tokens-from, 
 use Rattle.text.specs.Cut.{moved, No-semi}
 use Rattle.text.proofs.Cut.{tokens-moved}
 use Rattle.model.specs.Rules.{Rule}
-use Rattle.grammar.specs.Limits.{max-text, max-slots, max-rules}
+use Rattle.laws.specs.Limits.{text-limit, slot-limit, rule-limit}
 use Rattle.grammar.specs.Files.{Slot, File}
 use Rattle.grammar.specs.Grammar.{RuleTree, rule, LineTree, line, spell-rule, spell-line}
 use Rattle.grammar.specs.Reading.{took, accepted, refused, expects, begins-with, if-next, read-rule, read-line, go-on, read-rules, read-lines, read-tokens, parse}
@@ -66,7 +66,7 @@ rules-step (suc room) slots sofar (t ∷ ts) f e =
 
 -- One step of an accepted reading of slot lines: a line, or the rules.
 lines-step : (room : ℕ) (before : List Slot) (ts : List Token) (f : File) → read-lines room before ts ≡ accepted f
-    → (read-rules max-rules before [] ts ≡ accepted f)
+    → (read-rules rule-limit before [] ts ≡ accepted f)
     ⊎ ((k : ℕ) × (s : Slot) × (left : List Token) × (room ≡ suc k) × (read-line before ts ≡ took s left) × (read-lines k (before ++ s ∷ []) left ≡ accepted f))
 unfolding read-lines
 lines-step zero before ts f e = ⊎-elim (λ x. refused-never 15 0 f (x .2)) (λ x. inl x) (if-next-back SLOT _ _ ts (accepted f) e)
@@ -105,13 +105,13 @@ record Apart (bs : List (List ℕ)) (room : ℕ) (before : List Slot) (w : List 
   slots-are : Read-lines before p slot-part (f .slots)
   few-slots : length (f .slots) ≤ room + length before
   rules-are : Forall₂ (Read-rule (f .slots)) rule-part (f .rules)
-  few-rules : length (f .rules) ≤ max-rules
+  few-rules : length (f .rules) ≤ rule-limit
   end-white : (q : ℕ) × (tokens-from w 0 q ≡ [])
 
 apart-rules : (bs : List (List ℕ)) (room : ℕ) (before : List Slot) (w : List ℕ) (p : ℕ) (f : File) → Plain bs → No-semi w
-    → read-rules max-rules before [] (tokens-from (joined bs w) 0 p) ≡ accepted f → Apart bs room before w p f
+    → read-rules rule-limit before [] (tokens-from (joined bs w) 0 p) ≡ accepted f → Apart bs room before w p f
 apart-rules bs room before w p f h n e =
-    let x = rules-apart bs max-rules before [] w p f h n e in
+    let x = rules-apart bs rule-limit before [] w p f h n e in
     subst (Apart bs room before w p) (sym (x .2)) (record {
       slot-part = [];
       rule-part = bs;
@@ -153,19 +153,19 @@ white-anywhere w p q e = sym (tokens-moved w 0 p q (λ i. i - p + q) (λ j. omeg
 
 accepted-apart : (text : List ℕ) (f : File) → parse text ≡ accepted f → By-statements text f
 unfolding parse read-tokens tokens
-accepted-apart text f e = go (leb (length text) max-text) refl e
+accepted-apart text f e = go (leb (length text) text-limit) refl e
   where
-    go : (t : Bool) → leb (length text) max-text ≡ t → cond t (read-lines max-slots [] (tokens-from text 0 0)) (refused 10 0) ≡ accepted f → By-statements text f
+    go : (t : Bool) → leb (length text) text-limit ≡ t → cond t (read-lines slot-limit [] (tokens-from text 0 0)) (refused 10 0) ≡ accepted f → By-statements text f
     go true q x =
-        let r = lines-apart (pieces text) max-slots [] (tail-piece text) 0 f (pieces-plain text) (tail-plain text)
-        (ap (λ (y : List ℕ). read-lines max-slots [] (tokens-from y 0 0)) (cut-joined text) ∙ x) in record {
+        let r = lines-apart (pieces text) slot-limit [] (tail-piece text) 0 f (pieces-plain text) (tail-plain text)
+        (ap (λ (y : List ℕ). read-lines slot-limit [] (tokens-from y 0 0)) (cut-joined text) ∙ x) in record {
           slot-part = r .slot-part;
           rule-part = r .rule-part;
           whole = r .whole;
           slots-are = r .slots-are;
           rules-are = r .rules-are;
           end-white = white-anywhere (tail-piece text) (r .end-white .0) 0 (r .end-white .1);
-          short = leb-true (length text) max-text q;
+          short = leb-true (length text) text-limit q;
           few-slots = (let k = r .few-slots in omega arith);
           few-rules = r .few-rules;
         }
@@ -226,10 +226,10 @@ slots-grow before p bs all (one-more-line {s = s} g gs) = let x = length-append 
 
 -- Pieces that are slots by themselves are read as those slots, and then the rules.
 lines-together : (bs rs : List (List ℕ)) (room : ℕ) (before all : List Slot) (rules : List Rule) (w : List ℕ) (p : ℕ) → Read-lines before p bs all → length all ≤ room + length before
-    → Forall₂ (Read-rule all) rs rules → length rules ≤ max-rules → tokens-from w 0 0 ≡ []
+    → Forall₂ (Read-rule all) rs rules → length rules ≤ rule-limit → tokens-from w 0 0 ≡ []
     → read-lines room before (tokens-from (joined (bs ++ rs) w) 0 p) ≡ accepted (record { slots = all; rules = rules })
 lines-together bs rs room before all rules w p no-more-lines h g few e =
-    rules-begin room before (tokens-from (joined rs w) 0 p) (no-slot-next before rs rules w p g e) ∙ rules-together rs max-rules before [] rules w p g few e
+    rules-begin room before (tokens-from (joined rs w) 0 p) (no-slot-next before rs rules w p g e) ∙ rules-together rs rule-limit before [] rules w p g few e
 lines-together bs rs zero before all rules w p (one-more-line {s = s} l ls) h g few e =
     absurd (let x = length-append before (s ∷ []) in let y = slots-grow _ _ _ all ls in omega arith)
 lines-together bs rs (suc room) before all rules w p (one-more-line {b = b} {bs = cs} {s = s} l ls) h g few e =
@@ -240,9 +240,9 @@ lines-together bs rs (suc room) before all rules w p (one-more-line {b = b} {bs 
 together-accepted : (text : List ℕ) (f : File) → By-statements text f → parse text ≡ accepted f
 unfolding parse read-tokens tokens
 together-accepted text f h =
-    rw (le-leb (length text) max-text (h .short))
-    (ap (λ (y : List ℕ). read-lines max-slots [] (tokens-from y 0 0)) (sym (cut-joined text) ∙ ap (λ (bs : List (List ℕ)). joined bs (tail-piece text)) (h .whole))
-    ∙ lines-together (h .slot-part) (h .rule-part) max-slots [] (f .slots) (f .rules) (tail-piece text) 0 (h .slots-are) (let x = h .few-slots in omega arith) (h .rules-are) (h .few-rules) (h .end-white))
+    rw (le-leb (length text) text-limit (h .short))
+    (ap (λ (y : List ℕ). read-lines slot-limit [] (tokens-from y 0 0)) (sym (cut-joined text) ∙ ap (λ (bs : List (List ℕ)). joined bs (tail-piece text)) (h .whole))
+    ∙ lines-together (h .slot-part) (h .rule-part) slot-limit [] (f .slots) (f .rules) (tail-piece text) 0 (h .slots-are) (let x = h .few-slots in omega arith) (h .rules-are) (h .few-rules) (h .end-white))
 
 -- Reading is by statements: a text is accepted with a file exactly when its pieces, each by itself, are that file's slots and rules.
 pub statements-iff : (text : List ℕ) (f : File) → (parse text ≡ accepted f) ↔ By-statements text f

@@ -7,7 +7,7 @@ use mathlib.Core.List.{List, [], _∷_, _++_}
 use mathlib.Core.Logic.{inl, inr}
 use Rattle.text.specs.Tokens.{Name, Token, word, name, SLOT, WHEN, IF, THEN, AND, TRUE, OPEN, CLOSE, COMMA, SEMICOLON, BECOMES, GETS}
 use Rattle.model.specs.Rules.{Pair}
-use Rattle.grammar.specs.Limits.{max-values, max-literals, max-assignments}
+use Rattle.laws.specs.Limits.{value-limit, literal-limit, assignment-limit}
 use Rattle.grammar.specs.Files.{Slot, slot-names}
 use Rattle.grammar.specs.Grammar.{RuleTree, rule, trigger, ConditionTree, and-literal, one-literal, true-alone, LiteralTree, AssignTree, one-alone, braces, AssignmentListTree, one-assignment, comma-assignment, AssignmentTree, gets-value, ValueListTree, one-value, comma-value, LineTree, line, spell-literal, spell-condition, spell-assignment, spell-assignments, spell-assign, spell-rule, spell-values, spell-line, grown}
 use Rattle.grammar.specs.Reading.{took, _then_, expects, fork, new-name, read-slot, read-value, read-target, read-literals, read-condition, read-assignment, no-assignment, read-assignments, read-assign, read-rule, no-value, read-values, read-line}
@@ -69,9 +69,9 @@ reader-condition : (slots : List Slot) → Reader a-condition (read-condition sl
 unfolding read-condition
 reader-condition slots =
     reader-along condition-parts a-condition (read-condition slots)
-    (reader-next TRUE (fork AND THEN (read-literals slots max-literals []) (took [])) (read-literals slots max-literals []) (either AND THEN literals nothing) literals
-    (reader-fork AND THEN (read-literals slots max-literals []) (took []) literals nothing (reader-literals slots max-literals []) (reader-took []) (λ z. omega arith))
-    (reader-literals slots max-literals []) (λ y rest. no-true (y .0) _))
+    (reader-next TRUE (fork AND THEN (read-literals slots literal-limit []) (took [])) (read-literals slots literal-limit []) (either AND THEN literals nothing) literals
+    (reader-fork AND THEN (read-literals slots literal-limit []) (took []) literals nothing (reader-literals slots literal-limit []) (reader-took []) (λ z. omega arith))
+    (reader-literals slots literal-limit []) (λ y rest. no-true (y .0) _))
     condition-to condition-to-spelled
     (λ c. let x = condition-leftmost c in condition-parts-of (x .0) (x .1))
     (λ c rest. let x = condition-leftmost c in ap (λ (d : ConditionTree). spell-condition d (word THEN ∷ rest)) (x .2) ∙ parts-spelled (x .0) (x .1) rest)
@@ -166,8 +166,8 @@ reader-assign : (slots : List Slot) → Reader an-assign (read-assign slots)
 unfolding read-assign
 reader-assign slots =
     reader-along assign-parts an-assign (read-assign slots)
-    (reader-next OPEN (read-assignments slots max-assignments []) (λ more. read-assignment slots [] more then λ p rest. took (p ∷ []) rest) assignments (both an-assignment nothing)
-    (reader-assignments slots max-assignments []) (reader-then an-assignment nothing (read-assignment slots []) (λ p rest. took (p ∷ []) rest) (reader-assignment slots []) (λ p. reader-took (p ∷ [])))
+    (reader-next OPEN (read-assignments slots assignment-limit []) (λ more. read-assignment slots [] more then λ p rest. took (p ∷ []) rest) assignments (both an-assignment nothing)
+    (reader-assignments slots assignment-limit []) (reader-then an-assignment nothing (read-assignment slots []) (λ p rest. took (p ∷ []) rest) (reader-assignment slots []) (λ p. reader-took (p ∷ [])))
     (λ y rest. no-open (y .0) rest))
     assign-to assign-to-spelled assign-of assign-of-spelled
 
@@ -257,6 +257,6 @@ reader-line before =
     (reader-then (the-word SLOT) _ (expects SLOT) _ (reader-expects SLOT) (λ u1.
     reader-then a-single-name _ (new-name (slot-names before)) _ (reader-name (new-name (slot-names before)) (new-name-read (slot-names before))) (λ n.
     reader-then (the-word OPEN) _ (expects OPEN) _ (reader-expects OPEN) (λ u2.
-    reader-then values _ (read-values max-values []) _ (reader-values max-values []) (λ vs.
+    reader-then values _ (read-values value-limit []) _ (reader-values value-limit []) (λ vs.
     reader-then (the-word SEMICOLON) nothing (expects SEMICOLON) _ (reader-expects SEMICOLON) (λ u3. reader-took (record { name = n; values = vs })))))))
     line-to line-to-spelled line-of line-of-spelled

@@ -1,4 +1,3 @@
-pub mod Limits
 pub mod Files
 pub mod Grammar
 pub mod Meaning

@@ -6,7 +6,7 @@ use mathlib.Core.List.{List, [], _∷_, _++_}
 use lib.ListN.{length}
 use Rattle.text.specs.Tokens.{Name, tokens}
 use Rattle.model.specs.Rules.{Pair, Literal, Rule, assigns}
-use Rattle.grammar.specs.Limits.{max-text, max-slots, max-values, max-rules, max-literals, max-assignments}
+use Rattle.laws.specs.Limits.{text-limit, slot-limit, value-limit, rule-limit, literal-limit, assignment-limit}
 use Rattle.grammar.specs.Files.{Slot, File, place-in, slot-names, values-of}
 use Rattle.grammar.specs.Grammar.{RuleTree, rule, TriggerTree, trigger, ConditionTree, and-literal, one-literal, true-alone, LiteralTree, not-literal, becomes-value, holds-value, AssignTree, one-alone, braces, AssignmentListTree, one-assignment, comma-assignment, AssignmentTree, gets-value, ValueListTree, one-value, comma-value, LineTree, line, FileTree, spell}
 
@@ -81,8 +81,8 @@ pub data Means-trigger (slots : List Slot) : TriggerTree → Pair → Type 0 whe
 pub data Means-rule (slots : List Slot) : RuleTree → Rule → Type 0 where
   means-rule : {t : TriggerTree} {c : ConditionTree} {a : AssignTree} {r : Rule}
       → Means-trigger slots t (r .trigger)
-      → Means-condition slots c (r .literals) → length (r .literals) ≤ max-literals
-      → Means-assign slots a (r .assignments) → length (r .assignments) ≤ max-assignments
+      → Means-condition slots c (r .literals) → length (r .literals) ≤ literal-limit
+      → Means-assign slots a (r .assignments) → length (r .assignments) ≤ assignment-limit
       → Means-rule slots (rule t c a) r
 
 -- Rules in order.
@@ -99,7 +99,7 @@ pub data Means-values : ValueListTree → List Name → Type 0 where
 -- A slot line after the slots `before`: its name is none of theirs, and its values are within the limit.
 pub data Means-line (before : List Slot) : LineTree → Slot → Type 0 where
   means-line : {s : Slot} {vs : ValueListTree}
-      → place-in (slot-names before) (s .name) ≡ 0 → Means-values vs (s .values) → length (s .values) ≤ max-values
+      → place-in (slot-names before) (s .name) ≡ 0 → Means-values vs (s .values) → length (s .values) ≤ value-limit
       → Means-line before (line (s .name) vs) s
 
 -- Slot lines after the slots `before`; `all` are the slots in the end.
@@ -111,13 +111,13 @@ pub data Means-lines : List Slot → List LineTree → List Slot → Type 0 wher
 -- A file: its slots and its rules over all of them, within the limits.
 pub record Means (t : FileTree) (f : File) : Type 0 where
   pub lines-are : Means-lines [] (t .lines) (f .slots)
-  pub few-slots : length (f .slots) ≤ max-slots
+  pub few-slots : length (f .slots) ≤ slot-limit
   pub rules-are : Means-rules (f .slots) (t .rules) (f .rules)
-  pub few-rules : length (f .rules) ≤ max-rules
+  pub few-rules : length (f .rules) ≤ rule-limit
 
 -- A text is a file: it is short enough, and its tokens derive a tree that means the file.
 pub record Is-file (text : List ℕ) (f : File) : Type 0 where
-  pub short : length text ≤ max-text
+  pub short : length text ≤ text-limit
   pub tree : FileTree
   pub derives : spell tree ≡ tokens text
   pub means : Means tree f

@@ -8,7 +8,7 @@ use lib.ListN.{length}
 use Rattle.laws.specs.Rearranged.{Perm}
 use Rattle.text.specs.Tokens.{Token, word, WHEN, SEMICOLON, tokens-from, tokens}
 use Rattle.model.specs.Rules.{Rule}
-use Rattle.grammar.specs.Limits.{max-text, max-slots, max-rules}
+use Rattle.laws.specs.Limits.{text-limit, slot-limit, rule-limit}
 use Rattle.grammar.specs.Files.{Slot, File}
 use Rattle.grammar.specs.Reading.{took, begins-with, read-rule, read-line}
 
@@ -59,9 +59,9 @@ pub record By-statements (text : List ℕ) (f : File) : Type 0 where
   pub slots-are : Read-lines [] 0 slot-part (f .slots)
   pub rules-are : Forall₂ (Read-rule (f .slots)) rule-part (f .rules)
   pub end-white : tokens (tail-piece text) ≡ []
-  pub short : length text ≤ max-text
-  pub few-slots : length (f .slots) ≤ max-slots
-  pub few-rules : length (f .rules) ≤ max-rules
+  pub short : length text ≤ text-limit
+  pub few-slots : length (f .slots) ≤ slot-limit
+  pub few-rules : length (f .rules) ≤ rule-limit
 
 -- The piece of a rule: it begins with WHEN.
 unfoldable pub rule-piece : List ℕ → Bool

@@ -7,7 +7,7 @@ use lib.ListN.{length, drop}
 use Rattle.text.specs.Tokens.{Name, Token, word, name, long, bad, SLOT, WHEN, IF, THEN, AND, NOT, TRUE, OPEN, CLOSE, COMMA, SEMICOLON, BECOMES, HAS, GETS, tokens}
 use Rattle.model.specs.Rules.{Pair, Literal, Rule, assigns}
 use Rattle.model.specs.Result.{pair}
-use Rattle.grammar.specs.Limits.{max-text, max-slots, max-values, max-rules, max-literals, max-assignments}
+use Rattle.laws.specs.Limits.{text-limit, slot-limit, value-limit, rule-limit, literal-limit, assignment-limit}
 use Rattle.grammar.specs.Files.{Slot, File, place-in, slot-names, values-of}
 
 -- What reading a part gives: what it read and the tokens left, or the number of a refusal.
@@ -137,8 +137,8 @@ read-literals slots = read-list (λ sofar ts. read-literal ts slots false) no-li
 -- A condition and its THEN: TRUE may open it, and stands nowhere else.
 unfoldable pub read-condition : List Slot → List Token → Part (List Literal)
 read-condition slots ts =
-    if-next TRUE (λ more. fork AND THEN (read-literals slots max-literals []) (took []) (drop 1 more))
-    (read-literals slots max-literals []) ts
+    if-next TRUE (λ more. fork AND THEN (read-literals slots literal-limit []) (took []) (drop 1 more))
+    (read-literals slots literal-limit []) ts
 
 -- An assignment, after those of `sofar`.
 unfoldable pub read-assignment : List Slot → List Pair → List Token → Part Pair
@@ -159,7 +159,7 @@ read-assignments slots = read-list (read-assignment slots) no-assignment COMMA C
 -- What follows THEN, up to the `;`: one assignment, or a list in braces.
 unfoldable pub read-assign : List Slot → List Token → Part (List Pair)
 read-assign slots ts =
-    if-next OPEN (λ more. read-assignments slots max-assignments [] (drop 1 more))
+    if-next OPEN (λ more. read-assignments slots assignment-limit [] (drop 1 more))
     (λ more. read-assignment slots [] more then λ p rest. took (p ∷ []) rest) ts
 
 -- A rule.
@@ -189,7 +189,7 @@ read-line slots ts =
     expects SLOT ts then λ u t1.
     new-name (slot-names slots) t1 then λ n t2.
     expects OPEN t2 then λ u t3.
-    read-values max-values [] t3 then λ vs t4.
+    read-values value-limit [] t3 then λ vs t4.
     expects SEMICOLON t4 then λ u t5.
     took (record { name = n; values = vs }) t5
 
@@ -209,15 +209,15 @@ read-rules (suc room) slots sofar (t ∷ ts) =
 
 -- The slot lines, where `room` more may come after `slots`, then the rules. 15: one too many, at SLOT.
 unfoldable pub read-lines : ℕ → List Slot → List Token → Parsed
-read-lines zero slots ts = if-next SLOT (λ more. refused 15 0) (read-rules max-rules slots []) ts
+read-lines zero slots ts = if-next SLOT (λ more. refused 15 0) (read-rules rule-limit slots []) ts
 read-lines (suc room) slots ts =
     if-next SLOT (λ more. go-on 0 (read-line slots more) (λ s rest. read-lines room (slots ++ s ∷ []) rest))
-    (read-rules max-rules slots []) ts
+    (read-rules rule-limit slots []) ts
 
 -- The reading of tokens.
 unfoldable pub read-tokens : List Token → Parsed
-read-tokens ts = read-lines max-slots [] ts
+read-tokens ts = read-lines slot-limit [] ts
 
 -- The reading of a text, all but refusal 18. 10: text over 65,535 bytes.
 unfoldable pub parse : List ℕ → Parsed
-parse text = cond (leb (length text) max-text) (read-tokens (tokens text)) (refused 10 0)
+parse text = cond (leb (length text) text-limit) (read-tokens (tokens text)) (refused 10 0)

@@ -6,7 +6,7 @@ use Rattle.text.specs.Tokens.{Name}
 use Rattle.grammar.specs.Files.{Slot, File}
 use Rattle.table.specs.declared.Name as stretch
 use Rattle.table.specs.declared.Slot as tabled
-use Rattle.table.specs.Limits.{value-limit, slot-limit, rule-limit, literal-limit, assignment-limit}
+use Rattle.laws.specs.Limits.{value-limit, slot-limit, rule-limit, literal-limit, assignment-limit}
 use Rattle.table.specs.Shape.{zero-name, zero-literal, zero-assignment}
 use Rattle.model.specs.Rules.{Pair}
 use Rattle.table.specs.declared.Assignment.{Assignment}

@@ -9,4 +9,5 @@ pub mod Rearranged
 pub mod Quoted
 pub mod Packed
 pub mod Answers
+pub mod Limits
 pub mod inner

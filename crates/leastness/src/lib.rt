@@ -5,7 +5,7 @@ ghost use mathlib.Core.Path.{_≡_};
 ghost use Prim.Native.Nat.{_*_, _≤_, _<_};
 ghost use Rattle.laws.specs.inner.Flags.{all-set};
 ghost use Rattle.model.specs.Strata.{needed, barred};
-ghost use Rattle.table.specs.Limits.{rule-limit};
+ghost use Rattle.laws.specs.Limits.{rule-limit};
 ghost use Rattle.table.specs.inner.Flat.{pair-places};
 ghost use Rattle.table.specs.Link.{rule-of, assignments-of};
 ghost use Rattle.table.specs.inner.Fits.{RuleFits};

@@ -13,7 +13,7 @@ use Rattle.laws.specs.Filled.{filled}
 use Rattle.text.specs.Tokens.{Name}
 use Rattle.grammar.specs.Files.{Slot, spellings, slot-names, values-of, no-slot}
 use Rattle.table.specs.declared.Name as stretch
-use Rattle.table.specs.Limits.{slot-limit, value-limit, row}
+use Rattle.laws.specs.Limits.{slot-limit, value-limit, row}
 use Rattle.table.specs.inner.Flat.{pair-places}
 use Rattle.table.specs.Shape.{zero-name}
 use Rattle.laws.proofs.Lists.{map-append}

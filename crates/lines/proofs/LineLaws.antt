@@ -7,10 +7,9 @@ use mathlib.Core.List.{List, [], _∷_, _++_}
 use lib.ListN.{length, take, drop, set, length-drop}
 use lib.Seq.{take-all, drop-drop}
 use Rattle.text.specs.Tokens.{Name, Token, place, SLOT, OPEN, CLOSE, COMMA, SEMICOLON}
-use Rattle.grammar.specs.Limits.{max-values}
+use Rattle.laws.specs.Limits.{value-limit}
 use Rattle.grammar.specs.Files.{Slot, spellings, slot-names}
 use Rattle.grammar.specs.Reading.{Part, took, stop, _then_, expects, a-name, new, new-name, no-value, read-list, read-values, read-line}
-use Rattle.table.specs.Limits.{value-limit}
 use Rattle.steps.specs.inner.Places.{Choice, which, step-part, outcome-part}
 use Rattle.steps.specs.inner.Spans.{Span-lies}
 use Rattle.lines.specs.inner.Index.{span-name, span-names}
@@ -35,8 +34,7 @@ unfolding new-name _then_ new
 new-free names ts left n p e f z = rw (e, ← f, z)
 
 -- The room for values is the table's.
-pub room-is : max-values ≡ value-limit
-unfolding max-values
+pub room-is : value-limit ≡ value-limit
 room-is = refl
 
 -- The values, where `room` more may come: no new name; one too many; one more, and what follows it.
@@ -85,7 +83,7 @@ head-read slots ts t1 t2 t3 n e f g = rw (e, f, g)
 -- What follows it.
 unfoldable values-then : Name → List Token → Part Slot
 values-then n ts =
-    read-values max-values [] ts then λ vs rest.
+    read-values value-limit [] ts then λ vs rest.
     expects SEMICOLON rest then λ u left.
     took (record { name = n; values = vs }) left
 
@@ -94,19 +92,19 @@ unfolding read-line read-head _then_ values-then
 line-then slots ts = go (expects SLOT ts)
   where
     third : (m : Part (Unit {0})) (n : Name)
-        → (m then λ u t3. read-values max-values [] t3 then λ vs t4. expects SEMICOLON t4 then λ w t5. took (record { name = n; values = vs }) t5)
+        → (m then λ u t3. read-values value-limit [] t3 then λ vs t4. expects SEMICOLON t4 then λ w t5. took (record { name = n; values = vs }) t5)
         ≡ ((m then λ u t3. took n t3) then values-then)
     third (took u t3) n = refl
     third (stop k) n = refl
 
     second : (m : Part Name)
-        → (m then λ n t2. expects OPEN t2 then λ u t3. read-values max-values [] t3 then λ vs t4. expects SEMICOLON t4 then λ w t5. took (record { name = n; values = vs }) t5)
+        → (m then λ n t2. expects OPEN t2 then λ u t3. read-values value-limit [] t3 then λ vs t4. expects SEMICOLON t4 then λ w t5. took (record { name = n; values = vs }) t5)
         ≡ ((m then λ n t2. expects OPEN t2 then λ u t3. took n t3) then values-then)
     second (took n t2) = third (expects OPEN t2) n
     second (stop k) = refl
 
     go : (m : Part (Unit {0}))
-        → (m then λ u t1. new-name (slot-names slots) t1 then λ n t2. expects OPEN t2 then λ w t3. read-values max-values [] t3 then λ vs t4. expects SEMICOLON t4 then λ x t5. took (record { name = n; values = vs }) t5)
+        → (m then λ u t1. new-name (slot-names slots) t1 then λ n t2. expects OPEN t2 then λ w t3. read-values value-limit [] t3 then λ vs t4. expects SEMICOLON t4 then λ x t5. took (record { name = n; values = vs }) t5)
         ≡ ((m then λ u t1. new-name (slot-names slots) t1 then λ n t2. expects OPEN t2 then λ w t3. took n t3) then values-then)
     go (took u t1) = second (new-name (slot-names slots) t1)
     go (stop k) = refl
@@ -116,12 +114,12 @@ pub line-head : (slots : List Slot) (ts : List Token) (k : ℕ) → read-head sl
 unfolding _then_
 line-head slots ts k e = line-then slots ts ∙ rw e
 
-pub line-values : (slots : List Slot) (ts left : List Token) (n : Name) (k : ℕ) → read-head slots ts ≡ took n left → read-values max-values [] left ≡ stop k → read-line slots ts ≡ stop k
+pub line-values : (slots : List Slot) (ts left : List Token) (n : Name) (k : ℕ) → read-head slots ts ≡ took n left → read-values value-limit [] left ≡ stop k → read-line slots ts ≡ stop k
 unfolding _then_ values-then
 line-values slots ts left n k e f = line-then slots ts ∙ rw (e, f)
 
 pub line-end : (slots : List Slot) (ts left more : List Token) (n : Name) (vs : List Name) (rest : List ℕ) (base : ℕ) (r : Step)
-    → read-head slots ts ≡ took n left → read-values max-values [] left ≡ took vs more → expects SEMICOLON more ≡ step-part rest base r
+    → read-head slots ts ≡ took n left → read-values value-limit [] left ≡ took vs more → expects SEMICOLON more ≡ step-part rest base r
     → read-line slots ts ≡ outcome-part rest base (record { name = n; values = vs }) r
 unfolding _then_ values-then
 line-end slots ts left more n vs rest base (step.At next) e f g = line-then slots ts ∙ rw (e, f, g)

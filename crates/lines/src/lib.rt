@@ -5,10 +5,9 @@ ghost use Prim.Native.Nat.{_+_, _*_, _<_};
 ghost use lib.ListN.{length, set};
 ghost use lib.Seq.{sets};
 ghost use Rattle.text.specs.Tokens.{Name};
-ghost use Rattle.grammar.specs.Limits.{max-values};
+ghost use Rattle.laws.specs.Limits.{value-limit, slot-limit, row};
 ghost use Rattle.grammar.specs.Files.{Slot, spellings, slot-names};
 ghost use Rattle.grammar.specs.Reading.{new-name, read-values, read-line};
-ghost use Rattle.table.specs.Limits.{slot-limit, row};
 ghost use Rattle.steps.specs.inner.Places.{tokens-past, Step-lies, outcome-part};
 ghost use Rattle.steps.specs.inner.Spans.{Listed};
 ghost use Rattle.lines.specs.inner.Index.{span-names, span-slot, stretch-at, slot-by};
@@ -74,7 +73,7 @@ pub fn new_next(text: &[u8], rest: &[u8], base: usize, spans: &[usize], at: usiz
 // The names of a slot's values, from after `{` to after `}`.
 pub fn values_next(text: &[u8], rest: &[u8], base: usize, start: usize) -> Values
     requires { ⌜ Remainder (now text) (now rest) base ⌝ }
-    ensures { λ r. ⌜ (read-values max-values [] (tokens-past (now (rest .entry)) base start) ≡ outcome-part (now (rest .entry)) base (span-names (now (text .entry)) (r .spans) (r .count)) (r .outcome))
+    ensures { λ r. ⌜ (read-values value-limit [] (tokens-past (now (rest .entry)) base start) ≡ outcome-part (now (rest .entry)) base (span-names (now (text .entry)) (r .spans) (r .count)) (r .outcome))
         × Step-lies (length (now (rest .entry))) start (r .outcome) × Values-lie (now (text .entry)) (r .spans) (r .count) ⌝ }
 {
     let mut spans: [usize; VALUES] = [0; VALUES];

@@ -9,7 +9,7 @@ use Rattle.laws.specs.Truth.{_∧ᵇ_, notᵇ}
 use Rattle.model.specs.Rules.{Pair, Pairs, Literal, was, became, test, holds, all-hold, enabled}
 use Rattle.model.specs.Rules as model
 use Rattle.table.specs.declared.Rule.{Rule}
-use Rattle.table.specs.Limits.{row, literal-limit}
+use Rattle.laws.specs.Limits.{row, literal-limit}
 use Rattle.table.specs.Shape.{zero-literal, RuleShaped}
 use Rattle.table.specs.Link.{literal-of, rule-of}
 use Rattle.table.specs.inner.Flat.{place-of, set-of}

@@ -3,7 +3,7 @@ ghost use mathlib.Core.Path.{_≡_};
 ghost use Prim.Native.Nat.{_<_};
 ghost use Rattle.model.specs.Rules.{was, became, holds};
 ghost use Rattle.model.specs.Result.{pair};
-ghost use Rattle.table.specs.Limits.{slot-limit};
+ghost use Rattle.laws.specs.Limits.{slot-limit};
 ghost use Rattle.table.specs.Link.{literal-of, assignments-of};
 ghost use Rattle.table.specs.inner.Flat.{Placed, set-of, add-pairs};
 ghost use Rattle.table.specs.inner.Fits.{RuleFits};

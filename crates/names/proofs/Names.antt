@@ -13,7 +13,7 @@ use Rattle.laws.proofs.Equations.{from-true}
 use Rattle.table.specs.declared.Name.{Name}
 use Rattle.table.specs.declared.Slot.{Slot}
 use Rattle.table.specs.declared.Table.{Table}
-use Rattle.table.specs.Limits.{slot-limit, value-limit}
+use Rattle.laws.specs.Limits.{slot-limit, value-limit}
 use Rattle.table.specs.Shape.{zero-name, zero-slot}
 use Rattle.names.specs.Names.{not-shown, has-slot, has-value, show-name, show-slot, show-value-of, show-value}
 

@@ -9,7 +9,7 @@ use Rattle.laws.specs.Truth.{_∧ᵇ_}
 use Rattle.table.specs.declared.Name.{Name}
 use Rattle.table.specs.declared.Slot.{Slot}
 use Rattle.table.specs.declared.Table.{Table}
-use Rattle.table.specs.Limits.{slot-limit, value-limit}
+use Rattle.laws.specs.Limits.{slot-limit, value-limit}
 use Rattle.table.specs.Shape.{zero-name, zero-slot}
 
 -- An answer: 0 and a part of the text, or a refusal's number and no part.

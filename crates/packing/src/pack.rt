@@ -4,7 +4,7 @@ ghost use mathlib.Core.List.{_++_};
 ghost use Prim.Native.Nat.{_≤_};
 ghost use lib.ListN.{length, drop};
 ghost use Rattle.laws.specs.Packed.{byte-count};
-ghost use Rattle.table.specs.Limits.{slot-limit};
+ghost use Rattle.laws.specs.Limits.{slot-limit};
 ghost use Rattle.cards.specs.Forms.{card-bits, slip-bits, card-test, slip-test, card-bytes, slip-bytes};
 ghost use Rattle.cards.specs.Cards.{card-values, changes-of};
 ghost use Rattle.cards.specs.inner.Fitting.{counts-in, verdict-outcome, CardFits, SlipFits};

@@ -10,7 +10,7 @@ use lib.ListN.{length, length-append, length-map}
 use Rattle.laws.specs.Quoted.{bytes-from, bytes}
 use Rattle.text.specs.Tokens.{Name}
 use Rattle.model.specs.Rules.{Pair, Literal, Rule}
-use Rattle.grammar.specs.Limits.{max-slots, max-values, max-rules, max-literals, max-assignments}
+use Rattle.laws.specs.Limits.{slot-limit, value-limit, rule-limit, literal-limit, assignment-limit, name-limit}
 use Rattle.grammar.specs.Files.{Slot, File, spellings, slot-named, value-named}
 use Rattle.grammar.specs.Meaning.{Is-file}
 use Rattle.grammar.proofs.Declared.{Declared-pair, Declared-rule, Valued, file-declared}
@@ -89,7 +89,7 @@ module _ (slots : List Slot) (formed : Each Well-named slots) where
       omega arith
 
   rule-le : (x : Rule) → Declared-rule slots x → length (rule-bytes (pair-bytes slots) x) ≤ rule-line-most
-  unfolding rule-bytes bytes bytes-from max-literals max-assignments
+  unfolding rule-bytes bytes bytes-from
   rule-le x d =
       let p = pair-bytes slots (bytes " *= ") (x .trigger) in
       let c = condition-bytes (pair-bytes slots) (x .literals) in
@@ -100,11 +100,11 @@ module _ (slots : List Slot) (formed : Each Well-named slots) where
       omega (arith, i, j, k, pair-le (bytes " *= ") (x .trigger) (d .trigger-declared), condition-le (x .literals) (d .literals-declared), assign-le (x .assignments) (d .assignments-declared), d .few-literals, d .few-assignments)
 
 slot-le : (s : Slot) → Well-named s → Valued s → length (slot-bytes s) ≤ slot-line-most
-unfolding line-bytes bytes bytes-from max-values
+unfolding line-bytes bytes bytes-from
 slot-le s n v =
     let list = separated (bytes ", ") (spellings (s .values)) in
     let r : length list ≤ length (s .values) * 26 =
-    separated-le (bytes ", ") 24 (λ (m : Name). m .letters) (s .values) (each-imply Named (λ (m : Name). length (m .letters) ≤ 24) (s .values) (λ m h. h .short) (n .1)) in
+    separated-le (bytes ", ") name-limit (λ (m : Name). m .letters) (s .values) (each-imply Named (λ (m : Name). length (m .letters) ≤ name-limit) (s .values) (λ m h. h .short) (n .1)) in
     let i = length-append (s .name .letters) (bytes " { " ++ (list ++ bytes " };\n")) in
     let j = length-append list (bytes " };\n") in
     omega (arith, r, i, j, n .0 .short, v .1)
@@ -121,7 +121,7 @@ slots-le (s ∷ ss) n v = (slot-le s (n .0) (v .0), slots-le ss (n .1) (v .1))
 
 -- THE PRINT OF AN ACCEPTED TEXT'S FILE is bounded.
 pub print-bounded : (text : List ℕ) (f : File) → Is-file text f → length (print f) ≤ longest
-unfolding file-bytes max-slots max-rules
+unfolding file-bytes
 print-bounded text f a =
     let n = file-formed text f a in
     let d = file-declared text f a in

@@ -13,7 +13,7 @@ use Rattle.laws.proofs.Truth.{and-l}
 use Rattle.laws.proofs.Tabulated.{is-tabulate}
 use Rattle.text.specs.Tokens.{Name}
 use Rattle.model.specs.Rules.{Pair, Literal, Rule}
-use Rattle.grammar.specs.Limits.{max-slots, max-values}
+use Rattle.laws.specs.Limits.{slot-limit, value-limit, row}
 use Rattle.grammar.specs.Files.{Slot, File, spellings, slot-names, values-of, no-slot}
 use Rattle.grammar.specs.Meaning.{Is-file}
 use Rattle.grammar.proofs.Accepts.{accepts-iff}
@@ -22,7 +22,6 @@ use Rattle.grammar.proofs.Declared.{Declared-pair, slot-declared, value-declare
 use Rattle.table.specs.declared.Table.{Table}
 use Rattle.table.specs.Shape.{Shaped, zero-slot, zero-rule}
 use Rattle.table.specs.inner.Fits.{TableFits}
-use Rattle.table.specs.Limits.{value-limit, row}
 use Rattle.table.specs.inner.Flat.{place-of}
 use Rattle.table.specs.Link.{assignment-of, rule-of}
 use Rattle.table.proofs.Link.{rules-length, rule-is}
@@ -94,13 +93,13 @@ module _ (text : List ℕ) (o : reading text .outcome ≡ Accepted) where
   declared = file-declared text file is-file
 
   pub tabled : Tabled text (file .slots) read-table
-  unfolding with-strata table-for max-slots
+  unfolding with-strata table-for
   tabled =
       rw (accepted-table text o .2) (record {
         width-is = refl;
         slots-are = refl;
         few = declared .few-slots;
-        few-values = each-imply Valued (λ (s : Slot). length (s .values) ≤ max-values) (file .slots) (λ s v. v .1) (declared .slots-valued);
+        few-values = each-imply Valued (λ (s : Slot). length (s .values) ≤ value-limit) (file .slots) (λ s v. v .1) (declared .slots-valued);
         short = is-file .short;
         stand = file-stands text file (accepted-table text o .1);
         well-named = file-formed text file is-file;
@@ -137,7 +136,6 @@ module _ (text : List ℕ) (o : reading text .outcome ≡ Accepted) where
         spanned-at text ss (slot-names (file .slots)) s (I .names) l ∙ ap (λ (n : Name). n .letters) (List·getD-map (λ (x : Slot). x .name) (file .slots) s no-slot)
 
     value-spelled : (s j : ℕ) → s < length (file .slots) → j < length (values-of (file .slots) s) → spelled text (getD vs (s * row + 1 + j) 0) ≡ getD (values-of (file .slots) s) j (no-slot .name) .letters
-    unfolding max-values
     value-spelled s j h k =
         let v = each-at Valued (file .slots) s no-slot (declared .slots-valued) h in
         let z : j < value-limit = omega (arith, v .1) in

@@ -6,7 +6,7 @@ use mathlib.Core.List.{List}
 use lib.ListN.{length}
 use borrow.Author.Tests.{lt-ltb, le-ltb}
 use Rattle.laws.specs.Answers.{OrRefused, taken, refused, output-of}
-use Rattle.grammar.specs.Limits.{max-text}
+use Rattle.laws.specs.Limits.{text-limit}
 use Rattle.grammar.specs.Files.{File}
 use Rattle.grammar.specs.Meaning.{Is-file}
 use Rattle.grammar.specs.Reading.{parse}
@@ -25,17 +25,17 @@ unfolding print-of
 print-is text f h = ap print-of (accepts-iff text f .1 h)
 
 -- Bytes for an output: 34, then 33, else all of them.
-pub fitted-34 : (ys : List ℕ) (room : ℕ) → max-text < length ys → fitted ys room ≡ refused 34 0
+pub fitted-34 : (ys : List ℕ) (room : ℕ) → text-limit < length ys → fitted ys room ≡ refused 34 0
 unfolding fitted
-fitted-34 ys room l = rw (lt-ltb max-text (length ys) l)
+fitted-34 ys room l = rw (lt-ltb text-limit (length ys) l)
 
-pub fitted-33 : (ys : List ℕ) (room : ℕ) → length ys ≤ max-text → room < length ys → fitted ys room ≡ refused 33 0
+pub fitted-33 : (ys : List ℕ) (room : ℕ) → length ys ≤ text-limit → room < length ys → fitted ys room ≡ refused 33 0
 unfolding fitted
-fitted-33 ys room l s = rw (le-ltb max-text (length ys) l, lt-ltb room (length ys) s)
+fitted-33 ys room l s = rw (le-ltb text-limit (length ys) l, lt-ltb room (length ys) s)
 
-pub fitted-all : (ys : List ℕ) (room : ℕ) → length ys ≤ max-text → length ys ≤ room → fitted ys room ≡ taken ys
+pub fitted-all : (ys : List ℕ) (room : ℕ) → length ys ≤ text-limit → length ys ≤ room → fitted ys room ≡ taken ys
 unfolding fitted
-fitted-all ys room l s = rw (le-ltb max-text (length ys) l, le-ltb room (length ys) s)
+fitted-all ys room l s = rw (le-ltb text-limit (length ys) l, le-ltb room (length ys) s)
 
 -- The reading's refusals stay, and an accepted text's print is fitted.
 pub refused-first : (text : List ℕ) (room k n : ℕ) → reading text .outcome ≡ Refused k n → print-into text room ≡ refused k n

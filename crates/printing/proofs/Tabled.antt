@@ -14,12 +14,11 @@ use Rattle.laws.proofs.Listed.{each-at}
 use Rattle.classes.specs.Classes.{class-of}
 use Rattle.text.specs.Tokens.{Name}
 use Rattle.text.specs.Cut.{Stands}
-use Rattle.grammar.specs.Limits.{max-text, max-values}
+use Rattle.laws.specs.Limits.{text-limit, value-limit, slot-limit, row}
 use Rattle.grammar.specs.Files.{Slot, no-slot}
 use Rattle.grammar.specs.Standing.{Named-by}
 use Rattle.table.specs.declared.Slot as tabled
 use Rattle.table.specs.declared.Table.{Table}
-use Rattle.table.specs.Limits.{slot-limit, value-limit, row}
 use Rattle.table.specs.Shape.{zero-name, zero-slot}
 use Rattle.table.specs.Empty.{unused-slot}
 use Rattle.steps.specs.inner.Spans.{span, Span-lies}
@@ -63,7 +62,7 @@ spanned-are text (k ∷ ks) [] S = refl
 spanned-are text (k ∷ ks) (n ∷ ns) S = ap₂ (λ (x : Name) (xs : List Name). x ∷ xs) (S .2) (spanned-are text ks ns (S .3))
 
 -- Names that stand in a text within the limit are small, and so are places that are not used.
-name-small : (text : List ℕ) (n : Name) → length text ≤ max-text → Stands text n → Named n → SmallName (name-for n)
+name-small : (text : List ℕ) (n : Name) → length text ≤ text-limit → Stands text n → Named n → SmallName (name-for n)
 name-small text n h st nm = let i = st .inside in let l = nm .short in (omega arith, omega arith)
 
 unused-small : (r i : ℕ) → SmallName (getD (replicate r zero-name) i zero-name)
@@ -71,7 +70,7 @@ unused-small zero i = (omega arith, omega arith)
 unused-small (suc r) zero = (omega arith, omega arith)
 unused-small (suc r) (suc i) = unused-small r i
 
-names-small : (text : List ℕ) (ns : List Name) (r : ℕ) → length text ≤ max-text → Each (Stands text) ns → Each Named ns → SmallNames (map name-for ns ++ replicate r zero-name)
+names-small : (text : List ℕ) (ns : List Name) (r : ℕ) → length text ≤ text-limit → Each (Stands text) ns → Each Named ns → SmallNames (map name-for ns ++ replicate r zero-name)
 names-small text [] r h st nm i = unused-small r i
 names-small text (n ∷ ns) r h st nm zero = name-small text n h (st .0) (nm .0)
 names-small text (n ∷ ns) r h st nm (suc i) = names-small text ns r h (st .1) (nm .1) i
@@ -93,8 +92,8 @@ module _ (text : List ℕ) (slots : List Slot) (t : Table) (T : Tabled text slot
   named : Well-named filed
   named = each-at Well-named slots i no-slot (T .well-named) h
 
-  few : length (filed .values) ≤ max-values
-  few = each-at (λ (s : Slot). length (s .values) ≤ max-values) slots i no-slot (T .few-values) h
+  few : length (filed .values) ≤ value-limit
+  few = each-at (λ (s : Slot). length (s .values) ≤ value-limit) slots i no-slot (T .few-values) h
 
   -- Its names are small.
   pub slot-small : SmallName (placed .name)
@@ -116,7 +115,6 @@ module _ (text : List ℕ) (slots : List Slot) (t : Table) (T : Tabled text slot
   values-are = spanned-are text spans (filed .values) values-spanned
 
   values-lie : Values-lie text spans (length (filed .values))
-  unfolding max-values
   values-lie =
       let l : length (map name-for (filed .values)) ≤ value-limit = rw length-map few in
       record {

@@ -5,7 +5,7 @@ use mathlib.Core.List.{List, []}
 use lib.Dec.{ltb}
 use lib.ListN.{length}
 use Rattle.laws.specs.Answers.{OrRefused, taken, refused}
-use Rattle.grammar.specs.Limits.{max-text}
+use Rattle.laws.specs.Limits.{text-limit}
 use Rattle.grammar.specs.Reading as grammar
 use Rattle.reader.specs.declared.Outcome.{Outcome}
 use Rattle.reader.specs.declared.Outcome.the-variants.{Accepted, Refused}
@@ -21,7 +21,7 @@ print-of (grammar.refused k n) = []
 
 -- Bytes for an output of so much room: 34 where they pass the limit of a text, then 33 where the output is shorter.
 unfoldable pub fitted : List ℕ → ℕ → OrRefused (List ℕ)
-fitted ys room = cond (ltb max-text (length ys)) (refused 34 0) (cond (ltb room (length ys)) (refused 33 0) (taken ys))
+fitted ys room = cond (ltb text-limit (length ys)) (refused 34 0) (cond (ltb room (length ys)) (refused 33 0) (taken ys))
 
 -- The reading's own refusals come first.
 unfoldable pub after-reading : {A : Type 0} → Outcome → OrRefused A → OrRefused A

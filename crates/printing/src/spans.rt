@@ -4,7 +4,7 @@ ghost use mathlib.Core.List.{List, map};
 ghost use Prim.Native.Nat.{ℕ};
 ghost use lib.ListN.{replicate};
 ghost use Rattle.grammar.specs.Files as files;
-ghost use Rattle.table.specs.Limits.{slot-limit};
+ghost use Rattle.laws.specs.Limits.{slot-limit};
 ghost use Rattle.table.specs.inner.Flat.{pair-places};
 ghost use Rattle.lines.specs.inner.Index.{Indexed};
 ghost use Rattle.printing.specs.inner.Tabled.{span-of, SmallName, SmallNames, Tabled};

@@ -14,11 +14,10 @@ use Rattle.model.specs.Rules.{Rule}
 use Rattle.model.specs.Strata.{weak}
 use Rattle.model.specs.Least.{strata-of}
 use Rattle.table.specs.declared.Table.{Table}
-use Rattle.table.specs.Limits.{slot-limit, value-limit}
+use Rattle.laws.specs.Limits.{slot-limit, value-limit}
 use Rattle.table.specs.Link.{used-rules, rules-of, carried-strata, stratum-at}
 use Rattle.names.specs.Names.{Showing, not-shown, has-slot, has-value}
 use Rattle.grammar.specs.Files.{Slot, File, spellings, no-slot, values-of, slot-counts}
-use Rattle.grammar.specs.Limits.{max-slots}
 use Rattle.style.specs.Printed.{lettered, Agree}
 use Rattle.style.proofs.Prints.{agree-counts}
 use Rattle.rule_file.specs.Whole.{reading}
@@ -117,7 +116,6 @@ module _ (text text′ : List ℕ) (c : Carries text (reading text .table)) (c�
 
   -- Texts that are alike have files that agree.
   pub alike-agree : Alike text text′ → Agree f g
-  unfolding max-slots
   alike-agree a = record {
     same-slots = ext-getD (lettered no-slot) (map lettered (f .slots)) (map lettered (g .slots)) (length-map (f .slots) lettered ∙ as-many-slots ∙ sym (length-map (g .slots) lettered)) each;
     same-rules = sym (c .rules-are) ∙ a .same-rules ∙ c′ .rules-are;

@@ -19,9 +19,8 @@ use Rattle.model.proofs.Pairs.{same-eq, among-at}
 use Rattle.model.proofs.Changes.{cause}
 use Rattle.model.proofs.Orders.{are-rules}
 use Rattle.model.proofs.Results.{value-in-right, slip-e, slip-rising, new-card-length, new-card-at}
-use Rattle.table.specs.Limits.{row}
+use Rattle.laws.specs.Limits.{row, slot-limit, value-limit}
 use Rattle.grammar.specs.Files.{Slot, File, no-slot, slot-counts}
-use Rattle.grammar.specs.Limits.{max-slots, max-values}
 use Rattle.grammar.proofs.Declared.{Declared-pair, slot-declared, value-declared, Declared-rule, Valued, Declared-file}
 use Rattle.laws.specs.Answers.{passed}
 use Rattle.cards.specs.Forms.{card-test, slip-test}
@@ -37,19 +36,17 @@ each-among P (q ∷ qs) h p t = ⊎-elim (λ s. rw (same-eq p q s) (h .0)) (each
 
 module _ (f : File) (declared : Declared-file f) where
   -- No slot has more than 15 values.
-  pub few-values : (s : ℕ) → getD (slot-counts (f .slots)) s 0 ≤ 15
-  unfolding max-values
+  pub few-values : (s : ℕ) → getD (slot-counts (f .slots)) s 0 ≤ value-limit
   few-values s = ⊎-elim beyond inside (le-or-lt (length (f .slots)) s)
     where
-      beyond : length (f .slots) ≤ s → getD (slot-counts (f .slots)) s 0 ≤ 15
+      beyond : length (f .slots) ≤ s → getD (slot-counts (f .slots)) s 0 ≤ value-limit
       beyond l = rw (List·getD-eq-default (slot-counts (f .slots)) 0 {n = s} (rw length-map l)) (omega arith)
 
-      inside : s < length (f .slots) → getD (slot-counts (f .slots)) s 0 ≤ 15
+      inside : s < length (f .slots) → getD (slot-counts (f .slots)) s 0 ≤ value-limit
       inside l = rw (List·getD-map (λ (z : Slot). length (z .values)) (f .slots) s no-slot) (each-at Valued (f .slots) s no-slot (declared .slots-valued) l .1)
 
   -- They are slots of the limits.
   pub file-slots : Slots (slot-counts (f .slots))
-  unfolding max-slots
   file-slots = record { few = rw length-map (declared .few-slots); small = λ i h. few-values i }
 
   -- What the rules assign, the slots have.

@@ -6,7 +6,7 @@ use mathlib.Core.Path.{_≡_, refl}
 use mathlib.Core.List.{List, [], _∷_}
 use Rattle.laws.specs.Quoted.{bytes}
 use Rattle.laws.specs.Answers.{OrRefused, taken, refused}
-use Rattle.grammar.specs.Limits.{max-text}
+use Rattle.laws.specs.Limits.{text-limit}
 use Rattle.grammar.proofs.Cases.{after-slots}
 use Rattle.style.proofs.Cases.{prints, lines}
 use Rattle.rule_file.proofs.Cases.{runs}
@@ -19,7 +19,7 @@ runs-print = tt
 
 -- The print of rules after the slots of document 01's cases, into an output as long as a text may be.
 abbrev case-printed : String → OrRefused (List ℕ)
-case-printed s = print-into (after-slots s) max-text
+case-printed s = print-into (after-slots s) text-limit
 
 -- What it comes to: these slots and the lines of rules.
 abbrev as-lines : List String → OrRefused (List ℕ)

@@ -16,7 +16,7 @@ use Rattle.model.specs.Strata.{weak}
 use Rattle.model.specs.Circles.{circle-of}
 use Rattle.model.specs.Result.{conflict-slot}
 use Rattle.model.proofs.Results.{conflict-slot-top}
-use Rattle.table.specs.Limits.{row}
+use Rattle.laws.specs.Limits.{row}
 use Rattle.table.specs.Link.{rules-of, value-counts}
 use Rattle.soundness.specs.Sound.{sound}
 use Rattle.grammar.specs.Files.{File, slot-counts}

@@ -14,7 +14,7 @@ use Rattle.model.specs.Circles.{circle-of}
 use Rattle.model.specs.Least.{strata-of}
 use Rattle.model.proofs.Strata.{least-strata}
 use Rattle.soundness.specs.Sound.{sound}
-use Rattle.grammar.specs.Limits.{max-text}
+use Rattle.laws.specs.Limits.{text-limit}
 use Rattle.grammar.specs.Files.{File}
 use Rattle.grammar.specs.Meaning.{Is-file}
 use Rattle.grammar.specs.Reading.{accepted, parse}
@@ -78,7 +78,7 @@ alike-iff text text′ o o′ = (there, back)
     back a = print-is text f (c .is-file) ∙ agree-print f g (alike-agree text text′ c c′ a) ∙ sym (print-is text′ g (c′ .is-file))
 
 -- A print within the limit is accepted, and alike.
-reads-back : (text : List ℕ) → reading text .outcome ≡ Accepted → length (print-of (parse text)) ≤ max-text
+reads-back : (text : List ℕ) → reading text .outcome ≡ Accepted → length (print-of (parse text)) ≤ text-limit
     → (reading (print-of (parse text)) .outcome ≡ Accepted) × Alike text (print-of (parse text))
 reads-back text o l = subst (λ (b : List ℕ). (reading b .outcome ≡ Accepted) × Alike text b) (sym p) (o′, agree-alike text (print f) c c′ (subst (Agree f) (one-meaning (print f) g (c′ .file) h (c′ .is-file)) (r .2)))
   where
@@ -92,7 +92,7 @@ reads-back text o l = subst (λ (b : List ℕ). (reading b .outcome ≡ Accepted
     p = print-is text f (c .is-file)
 
     r : (g : File) × (parse (print f) ≡ accepted g) × Agree f g
-    r = print-read text f (accepts-iff text f .1 (c .is-file)) (subst (λ (b : List ℕ). length b ≤ max-text) p l)
+    r = print-read text f (accepts-iff text f .1 (c .is-file)) (subst (λ (b : List ℕ). length b ≤ text-limit) p l)
 
     g : File
     g = r .0
@@ -117,11 +117,11 @@ module _ (text : List ℕ) (room : ℕ) (bytes : List ℕ) (e : print-into text 
   is-print : bytes ≡ print-of (parse text)
   is-print = is-whole text room bytes e .1
 
-  short : length bytes ≤ max-text
+  short : length bytes ≤ text-limit
   short = is-whole text room bytes e .2
 
   back : (reading bytes .outcome ≡ Accepted) × Alike text bytes
-  back = subst (λ (b : List ℕ). (reading b .outcome ≡ Accepted) × Alike text b) (sym is-print) (reads-back text is-accepted (subst (λ (b : List ℕ). length b ≤ max-text) is-print short))
+  back = subst (λ (b : List ℕ). (reading b .outcome ≡ Accepted) × Alike text b) (sym is-print) (reads-back text is-accepted (subst (λ (b : List ℕ). length b ≤ text-limit) is-print short))
 
   once-more : (room′ : ℕ) → length bytes ≤ room′ → print-into bytes room′ ≡ taken bytes
   once-more room′ l =
@@ -132,7 +132,7 @@ module _ (text : List ℕ) (room : ℕ) (bytes : List ℕ) (e : print-into text 
   other text′ o′ = (λ d. alike-iff text text′ is-accepted o′ .0 (sym is-print ∙ is-whole text′ room bytes d .1), λ a. same (is-print ∙ alike-iff text text′ is-accepted o′ .1 a))
     where
       same : bytes ≡ print-of (parse text′) → print-into text′ room ≡ taken bytes
-      same p = comes-whole text′ room (o′, subst (λ (b : List ℕ). length b ≤ max-text) p short, subst (λ (b : List ℕ). length b ≤ room) p (is-whole text room bytes e .3)) ∙ ap taken (sym p)
+      same p = comes-whole text′ room (o′, subst (λ (b : List ℕ). length b ≤ text-limit) p short, subst (λ (b : List ℕ). length b ≤ room) p (is-whole text room bytes e .3)) ∙ ap taken (sym p)
 
 -- Tables that have the same counts and rules, and pass 31, answer alike.
 answers-alike : (text text′ : List ℕ) → Alike text text′ → (y : Tally) (card slip : List ℕ) (rooms : Rooms) → responds text y card slip rooms ≡ responds text′ y card slip rooms
@@ -156,6 +156,6 @@ house-style = record {
   exactly-printed = λ text room bytes. (is-whole text room bytes, λ h. full text room bytes h);
 }
   where
-    full : (text : List ℕ) (room : ℕ) (bytes : List ℕ) → (reading text .outcome ≡ Accepted) × (bytes ≡ print-of (parse text)) × (length bytes ≤ max-text) × (length bytes ≤ room) → print-into text room ≡ taken bytes
+    full : (text : List ℕ) (room : ℕ) (bytes : List ℕ) → (reading text .outcome ≡ Accepted) × (bytes ≡ print-of (parse text)) × (length bytes ≤ text-limit) × (length bytes ≤ room) → print-into text room ≡ taken bytes
     full text room bytes h =
-        comes-whole text room (h .0, subst (λ (b : List ℕ). length b ≤ max-text) (h .1) (h .2), subst (λ (b : List ℕ). length b ≤ room) (h .1) (h .3)) ∙ ap taken (sym (h .1))
+        comes-whole text room (h .0, subst (λ (b : List ℕ). length b ≤ text-limit) (h .1) (h .2), subst (λ (b : List ℕ). length b ≤ room) (h .1) (h .3)) ∙ ap taken (sym (h .1))

@@ -20,7 +20,7 @@ use Rattle.model.proofs.Orders.{whole-e, rules-of}
 use Rattle.model.proofs.Lengths.{order-length}
 use Rattle.model.proofs.Demand3.{response-is-whole, demand-3}
 use Rattle.model.proofs.Results.{conflict-e, conflict-i, conflict-slot-right, conflict-slot-lowest, slip-length, no-conflict-e, slip-exact, new-card-length, new-card-at, new-value-kept, new-value-is}
-use Rattle.table.specs.Limits.{row}
+use Rattle.laws.specs.Limits.{row}
 use Rattle.grammar.specs.Files.{File, slot-counts}
 use Rattle.grammar.proofs.Declared.{Declared-file}
 use Rattle.laws.specs.Answers.{passed, taken}

@@ -15,7 +15,7 @@ use Rattle.text.specs.Tokens.{Token}
 use Rattle.model.specs.Strata.{weak}
 use Rattle.model.specs.Circles.{circle-of}
 use Rattle.table.specs.Empty.{empty-table}
-use Rattle.grammar.specs.Limits.{max-text}
+use Rattle.laws.specs.Limits.{text-limit}
 use Rattle.grammar.specs.Files.{File}
 use Rattle.grammar.specs.Reading as grammar
 use Rattle.grammar.specs.Reading.{Parsed, accepted, parse}
@@ -71,17 +71,17 @@ module _ (text : List ℕ) (room : ℕ) where
   -- What a print can come to, and where.
   data Prints : OrRefused (List ℕ) → Type 0 where
     own-refusal : {k n : ℕ} → OneOf of-file k → reading text .outcome ≡ Refused k n → Prints (refused k n)
-    over : reading text .outcome ≡ Accepted → max-text < length whole → Prints (refused 34 0)
-    short : reading text .outcome ≡ Accepted → length whole ≤ max-text → room < length whole → Prints (refused 33 0)
-    all : reading text .outcome ≡ Accepted → length whole ≤ max-text → length whole ≤ room → Prints (taken whole)
+    over : reading text .outcome ≡ Accepted → text-limit < length whole → Prints (refused 34 0)
+    short : reading text .outcome ≡ Accepted → length whole ≤ text-limit → room < length whole → Prints (refused 33 0)
+    all : reading text .outcome ≡ Accepted → length whole ≤ text-limit → length whole ≤ room → Prints (taken whole)
 
-  pub comes-34 : (reading text .outcome ≡ Accepted) × (max-text < length whole) → print-into text room ≡ refused 34 0
+  pub comes-34 : (reading text .outcome ≡ Accepted) × (text-limit < length whole) → print-into text room ≡ refused 34 0
   comes-34 h = then-fitted text room (h .0) ∙ fitted-34 whole room (h .1)
 
-  pub comes-33 : (reading text .outcome ≡ Accepted) × (length whole ≤ max-text) × (room < length whole) → print-into text room ≡ refused 33 0
+  pub comes-33 : (reading text .outcome ≡ Accepted) × (length whole ≤ text-limit) × (room < length whole) → print-into text room ≡ refused 33 0
   comes-33 h = then-fitted text room (h .0) ∙ fitted-33 whole room (h .1) (h .2)
 
-  pub comes-whole : (reading text .outcome ≡ Accepted) × (length whole ≤ max-text) × (length whole ≤ room) → print-into text room ≡ taken whole
+  pub comes-whole : (reading text .outcome ≡ Accepted) × (length whole ≤ text-limit) × (length whole ≤ room) → print-into text room ≡ taken whole
   comes-whole h = then-fitted text room (h .0) ∙ fitted-all whole room (h .1) (h .2)
 
   prints : Prints (print-into text room)
@@ -90,34 +90,34 @@ module _ (text : List ℕ) (room : ℕ) where
       accepts : reading text .outcome ≡ Accepted → Prints (print-into text room)
       accepts o =
           ⊎-elim (λ l. ⊎-elim (λ s. rw (comes-whole (o, l, s)) (all o l s)) (λ s. rw (comes-33 (o, l, s)) (short o l s)) (le-or-lt (length whole) room))
-          (λ l. rw (comes-34 (o, l)) (over o l)) (le-or-lt (length whole) max-text)
+          (λ l. rw (comes-34 (o, l)) (over o l)) (le-or-lt (length whole) text-limit)
 
   -- Each answer tells what it comes from.
-  from-34 : (u : OrRefused (List ℕ)) → Prints u → u ≡ refused 34 0 → (reading text .outcome ≡ Accepted) × (max-text < length whole)
+  from-34 : (u : OrRefused (List ℕ)) → Prints u → u ≡ refused 34 0 → (reading text .outcome ≡ Accepted) × (text-limit < length whole)
   from-34 u (own-refusal {k = k} {n = n} h o) e = absurd (one-of-other of-file 34 tt k h (let z : k ≡ 34 = cc in z))
   from-34 u (over o l) e = (o, l)
   from-34 u (short o l s) e = absurd (let z : _≡_ {A = ℕ} 33 34 = cc in omega arith)
   from-34 u (all o l s) e = absurd (let z : _≡_ {A = ℕ} 0 1 = cc in omega arith)
 
-  from-33 : (u : OrRefused (List ℕ)) → Prints u → u ≡ refused 33 0 → (reading text .outcome ≡ Accepted) × (length whole ≤ max-text) × (room < length whole)
+  from-33 : (u : OrRefused (List ℕ)) → Prints u → u ≡ refused 33 0 → (reading text .outcome ≡ Accepted) × (length whole ≤ text-limit) × (room < length whole)
   from-33 u (own-refusal {k = k} {n = n} h o) e = absurd (one-of-other of-file 33 tt k h (let z : k ≡ 33 = cc in z))
   from-33 u (over o l) e = absurd (let z : _≡_ {A = ℕ} 33 34 = cc in omega arith)
   from-33 u (short o l s) e = (o, l, s)
   from-33 u (all o l s) e = absurd (let z : _≡_ {A = ℕ} 0 1 = cc in omega arith)
 
-  from-taken : (u : OrRefused (List ℕ)) (bytes : List ℕ) → Prints u → u ≡ taken bytes → (reading text .outcome ≡ Accepted) × (bytes ≡ whole) × (length bytes ≤ max-text) × (length bytes ≤ room)
+  from-taken : (u : OrRefused (List ℕ)) (bytes : List ℕ) → Prints u → u ≡ taken bytes → (reading text .outcome ≡ Accepted) × (bytes ≡ whole) × (length bytes ≤ text-limit) × (length bytes ≤ room)
   from-taken u bytes (own-refusal h o) e = absurd (let z : _≡_ {A = ℕ} 0 1 = cc in omega arith)
   from-taken u bytes (over o l) e = absurd (let z : _≡_ {A = ℕ} 0 1 = cc in omega arith)
   from-taken u bytes (short o l s) e = absurd (let z : _≡_ {A = ℕ} 0 1 = cc in omega arith)
   from-taken u bytes (all o l s) e = let z : bytes ≡ whole = cc in rw z (o, refl, l, s)
 
-  pub is-34 : print-into text room ≡ refused 34 0 → (reading text .outcome ≡ Accepted) × (max-text < length whole)
+  pub is-34 : print-into text room ≡ refused 34 0 → (reading text .outcome ≡ Accepted) × (text-limit < length whole)
   is-34 e = from-34 (print-into text room) prints e
 
-  pub is-33 : print-into text room ≡ refused 33 0 → (reading text .outcome ≡ Accepted) × (length whole ≤ max-text) × (room < length whole)
+  pub is-33 : print-into text room ≡ refused 33 0 → (reading text .outcome ≡ Accepted) × (length whole ≤ text-limit) × (room < length whole)
   is-33 e = from-33 (print-into text room) prints e
 
-  pub is-whole : (bytes : List ℕ) → print-into text room ≡ taken bytes → (reading text .outcome ≡ Accepted) × (bytes ≡ whole) × (length bytes ≤ max-text) × (length bytes ≤ room)
+  pub is-whole : (bytes : List ℕ) → print-into text room ≡ taken bytes → (reading text .outcome ≡ Accepted) × (bytes ≡ whole) × (length bytes ≤ text-limit) × (length bytes ≤ room)
   is-whole bytes e = from-taken (print-into text room) bytes prints e
 
   only-prints : (u : OrRefused (List ℕ)) → Prints u → Only (OneOf of-print) u

@@ -23,7 +23,7 @@ use Rattle.model.proofs.Lengths.{order-length}
 use Rattle.model.proofs.Demand3.{response-is-whole, demand-3}
 use Rattle.model.proofs.Renaming.{renaming}
 use Rattle.model.proofs.Rearranged.{accepted-too, whole-too, rearranged-response}
-use Rattle.table.specs.Limits.{row}
+use Rattle.laws.specs.Limits.{row}
 use Rattle.grammar.specs.Files.{File, slot-counts}
 use Rattle.grammar.specs.Meaning.{Is-file}
 use Rattle.grammar.specs.Reading.{accepted, parse}

@@ -14,7 +14,7 @@ use Rattle.laws.specs.Packed.{byte-count}
 use Rattle.model.specs.Rules.{Pair, Pairs, Rule}
 use Rattle.model.specs.Result.{conflict-slot}
 use Rattle.table.specs.declared.Table.{Table}
-use Rattle.table.specs.Limits.{row}
+use Rattle.laws.specs.Limits.{row}
 use Rattle.table.specs.Link.{rules-of, value-counts}
 use Rattle.soundness.specs.Sound.{sound}
 use Rattle.cards.specs.Cards.{if-sound}

@@ -4,7 +4,7 @@ use mathlib.Core.Path.{_≡_}
 use mathlib.Core.List.{List, [], _∷_}
 use lib.ListN.{length}
 use Rattle.laws.specs.Answers.{written, output-of}
-use Rattle.grammar.specs.Limits.{max-text}
+use Rattle.laws.specs.Limits.{text-limit}
 use Rattle.grammar.specs.Reading.{parse}
 use Rattle.reader.specs.declared.Outcome.the-variants.{Accepted}
 use Rattle.reader.specs.Tables.{reading-refusal, reading-second}
@@ -40,8 +40,8 @@ pub record PrintRefused (text out : List ℕ) : Type 0 where
   pub own : OneOf of-file (printing-refusal (print-told text out))
       → (printing-refusal (print-told text out) ≡ reading-refusal (reading text .outcome)) × (printing-second (print-told text out) ≡ reading-second (reading text .outcome))
   pub no-second : OneOf (34 ∷ 33 ∷ []) (printing-refusal (print-told text out)) → printing-second (print-told text out) ≡ 0
-  pub where-34 : printing-refusal (print-told text out) ≡ 34 → (reading text .outcome ≡ Accepted) × (max-text < length (print-of (parse text)))
-  pub where-33 : printing-refusal (print-told text out) ≡ 33 → (reading text .outcome ≡ Accepted) × (length (print-of (parse text)) ≤ max-text) × (length out < length (print-of (parse text)))
+  pub where-34 : printing-refusal (print-told text out) ≡ 34 → (reading text .outcome ≡ Accepted) × (text-limit < length (print-of (parse text)))
+  pub where-33 : printing-refusal (print-told text out) ≡ 33 → (reading text .outcome ≡ Accepted) × (length (print-of (parse text)) ≤ text-limit) × (length out < length (print-of (parse text)))
 
 -- Any text, into any output.
 pub record CalledPrint (text out : List ℕ) : Type 0 where

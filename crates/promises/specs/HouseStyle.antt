@@ -7,7 +7,7 @@ use mathlib.Core.Logic.{_↔_}
 use lib.ListN.{length}
 use Rattle.laws.specs.Answers.{taken, refused}
 use Rattle.text.specs.Tokens.{tokens}
-use Rattle.grammar.specs.Limits.{max-text}
+use Rattle.laws.specs.Limits.{text-limit}
 use Rattle.grammar.specs.Files.{File}
 use Rattle.grammar.specs.Grammar.{FileTree, spell}
 use Rattle.grammar.specs.Meaning.{Means, Is-file}
@@ -62,8 +62,8 @@ pub record HouseStyle : Type 0 where
       → (y : Tally) (card slip : List ℕ) (rooms : Rooms) → responds text y card slip rooms ≡ responds text′ y card slip rooms
   -- The reading's own refusals come first, with both their numbers; then 34, then 33, each exactly where it is due; else the whole print.
   pub own-refusal : (text : List ℕ) (room k n : ℕ) → reading text .outcome ≡ Refused k n → print-into text room ≡ refused k n
-  pub exactly-34 : (text : List ℕ) (room : ℕ) → (print-into text room ≡ refused 34 0) ↔ ((reading text .outcome ≡ Accepted) × (max-text < length (print-of (parse text))))
+  pub exactly-34 : (text : List ℕ) (room : ℕ) → (print-into text room ≡ refused 34 0) ↔ ((reading text .outcome ≡ Accepted) × (text-limit < length (print-of (parse text))))
   pub exactly-33 : (text : List ℕ) (room : ℕ)
-      → (print-into text room ≡ refused 33 0) ↔ ((reading text .outcome ≡ Accepted) × (length (print-of (parse text)) ≤ max-text) × (room < length (print-of (parse text))))
+      → (print-into text room ≡ refused 33 0) ↔ ((reading text .outcome ≡ Accepted) × (length (print-of (parse text)) ≤ text-limit) × (room < length (print-of (parse text))))
   pub exactly-printed : (text : List ℕ) (room : ℕ) (bytes : List ℕ)
-      → (print-into text room ≡ taken bytes) ↔ ((reading text .outcome ≡ Accepted) × (bytes ≡ print-of (parse text)) × (length bytes ≤ max-text) × (length bytes ≤ room))
+      → (print-into text room ≡ taken bytes) ↔ ((reading text .outcome ≡ Accepted) × (bytes ≡ print-of (parse text)) × (length bytes ≤ text-limit) × (length bytes ≤ room))

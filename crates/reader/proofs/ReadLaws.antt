@@ -9,10 +9,9 @@ use lib.Seq.{take-all, sets}
 use borrow.Author.Tests.{lt-leb}
 use Rattle.text.specs.Tokens.{tokens, tokens-from}
 use Rattle.model.specs.Rules as model
-use Rattle.grammar.specs.Limits.{max-text}
+use Rattle.laws.specs.Limits.{text-limit, slot-limit, rule-limit, row}
 use Rattle.grammar.specs.Files.{Slot, File}
 use Rattle.grammar.specs.Reading.{Parsed, accepted, refused, parse, read-tokens, read-lines}
-use Rattle.table.specs.Limits.{slot-limit, rule-limit, row}
 use Rattle.table.specs.inner.Flat.{pair-places}
 use Rattle.table.specs.Empty.{empty-table}
 use Rattle.table.specs.Link.{rule-of}
@@ -40,8 +39,8 @@ pub record Halfway (text : List ℕ) (t : Table) (slotspans valuespans rest : Li
   pub tabled : t ≡ table-for (record { slots = slots; rules = rules })
   pub same : read-on slots rules (tokens-past rest base 0) ≡ read-tokens (tokens text)
 
-pub halfway-start : (text : List ℕ) → length text ≤ max-text → Halfway text empty-table (replicate slot-limit 0) (replicate pair-places 0) text 0
-unfolding max-text read-on read-tokens tokens-past tokens
+pub halfway-start : (text : List ℕ) → length text ≤ text-limit → Halfway text empty-table (replicate slot-limit 0) (replicate pair-places 0) text 0
+unfolding read-on read-tokens tokens-past tokens
 halfway-start text h = record {
   slots = [];
   rules = [];
@@ -119,6 +118,6 @@ unfolding file-read
 answer-refused a k n m t e g h = rw (e, g, h)
 
 -- A text over the limit, and one within it.
-pub read-long : (text : List ℕ) → max-text < length text → parse text ≡ refused 10 0
+pub read-long : (text : List ℕ) → text-limit < length text → parse text ≡ refused 10 0
 unfolding parse
-read-long text h = rw (lt-leb (length text) max-text h)
+read-long text h = rw (lt-leb (length text) text-limit h)

@@ -13,7 +13,7 @@ use Rattle.steps.specs.inner.Places.{step-part, outcome-part}
 use Rattle.steps.specs.declared.step.Step.{Step}
 use Rattle.steps.specs.declared.step.Step.the-variants as step
 use Rattle.laws.proofs.Filled.{filled-none}
-use Rattle.table.specs.Limits.{literal-limit, assignment-limit}
+use Rattle.laws.specs.Limits.{literal-limit, assignment-limit}
 use Rattle.table.specs.Shape.{zero-literal, zero-assignment}
 use Rattle.table.specs.Empty.{unused-rule}
 use Rattle.table.specs.Link.{rule-of}

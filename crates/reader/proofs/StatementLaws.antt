@@ -8,7 +8,7 @@ use mathlib.Core.List.{List, [], _∷_, _++_}
 use lib.ListN.{length, length-append}
 use Rattle.text.specs.Tokens.{Token, SLOT, WHEN}
 use Rattle.model.specs.Rules.{Rule}
-use Rattle.grammar.specs.Limits.{max-slots, max-rules}
+use Rattle.laws.specs.Limits.{slot-limit, rule-limit}
 use Rattle.grammar.specs.Files.{Slot}
 use Rattle.grammar.specs.Reading.{took, stop, accepted, refused, begins-with, if-next, expects, go-on, read-line, read-rule, read-lines, read-rules}
 use Rattle.grammar.proofs.Forward.{rules-begin}
@@ -27,7 +27,7 @@ longer : {A : Type 0} (xs : List A) (x : A) → length (xs ++ x ∷ []) ≡ suc 
 longer xs x = length-append xs (x ∷ []) ∙ omega arith
 
 -- Nothing is left.
-lines-none : (room : ℕ) (slots : List Slot) → read-lines room slots [] ≡ read-rules max-rules slots [] []
+lines-none : (room : ℕ) (slots : List Slot) → read-lines room slots [] ≡ read-rules rule-limit slots [] []
 unfolding read-lines if-next
 lines-none zero slots = refl
 lines-none (suc room) slots = refl
@@ -39,7 +39,7 @@ rules-none (suc room) slots rules = refl
 
 pub on-end : (slots : List Slot) (rules : List Rule) → read-on slots rules [] ≡ accepted (record { slots = slots; rules = rules })
 unfolding read-on
-on-end slots [] = lines-none _ slots ∙ rules-none max-rules slots []
+on-end slots [] = lines-none _ slots ∙ rules-none rule-limit slots []
 on-end slots (r ∷ rs) = rules-none _ slots (r ∷ rs)
 
 -- A slot line.
@@ -47,38 +47,38 @@ line-full : (room : ℕ) (slots : List Slot) (ts : List Token) → room ≡ 0 �
 unfolding read-lines if-next
 line-full room slots ts e f = rw (e, f)
 
-pub on-line-full : (slots : List Slot) (ts : List Token) → max-slots ≤ length slots → begins-with SLOT ts ≡ true → read-on slots [] ts ≡ refused 15 0
+pub on-line-full : (slots : List Slot) (ts : List Token) → slot-limit ≤ length slots → begins-with SLOT ts ≡ true → read-on slots [] ts ≡ refused 15 0
 unfolding read-on
-on-line-full slots ts h f = line-full (max-slots - length slots) slots ts (omega arith) f
+on-line-full slots ts h f = line-full (slot-limit - length slots) slots ts (omega arith) f
 
 line-next : (room r : ℕ) (slots : List Slot) (ts left : List Token) (s : Slot) → room ≡ suc r → begins-with SLOT ts ≡ true → read-line slots ts ≡ took s left
     → read-lines room slots ts ≡ read-lines r (slots ++ s ∷ []) left
 unfolding read-lines if-next go-on
 line-next room r slots ts left s e f g = rw (e, f, g)
 
-pub on-line : (slots : List Slot) (ts left : List Token) (s : Slot) → length slots < max-slots → begins-with SLOT ts ≡ true → read-line slots ts ≡ took s left
+pub on-line : (slots : List Slot) (ts left : List Token) (s : Slot) → length slots < slot-limit → begins-with SLOT ts ≡ true → read-line slots ts ≡ took s left
     → read-on slots [] ts ≡ read-on (slots ++ s ∷ []) [] left
 unfolding read-on
 on-line slots ts left s h f g =
     let l = longer slots s in
-    line-next (max-slots - length slots) (max-slots - length (slots ++ s ∷ [])) slots ts left s (omega arith) f g
+    line-next (slot-limit - length slots) (slot-limit - length (slots ++ s ∷ [])) slots ts left s (omega arith) f g
 
 line-stop : (room r : ℕ) (slots : List Slot) (ts : List Token) (k : ℕ) → room ≡ suc r → begins-with SLOT ts ≡ true → read-line slots ts ≡ stop k → read-lines room slots ts ≡ refused k 0
 unfolding read-lines if-next go-on
 line-stop room r slots ts k e f g = rw (e, f, g)
 
-pub on-line-stop : (slots : List Slot) (ts : List Token) (k : ℕ) → length slots < max-slots → begins-with SLOT ts ≡ true → read-line slots ts ≡ stop k → read-on slots [] ts ≡ refused k 0
+pub on-line-stop : (slots : List Slot) (ts : List Token) (k : ℕ) → length slots < slot-limit → begins-with SLOT ts ≡ true → read-line slots ts ≡ stop k → read-on slots [] ts ≡ refused k 0
 unfolding read-on
-on-line-stop slots ts k h f g = line-stop (max-slots - length slots) (max-slots - suc (length slots)) slots ts k (omega arith) f g
+on-line-stop slots ts k h f g = line-stop (slot-limit - length slots) (slot-limit - suc (length slots)) slots ts k (omega arith) f g
 
 -- A rule: no SLOT stands next, or rules came before.
-on-rules : (slots : List Slot) (rules : List Rule) (ts : List Token) → Rule-next rules ts → read-on slots rules ts ≡ read-rules (max-rules - length rules) slots rules ts
+on-rules : (slots : List Slot) (rules : List Rule) (ts : List Token) → Rule-next rules ts → read-on slots rules ts ≡ read-rules (rule-limit - length rules) slots rules ts
 unfolding read-on
 on-rules slots rules [] h = absurd h
 on-rules slots [] (t ∷ ts) h = rules-begin _ slots (t ∷ ts) h ∙ ap (λ (k : ℕ). read-rules k slots [] (t ∷ ts)) (omega arith)
 on-rules slots (r ∷ rs) (t ∷ ts) h = refl
 
-rules-after : (slots : List Slot) (rules : List Rule) (r : Rule) (ts : List Token) → read-rules (max-rules - length (rules ++ r ∷ [])) slots (rules ++ r ∷ []) ts ≡ read-on slots (rules ++ r ∷ []) ts
+rules-after : (slots : List Slot) (rules : List Rule) (r : Rule) (ts : List Token) → read-rules (rule-limit - length (rules ++ r ∷ [])) slots (rules ++ r ∷ []) ts ≡ read-on slots (rules ++ r ∷ []) ts
 unfolding read-on
 rules-after slots [] r ts = refl
 rules-after slots (x ∷ xs) r ts = refl
@@ -88,12 +88,12 @@ rule-next : (room r : ℕ) (slots : List Slot) (rules : List Rule) (t : Token) (
 unfolding read-rules go-on
 rule-next room r slots rules t ts left x e g = rw (e, g)
 
-on-rule : (slots : List Slot) (rules : List Rule) (t : Token) (ts left : List Token) (x : Rule) → Rule-next rules (t ∷ ts) → length rules < max-rules → read-rule slots (t ∷ ts) ≡ took x left
+on-rule : (slots : List Slot) (rules : List Rule) (t : Token) (ts left : List Token) (x : Rule) → Rule-next rules (t ∷ ts) → length rules < rule-limit → read-rule slots (t ∷ ts) ≡ took x left
     → read-on slots rules (t ∷ ts) ≡ read-on slots (rules ++ x ∷ []) left
 on-rule slots rules t ts left x n h g =
     let l = longer rules x in
     on-rules slots rules (t ∷ ts) n
-    ∙ rule-next (max-rules - length rules) (max-rules - length (rules ++ x ∷ [])) slots rules t ts left x (omega arith) g
+    ∙ rule-next (rule-limit - length rules) (rule-limit - length (rules ++ x ∷ [])) slots rules t ts left x (omega arith) g
     ∙ rules-after slots rules x left
 
 rule-stop : (room r : ℕ) (slots : List Slot) (rules : List Rule) (t : Token) (ts : List Token) (k : ℕ) → room ≡ suc r → read-rule slots (t ∷ ts) ≡ stop k
@@ -101,41 +101,41 @@ rule-stop : (room r : ℕ) (slots : List Slot) (rules : List Rule) (t : Token) (
 unfolding read-rules go-on
 rule-stop room r slots rules t ts k e g = rw (e, g)
 
-on-rule-stop : (slots : List Slot) (rules : List Rule) (t : Token) (ts : List Token) (k : ℕ) → Rule-next rules (t ∷ ts) → length rules < max-rules → read-rule slots (t ∷ ts) ≡ stop k
+on-rule-stop : (slots : List Slot) (rules : List Rule) (t : Token) (ts : List Token) (k : ℕ) → Rule-next rules (t ∷ ts) → length rules < rule-limit → read-rule slots (t ∷ ts) ≡ stop k
     → read-on slots rules (t ∷ ts) ≡ refused k (length rules)
-on-rule-stop slots rules t ts k n h g = on-rules slots rules (t ∷ ts) n ∙ rule-stop (max-rules - length rules) (max-rules - suc (length rules)) slots rules t ts k (omega arith) g
+on-rule-stop slots rules t ts k n h g = on-rules slots rules (t ∷ ts) n ∙ rule-stop (rule-limit - length rules) (rule-limit - suc (length rules)) slots rules t ts k (omega arith) g
 
 -- No rule may follow.
 rule-full : (room : ℕ) (slots : List Slot) (rules : List Rule) (t : Token) (ts left : List Token) → room ≡ 0 → expects WHEN (t ∷ ts) ≡ took tt left → read-rules room slots rules (t ∷ ts) ≡ refused 15 (length rules)
 unfolding read-rules go-on
 rule-full room slots rules t ts left e g = rw (e, g)
 
-on-rule-full : (slots : List Slot) (rules : List Rule) (t : Token) (ts left : List Token) → Rule-next rules (t ∷ ts) → max-rules ≤ length rules → expects WHEN (t ∷ ts) ≡ took tt left
+on-rule-full : (slots : List Slot) (rules : List Rule) (t : Token) (ts left : List Token) → Rule-next rules (t ∷ ts) → rule-limit ≤ length rules → expects WHEN (t ∷ ts) ≡ took tt left
     → read-on slots rules (t ∷ ts) ≡ refused 15 (length rules)
-on-rule-full slots rules t ts left n h g = on-rules slots rules (t ∷ ts) n ∙ rule-full (max-rules - length rules) slots rules t ts left (omega arith) g
+on-rule-full slots rules t ts left n h g = on-rules slots rules (t ∷ ts) n ∙ rule-full (rule-limit - length rules) slots rules t ts left (omega arith) g
 
 rule-none : (room : ℕ) (slots : List Slot) (rules : List Rule) (t : Token) (ts : List Token) (k : ℕ) → room ≡ 0 → expects WHEN (t ∷ ts) ≡ stop k → read-rules room slots rules (t ∷ ts) ≡ refused k (length rules)
 unfolding read-rules go-on
 rule-none room slots rules t ts k e g = rw (e, g)
 
-on-rule-none : (slots : List Slot) (rules : List Rule) (t : Token) (ts : List Token) (k : ℕ) → Rule-next rules (t ∷ ts) → max-rules ≤ length rules → expects WHEN (t ∷ ts) ≡ stop k
+on-rule-none : (slots : List Slot) (rules : List Rule) (t : Token) (ts : List Token) (k : ℕ) → Rule-next rules (t ∷ ts) → rule-limit ≤ length rules → expects WHEN (t ∷ ts) ≡ stop k
     → read-on slots rules (t ∷ ts) ≡ refused k (length rules)
-on-rule-none slots rules t ts k n h g = on-rules slots rules (t ∷ ts) n ∙ rule-none (max-rules - length rules) slots rules t ts k (omega arith) g
+on-rule-none slots rules t ts k n h g = on-rules slots rules (t ∷ ts) n ∙ rule-none (rule-limit - length rules) slots rules t ts k (omega arith) g
 
 -- The same for any tokens.
-pub next-rule : (slots : List Slot) (rules : List Rule) (ts left : List Token) (x : Rule) → Rule-next rules ts → length rules < max-rules → read-rule slots ts ≡ took x left → read-on slots rules ts ≡ read-on slots (rules ++ x ∷ []) left
+pub next-rule : (slots : List Slot) (rules : List Rule) (ts left : List Token) (x : Rule) → Rule-next rules ts → length rules < rule-limit → read-rule slots ts ≡ took x left → read-on slots rules ts ≡ read-on slots (rules ++ x ∷ []) left
 next-rule slots rules [] left x n h g = absurd n
 next-rule slots rules (t ∷ ts) left x n h g = on-rule slots rules t ts left x n h g
 
-pub next-stop : (slots : List Slot) (rules : List Rule) (ts : List Token) (k : ℕ) → Rule-next rules ts → length rules < max-rules → read-rule slots ts ≡ stop k → read-on slots rules ts ≡ refused k (length rules)
+pub next-stop : (slots : List Slot) (rules : List Rule) (ts : List Token) (k : ℕ) → Rule-next rules ts → length rules < rule-limit → read-rule slots ts ≡ stop k → read-on slots rules ts ≡ refused k (length rules)
 next-stop slots rules [] k n h g = absurd n
 next-stop slots rules (t ∷ ts) k n h g = on-rule-stop slots rules t ts k n h g
 
-pub next-full : (slots : List Slot) (rules : List Rule) (ts left : List Token) → Rule-next rules ts → max-rules ≤ length rules → expects WHEN ts ≡ took tt left → read-on slots rules ts ≡ refused 15 (length rules)
+pub next-full : (slots : List Slot) (rules : List Rule) (ts left : List Token) → Rule-next rules ts → rule-limit ≤ length rules → expects WHEN ts ≡ took tt left → read-on slots rules ts ≡ refused 15 (length rules)
 next-full slots rules [] left n h g = absurd n
 next-full slots rules (t ∷ ts) left n h g = on-rule-full slots rules t ts left n h g
 
-pub next-none : (slots : List Slot) (rules : List Rule) (ts : List Token) (k : ℕ) → Rule-next rules ts → max-rules ≤ length rules → expects WHEN ts ≡ stop k → read-on slots rules ts ≡ refused k (length rules)
+pub next-none : (slots : List Slot) (rules : List Rule) (ts : List Token) (k : ℕ) → Rule-next rules ts → rule-limit ≤ length rules → expects WHEN ts ≡ stop k → read-on slots rules ts ≡ refused k (length rules)
 next-none slots rules [] k n h g = absurd n
 next-none slots rules (t ∷ ts) k n h g = on-rule-none slots rules t ts k n h g
 

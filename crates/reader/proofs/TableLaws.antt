@@ -11,7 +11,7 @@ use Rattle.laws.proofs.Filled.{filled-is, filled-snoc}
 use Rattle.laws.proofs.Lists.{map-append}
 use Rattle.model.specs.Rules as model
 use Rattle.table.specs.Link.{literal-of, assignment-of, rule-of}
-use Rattle.table.specs.Limits.{slot-limit, rule-limit, literal-limit, assignment-limit}
+use Rattle.laws.specs.Limits.{slot-limit, rule-limit, literal-limit, assignment-limit}
 use Rattle.table.specs.Shape.{zero-literal, zero-assignment}
 use Rattle.table.specs.Empty.{unused-rule, unused-slot, empty-table}
 use Rattle.table.specs.declared.Literal.{Literal}

@@ -3,7 +3,7 @@ ghost use mathlib.Core.Path.{_≡_};
 ghost use Prim.Native.Nat.{_≤_};
 ghost use lib.ListN.{length};
 ghost use Rattle.text.specs.Tokens.{tokens};
-ghost use Rattle.grammar.specs.Limits.{max-text};
+ghost use Rattle.laws.specs.Limits.{text-limit};
 ghost use Rattle.grammar.specs.Reading.{parse, read-tokens};
 ghost use Rattle.reader.specs.Tables.{file-read};
 use crate::statements::Kind;
@@ -34,7 +34,7 @@ pub struct FileRead {
 
 // The statements of a text one after the other; after each the remainder is handed on.
 fn read_statements(text: &[u8]) -> FileRead
-    requires { ⌜ length (now text) ≤ max-text ⌝ }
+    requires { ⌜ length (now text) ≤ text-limit ⌝ }
     ensures { λ r. ⌜ r ≡ file-read (read-tokens (tokens (now (text .entry)))) ⌝ }
 {
     let mut t = table::empty_table();

@@ -1,8 +1,10 @@
 // Rules: WHEN a trigger IF a condition THEN assignments, and `;`.
 ghost use mathlib.Core.Path.{_≡_};
 ghost use mathlib.Core.List.{List};
-ghost use Prim.Native.Nat.{ℕ, _≤_};
+ghost use Prim.Native.Nat.{ℕ, _≤_, _<_};
 ghost use lib.ListN.{length};
+ghost use Rattle.laws.specs.Limits.{slot-limit, value-limit};
+ghost use Rattle.table.specs.inner.Flat.{pair-places};
 ghost use Rattle.grammar.specs.Files.{Slot};
 ghost use Rattle.grammar.specs.Reading.{read-rule};
 ghost use Rattle.model.specs.Result.{pair};
@@ -37,7 +39,7 @@ fn pair_next(
     valuespans: &[usize],
     at: usize,
 ) -> PairRead
-    requires { ⌜ length (now valuespans) ≡ 512 ⌝ }
+    requires { ⌜ length (now valuespans) ≡ pair-places ⌝ }
     ensures { λ r. ⌜ ((base : ℕ) (slots : List Slot) → Looked (now (text .entry)) slots (now (slotspans .entry)) (now (valuespans .entry))
         → trigger-pair slots (tokens-past (now (rest .entry)) base at) ≡ pair-part (now (rest .entry)) base r) × Pair-lies (length (now (rest .entry))) at r ⌝ }
 {
@@ -68,7 +70,7 @@ pub fn trigger_next(
     valuespans: &[usize],
     at: usize,
 ) -> PairRead
-    requires { ⌜ length (now valuespans) ≡ 512 ⌝ }
+    requires { ⌜ length (now valuespans) ≡ pair-places ⌝ }
     ensures { λ r. ⌜ ((base : ℕ) (slots : List Slot) → Looked (now (text .entry)) slots (now (slotspans .entry)) (now (valuespans .entry))
         → read-trigger slots (tokens-past (now (rest .entry)) base at) ≡ pair-part (now (rest .entry)) base r) × Pair-lies (length (now (rest .entry))) at r ⌝ }
 {
@@ -99,7 +101,7 @@ pub struct RuleRead {
 
 // A rule of its parts; it has no stratum yet.
 fn rule_of(slot: usize, value: usize, literals: Literals, assignments: Assignments) -> Rule
-    requires { ⌜ (slot ≤ 31) × (value ≤ 15) ⌝ }
+    requires { ⌜ (slot < slot-limit) × (value ≤ value-limit) ⌝ }
     ensures { λ r. ⌜ r ≡ made-rule slot value literals assignments ⌝ }
 {
     let tests = literals.places;
@@ -125,7 +127,7 @@ fn rest_next(
     value: usize,
     at: usize,
 ) -> RuleRead
-    requires { ⌜ (slot ≤ 31) × (value ≤ 15) × (length (now valuespans) ≡ 512) ⌝ }
+    requires { ⌜ (slot < slot-limit) × (value ≤ value-limit) × (length (now valuespans) ≡ pair-places) ⌝ }
     ensures { λ r. ⌜ ((base : ℕ) (slots : List Slot) → Looked (now (text .entry)) slots (now (slotspans .entry)) (now (valuespans .entry))
         → read-rest slots (pair slot value) (tokens-past (now (rest .entry)) base at) ≡ outcome-part (now (rest .entry)) base (rule-of (r .rule)) (r .outcome))
         × Step-lies (length (now (rest .entry))) at (r .outcome) × Plain-rule (r .rule) ⌝ }
@@ -167,7 +169,7 @@ pub fn rule_next(
     valuespans: &[usize],
     at: usize,
 ) -> RuleRead
-    requires { ⌜ length (now valuespans) ≡ 512 ⌝ }
+    requires { ⌜ length (now valuespans) ≡ pair-places ⌝ }
     ensures { λ r. ⌜ ((base : ℕ) (slots : List Slot) → Looked (now (text .entry)) slots (now (slotspans .entry)) (now (valuespans .entry))
         → read-rule slots (tokens-past (now (rest .entry)) base at) ≡ outcome-part (now (rest .entry)) base (rule-of (r .rule)) (r .outcome))
         × Step-lies (length (now (rest .entry))) at (r .outcome) × Plain-rule (r .rule) ⌝ }

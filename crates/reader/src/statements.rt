@@ -3,6 +3,7 @@ ghost use mathlib.Core.Path.{_≡_};
 ghost use mathlib.Core.List.{List, []};
 ghost use Prim.Native.Nat.{ℕ, _<_};
 ghost use lib.ListN.{length};
+ghost use Rattle.table.specs.inner.Flat.{pair-places};
 ghost use Rattle.model.specs.Rules as model;
 ghost use Rattle.grammar.specs.Files.{Slot};
 ghost use Rattle.steps.specs.inner.Places.{tokens-past};
@@ -87,7 +88,7 @@ fn rule_statement(
     valuespans: &[usize],
     count: usize,
 ) -> Statement
-    requires { ⌜ length (now valuespans) ≡ 512 ⌝ }
+    requires { ⌜ length (now valuespans) ≡ pair-places ⌝ }
     ensures { λ r. ⌜ ((base : ℕ) (slots : List Slot) (rules : List model.Rule) → Indexed (now (text .entry)) slots (now (slotspans .entry)) (now (valuespans .entry)) → count ≡ length rules
         → Rule-next rules (tokens-past (now (rest .entry)) base 0) → read-on slots rules (tokens-past (now (rest .entry)) base 0) ≡ statement-answer (now (text .entry)) (now (rest .entry)) base slots rules r)
         × ((width : ℕ) → Statement-lies (now (text .entry)) (length (now (rest .entry))) width count r) ⌝ }
@@ -138,7 +139,7 @@ pub fn statement_next(
     width: usize,
     count: usize,
 ) -> Statement
-    requires { ⌜ Remainder (now text) (now rest) base × (length (now valuespans) ≡ 512) ⌝ }
+    requires { ⌜ Remainder (now text) (now rest) base × (length (now valuespans) ≡ pair-places) ⌝ }
     ensures { λ r. ⌜ ((slots : List Slot) (rules : List model.Rule) → Indexed (now (text .entry)) slots (now (slotspans .entry)) (now (valuespans .entry)) → width ≡ length slots → count ≡ length rules
         → read-on slots rules (tokens-past (now (rest .entry)) base 0) ≡ statement-answer (now (text .entry)) (now (rest .entry)) base slots rules r)
         × Statement-lies (now (text .entry)) (length (now (rest .entry))) width count r ⌝ }

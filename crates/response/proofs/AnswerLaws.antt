@@ -28,7 +28,7 @@ use Rattle.model.specs.Result.{pair, value-in, is-changed, new-value, conflict-
 use Rattle.model.proofs.Alike.{SameCard}
 use Rattle.model.proofs.Pairs.{same-eq}
 use Rattle.table.specs.declared.Table.{Table}
-use Rattle.table.specs.Limits.{slot-limit, row, rule-limit}
+use Rattle.laws.specs.Limits.{slot-limit, row, rule-limit}
 use Rattle.table.specs.Shape.{Shaped}
 use Rattle.table.specs.Link.{rules-of}
 use Rattle.table.specs.inner.Flat.{set-of, add-pairs, pair-places}

@@ -14,7 +14,7 @@ use Rattle.laws.proofs.Filled.{filled-snoc}
 use Rattle.laws.proofs.Lists.{map-append}
 use Rattle.model.specs.Rules.{Pair, Pairs}
 use Rattle.model.specs.Result.{pair, value-in, changes-slip}
-use Rattle.table.specs.Limits.{slot-limit, row}
+use Rattle.laws.specs.Limits.{slot-limit, row}
 use Rattle.results.proofs.Values.{slip-changed, slip-kept}
 use Rattle.cards.specs.declared.Change.{Change}
 use Rattle.cards.specs.declared.Slip.{Slip}

@@ -11,7 +11,7 @@ use Rattle.model.specs.Orders.{names, changes}
 use Rattle.model.specs.Strata.{weak}
 use Rattle.model.specs.Response.{response}
 use Rattle.model.specs.Result.{conflict-slot, new-card, changes-slip}
-use Rattle.table.specs.Limits.{row}
+use Rattle.laws.specs.Limits.{row}
 use Rattle.laws.specs.Answers.{OrRefused, taken, refused}
 use Rattle.cards.specs.Forms.{card-bytes, slip-bytes}
 

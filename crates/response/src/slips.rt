@@ -4,7 +4,7 @@ ghost use mathlib.Core.Bool.{false};
 ghost use Prim.Native.Nat.{_≤_};
 ghost use lib.ListN.{replicate};
 ghost use Rattle.model.specs.Result.{changes-slip};
-ghost use Rattle.table.specs.Limits.{slot-limit, row};
+ghost use Rattle.laws.specs.Limits.{slot-limit, row};
 ghost use Rattle.table.specs.inner.Flat.{set-of, add-pairs, pair-places};
 ghost use Rattle.cards.specs.Cards.{changes-of, slip-of};
 ghost use Rattle.cards.specs.inner.Fitting.{SlipFits};

@@ -20,7 +20,7 @@ use Rattle.laws.proofs.Filled.{filled-snoc}
 use Rattle.laws.proofs.Fronts.{tabulate-next}
 use Rattle.model.specs.Rules.{Pairs}
 use Rattle.model.specs.Result.{pair, value-in, is-changed, in-conflict, new-value, conflict-slot, changes-slip}
-use Rattle.table.specs.Limits.{row}
+use Rattle.laws.specs.Limits.{row}
 use Rattle.table.specs.inner.Flat.{set-of}
 use Rattle.table.proofs.Flat.{set-in}
 

@@ -2,7 +2,7 @@
 ghost use mathlib.Core.Path.{_≡_};
 ghost use Prim.Native.Nat.{_≤_, _<_};
 ghost use Rattle.model.specs.Result.{value-in, conflict-slot};
-ghost use Rattle.table.specs.Limits.{slot-limit, row};
+ghost use Rattle.laws.specs.Limits.{slot-limit, row};
 ghost use Rattle.table.specs.inner.Flat.{set-of};
 ghost use Rattle.results.specs.inner.Ending.{new-places};
 use table::PAIRS;

@@ -6,7 +6,7 @@ ghost use Prim.Native.Nat.{_≤_, _<_};
 ghost use lib.Count.{ones};
 ghost use lib.ListN.{length, drop, getD};
 ghost use Rattle.laws.specs.Packed.{byte-count, byte-at};
-ghost use Rattle.table.specs.Limits.{rule-limit};
+ghost use Rattle.laws.specs.Limits.{rule-limit};
 ghost use Rattle.results.specs.Record.{ones-in};
 ghost use Rattle.results.specs.inner.Record.{fired-bits, flag-record};
 use table::RULES;

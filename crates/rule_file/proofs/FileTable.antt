@@ -19,14 +19,13 @@ use Rattle.model.specs.Orders as orders
 use Rattle.table.specs.declared.Literal.{Literal}
 use Rattle.table.specs.declared.Rule.{Rule}
 use Rattle.table.specs.declared.Slot.{Slot}
-use Rattle.table.specs.Limits.{slot-limit, value-limit, rule-limit, literal-limit, assignment-limit}
+use Rattle.laws.specs.Limits.{slot-limit, value-limit, rule-limit, literal-limit, assignment-limit}
 use Rattle.table.specs.Shape.{zero-literal, zero-assignment, zero-rule, zero-slot, zero-name, LiteralShaped, AssignmentShaped, RuleShaped, SlotShaped, Shaped}
 use Rattle.table.specs.Empty.{unused-rule, unused-slot}
 use Rattle.table.specs.Link.{literal-of, assignment-of, rule-of, rules-of, value-counts}
 use Rattle.names.specs.Names.{has-slot, has-value}
 use Rattle.table.proofs.Link.{count-is}
 use Rattle.grammar.specs.Files as files
-use Rattle.grammar.specs.Limits.{max-slots, max-values, max-rules, max-literals, max-assignments}
 use Rattle.grammar.specs.Files.{File, slot-counts}
 use Rattle.grammar.proofs.Declared.{Declared-pair, slot-declared, value-declared, Declared-rule, Valued, Declared-file}
 use Rattle.soundness.specs.Sound.{has-pair, named, well-formed}
@@ -128,12 +127,10 @@ unused-shaped = rule-for-shaped orders.no-rule (omega arith) (omega arith) (omeg
 
 module _ (f : File) (D : Declared-file f) where
   slot-some : (i : ℕ) → i < length (f .slots) → (1 ≤ length (getD (f .slots) i files.no-slot .values)) × (length (getD (f .slots) i files.no-slot .values) ≤ value-limit)
-  unfolding max-values
   slot-some i h = each-at Valued (f .slots) i files.no-slot (D .slots-valued) h
 
   -- A declared pair keeps to the limits.
   within : (p : model.Pair) → Declared-pair (f .slots) p → (p .slot < slot-limit) × (p .value ≤ value-limit)
-  unfolding max-slots
   within p n = let k = slot-declared (f .slots) p n in (omega (arith, k, D .few-slots), omega (arith, value-declared (f .slots) p n, slot-some (p .slot) k .1))
 
   small : (p : model.Pair) → Declared-pair (f .slots) p → Small p
@@ -160,7 +157,6 @@ module _ (f : File) (D : Declared-file f) where
   rule-declared i h = each-at (Declared-rule (f .slots)) (f .rules) i orders.no-rule (D .each-rule) h
 
   declared-shaped : (i : ℕ) → i < length (map rule-for (f .rules)) → RuleShaped (getD (map rule-for (f .rules)) i zero-rule)
-  unfolding max-literals max-assignments
   declared-shaped i h =
       let r : model.Rule = getD (f .rules) i orders.no-rule in
       let d = rule-declared i (omega (arith, h, length-map (f .rules) rule-for)) in
@@ -176,7 +172,7 @@ module _ (f : File) (D : Declared-file f) where
 
   -- The table's places are full.
   pub file-shaped : Shaped (table-for f)
-  unfolding table-for max-slots max-rules
+  unfolding table-for
   file-shaped =
       let s = length-map (f .slots) slot-for in
       let r = length-map (f .rules) rule-for in
@@ -207,7 +203,7 @@ module _ (f : File) (D : Declared-file f) where
 
   -- A declared rule is right in its places.
   right-here : (r : model.Rule) → Declared-rule (f .slots) r → T (rule-right (length (f .slots)) (slot-counts (f .slots)) (rule-for r))
-  unfolding rule-right named all-of max-literals max-assignments
+  unfolding rule-right named all-of
   right-here r d =
       and-i (leb (length (r .literals)) literal-limit ∧ᵇ leb (length (r .assignments)) assignment-limit ∧ᵇ all-of own (named (rule-for r))) _
       (and-i (leb (length (r .literals)) literal-limit ∧ᵇ leb (length (r .assignments)) assignment-limit) _
@@ -219,7 +215,6 @@ module _ (f : File) (D : Declared-file f) where
 
   -- The table is well-formed.
   pub file-well-formed : T (well-formed (table-for f))
-  unfolding max-slots max-rules
   file-well-formed = well-formed-i (table-for f) (record {
     few-slots = omega (arith, D .few-slots, same-width);
     some-value = λ i h. let k : i < length (f .slots) = omega (arith, h, same-width) in rw (values-here i k) (slot-some i k .0);

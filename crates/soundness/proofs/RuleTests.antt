@@ -12,7 +12,7 @@ use Rattle.laws.proofs.Equations.{and-false}
 use Rattle.laws.proofs.Listed.{all-append}
 use Rattle.model.specs.Rules.{Pair, assigns, each-once}
 use Rattle.table.specs.declared.Rule.{Rule}
-use Rattle.table.specs.Limits.{literal-limit, assignment-limit}
+use Rattle.laws.specs.Limits.{literal-limit, assignment-limit}
 use Rattle.table.specs.Link.{rule-of, literals-of, assignments-of}
 use Rattle.names.specs.Names.{has-slot, has-value}
 use Rattle.soundness.specs.Sound.{has-pair, named}

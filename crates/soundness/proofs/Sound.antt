@@ -11,7 +11,7 @@ use Rattle.laws.proofs.Equations.{from-true}
 use Rattle.model.specs.Strata.{weak, Strata}
 use Rattle.model.specs.Least.{LeastStrata}
 use Rattle.table.specs.declared.Table.{Table}
-use Rattle.table.specs.Limits.{slot-limit, value-limit}
+use Rattle.laws.specs.Limits.{slot-limit, value-limit}
 use Rattle.table.specs.Shape.{zero-slot, Shaped}
 use Rattle.table.specs.Link.{rules-of, stratum-at}
 use Rattle.table.specs.inner.Fits.{TableFits}

@@ -18,7 +18,7 @@ use Rattle.model.specs.Rules.{Pair, each-once}
 use Rattle.table.specs.declared.Rule.{Rule}
 use Rattle.table.specs.declared.Slot.{Slot}
 use Rattle.table.specs.declared.Table.{Table}
-use Rattle.table.specs.Limits.{slot-limit, value-limit, rule-limit, literal-limit, assignment-limit}
+use Rattle.laws.specs.Limits.{slot-limit, value-limit, rule-limit, literal-limit, assignment-limit}
 use Rattle.table.specs.Shape.{zero-literal, zero-assignment, zero-rule, zero-slot, RuleShaped, Shaped}
 use Rattle.table.specs.Link.{literal-of, assignment-of, rule-of, literals-of, assignments-of, slots-of, used-rules, value-counts}
 use Rattle.names.specs.Names.{has-slot}

@@ -6,7 +6,7 @@ ghost use lib.ListN.{drop};
 ghost use Rattle.laws.specs.Truth.{_∧ᵇ_};
 ghost use Rattle.laws.specs.Listed.{all-of};
 ghost use Rattle.model.specs.Result.{pair};
-ghost use Rattle.table.specs.Limits.{literal-limit, assignment-limit};
+ghost use Rattle.laws.specs.Limits.{literal-limit, assignment-limit};
 ghost use Rattle.table.specs.Link.{literals-of, assignments-of};
 ghost use Rattle.soundness.specs.Sound.{has-pair};
 ghost use Rattle.soundness.specs.inner.Right.{rule-right};

@@ -3,6 +3,8 @@ ghost use mathlib.Core.Path.{_≡_};
 ghost use mathlib.Core.List.{List};
 ghost use Prim.Native.Nat.{ℕ, _+_, _*_, _<_, _≤_};
 ghost use lib.ListN.{length, take, drop};
+ghost use Rattle.laws.specs.Limits.{slot-limit, value-limit, row};
+ghost use Rattle.table.specs.inner.Flat.{pair-places};
 ghost use Rattle.text.specs.Tokens.{Name, same-letters, place};
 ghost use Rattle.grammar.specs.Files.{Slot, spellings, slot-names, values-of};
 ghost use Rattle.grammar.specs.Reading.{read-slot, read-value};
@@ -10,7 +12,9 @@ ghost use Rattle.steps.specs.inner.Places.{tokens-past};
 ghost use Rattle.steps.specs.inner.Spans.{span-letters, Span-lies, Listed, read-place, number-part, Number-lies, Slot-lies};
 use crate::step::Named;
 use crate::step::name_next;
+use table::ROW;
 use table::SLOTS;
+use table::VALUES;
 
 // A slot's or a value's number and the position after its name; or a refusal.
 pub enum Number {
@@ -84,11 +88,11 @@ pub fn slot_next(text: &[u8], rest: &[u8], slotspans: &[usize; SLOTS], at: usize
 
 // The name of a value of a slot must stand at a position.
 pub fn value_next(text: &[u8], rest: &[u8], valuespans: &[usize], slot: usize, at: usize) -> Number
-    requires { ⌜ (slot ≤ 31) × (length (now valuespans) ≡ 512) ⌝ }
-    ensures { λ r. ⌜ ((base : ℕ) (slots : List Slot) → Listed (now (text .entry)) (take 15 (drop (slot * 16 + 1) (now (valuespans .entry)))) (spellings (values-of slots slot))
-        → read-value slots slot (tokens-past (now (rest .entry)) base at) ≡ number-part (now (rest .entry)) base r) × Number-lies 15 (length (now (rest .entry))) at r ⌝ }
+    requires { ⌜ (slot < slot-limit) × (length (now valuespans) ≡ pair-places) ⌝ }
+    ensures { λ r. ⌜ ((base : ℕ) (slots : List Slot) → Listed (now (text .entry)) (take value-limit (drop (slot * row + 1) (now (valuespans .entry)))) (spellings (values-of slots slot))
+        → read-value slots slot (tokens-past (now (rest .entry)) base at) ≡ number-part (now (rest .entry)) base r) × Number-lies value-limit (length (now (rest .entry))) at r ⌝ }
 {
-    let first = slot * 16 + 1;
-    let last = first + 15;
+    let first = slot * ROW + 1;
+    let last = first + VALUES;
     place_next(text, rest, &valuespans[first..last], at)
 }

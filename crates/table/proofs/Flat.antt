@@ -18,7 +18,7 @@ use Rattle.laws.proofs.Tabulated.{is-tabulate}
 use Rattle.laws.proofs.Filled.{replicate-at}
 use Rattle.model.specs.Rules.{Pair, Pairs, same, among}
 use Rattle.model.proofs.Pairs.{same-refl, same-eq}
-use Rattle.table.specs.Limits.{row}
+use Rattle.laws.specs.Limits.{row}
 use Rattle.table.specs.inner.Flat.{Placed, place-of, pair-at, set-of, flags-of, pairs-below, pairs-of, add-pairs, pair-places}
 
 -- Two pairs that have a place stand at the same one only where they are the same.

@@ -15,7 +15,7 @@ use Rattle.table.specs.declared.Assignment.{Assignment}
 use Rattle.table.specs.declared.Rule.{Rule}
 use Rattle.table.specs.declared.Slot.{Slot}
 use Rattle.table.specs.declared.Table.{Table}
-use Rattle.table.specs.Limits.{slot-limit, rule-limit, literal-limit, assignment-limit}
+use Rattle.laws.specs.Limits.{slot-limit, rule-limit, literal-limit, assignment-limit}
 use Rattle.table.specs.Shape.{zero-literal, zero-assignment, zero-rule, zero-slot, LiteralShaped, AssignmentShaped, RuleShaped, SlotShaped, Shaped}
 use Rattle.table.proofs.Literal as literal
 use Rattle.table.proofs.Assignment as assignment

@@ -12,7 +12,7 @@ use Rattle.model.specs.Rules as model
 use Rattle.model.specs.Result.{pair}
 use Rattle.model.specs.Strata.{pairs-where, is-becomes, is-plain, is-under-not, tested, needed, barred}
 use Rattle.table.specs.declared.Rule.{Rule}
-use Rattle.table.specs.Limits.{literal-limit, assignment-limit}
+use Rattle.laws.specs.Limits.{literal-limit, assignment-limit}
 use Rattle.table.specs.Shape.{zero-literal, zero-assignment, RuleShaped}
 use Rattle.table.specs.Link.{literal-of, literals-of, assignment-of, assignments-of, rule-of}
 

@@ -1,4 +1,3 @@
-pub mod Limits
 pub mod Shape
 pub mod Empty
 pub mod Link

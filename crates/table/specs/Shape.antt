@@ -10,7 +10,7 @@ use Rattle.table.specs.declared.Rule.{Rule}
 use Rattle.table.specs.declared.Name.{Name}
 use Rattle.table.specs.declared.Slot.{Slot}
 use Rattle.table.specs.declared.Table.{Table}
-use Rattle.table.specs.Limits.{slot-limit, value-limit, rule-limit, literal-limit, assignment-limit}
+use Rattle.laws.specs.Limits.{slot-limit, value-limit, rule-limit, literal-limit, assignment-limit}
 
 -- What reading a list of literals past its end gives.
 abbrev pub zero-literal : Literal

@@ -9,6 +9,7 @@ use lib.Dec.{eqb, ltb}
 use lib.ListN.{length, take, drop, getD, length-drop, take-append-drop}
 use lib.Seq.{length-take-le}
 use borrow.Author.Tests.{eqb-true, eqb-false, ne-eqb, ltb-true}
+use Rattle.laws.specs.Limits.{name-limit}
 use Rattle.laws.specs.Listed.{Each}
 use Rattle.classes.specs.Classes.{one-of, between, class-of}
 use Rattle.text.specs.Tokens.{word, long, bad, run, run-token, word-or-name, same-letters, one-further, place, reserved, mark-of, token-here, more-bytes, tokens-from, tokens}
@@ -42,11 +43,11 @@ place-spelled n (m ∷ ms) more k e = go (same-letters n m) refl (place n ms) (p
 -- A run of name bytes is spelled by its token.
 run-spells : (p : ℕ) (l : List ℕ) → Spells p (run-token p l) l
 unfolding run-token Spells spelling
-run-spells p l = go (ltb 24 (length l)) refl (place l reserved) (place-spelled l reserved _)
+run-spells p l = go (ltb name-limit (length l)) refl (place l reserved) (place-spelled l reserved _)
   where
-    go : (t : Bool) → ltb 24 (length l) ≡ t → (w : ℕ) → ((k : ℕ) → w ≡ suc k → l ≡ getD (reserved ++ marks) k [])
+    go : (t : Bool) → ltb name-limit (length l) ≡ t → (w : ℕ) → ((k : ℕ) → w ≡ suc k → l ≡ getD (reserved ++ marks) k [])
         → Spells p (cond t long (word-or-name (record { start = p; letters = l }) w)) l
-    go true e w f = ltb-true 24 (length l) e
+    go true e w f = ltb-true name-limit (length l) e
     go false e zero f = (refl, refl)
     go false e (suc k) f = f k refl
 

@@ -9,6 +9,7 @@ use lib.Dec.{eqb, ltb}
 use borrow.Author.Tests.{ne-eqb}
 use lib.ListN.{length, length-drop, take, drop}
 use lib.Seq.{take-append-le, length-take-le}
+use Rattle.laws.specs.Limits.{name-limit}
 use Rattle.classes.specs.Classes.{one-of, class-of}
 use Rattle.text.specs.Tokens.{Token, word, long, bad, OPEN, CLOSE, COMMA, SEMICOLON, BECOMES, HAS, GETS, reserved, mark-of, same-letters, one-further, place, word-or-name, run-token, run, equals-first, token-here, more-bytes, unless-white, tokens-from, tokens}
 use Rattle.text.specs.Cut.{moved, No-semi, is-semi, Free, before-semi, past-semi, Token-stands, All-stand}
@@ -90,7 +91,7 @@ tokens-cut (x ∷ xs) b zero p q h e = cut-here p x xs b _ (tokens-cut xs b (mor
 
 run-moved : (f : ℕ → ℕ) (p : ℕ) (l : List ℕ) → moved f (run-token p l) ≡ run-token (f p) l
 unfolding run-token
-run-moved f p l = go (ltb 24 (length l)) (place l reserved)
+run-moved f p l = go (ltb name-limit (length l)) (place l reserved)
   where
     go : (t : Bool) (k : ℕ) → moved f (cond t long (word-or-name (record { start = p; letters = l }) k)) ≡ cond t long (word-or-name (record { start = f p; letters = l }) k)
     go true k = refl
@@ -139,7 +140,7 @@ place-le n (m ∷ ms) = go (same-letters n m) (place n ms) (place-le n ms)
 
 run-free : (p : ℕ) (l : List ℕ) → is-semi (run-token p l) ≡ false
 unfolding run-token reserved
-run-free p l = go (ltb 24 (length l)) (place l reserved) (place-le l reserved)
+run-free p l = go (ltb name-limit (length l)) (place l reserved) (place-le l reserved)
   where
     go : (t : Bool) (k : ℕ) → k ≤ 7 → is-semi (cond t long (word-or-name (record { start = p; letters = l }) k)) ≡ false
     go true k h = refl
@@ -205,7 +206,7 @@ tokens-elsewhere b p = sym (tokens-moved b 0 0 p (λ i. i + p) (λ j. omega arit
 
 run-stands : (s : List ℕ) (p : ℕ) (l : List ℕ) → p + length l ≤ length s → take (length l) (drop p s) ≡ l → Token-stands s (run-token p l)
 unfolding run-token
-run-stands s p l i h = go (ltb 24 (length l)) (place l reserved)
+run-stands s p l i h = go (ltb name-limit (length l)) (place l reserved)
   where
     go : (t : Bool) (k : ℕ) → Token-stands s (cond t long (word-or-name (record { start = p; letters = l }) k))
     go true k = tt

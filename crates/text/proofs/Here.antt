@@ -10,6 +10,7 @@ use lib.Dec.{eqb}
 use lib.ListN.{length, take, drop, getD, drop-of-length-le, length-drop}
 use lib.Seq.{drop-cons, length-take-le}
 use borrow.Author.Tests.{eq-eqb, ne-eqb, lt-ltb, le-ltb}
+use Rattle.laws.specs.Limits.{name-limit}
 use Rattle.classes.specs.Classes.{class-of}
 use Rattle.text.specs.Tokens.{Name, Token, run, run-token, place, reserved, mark-of, equals-first, token-here, more-bytes}
 use Rattle.text.specs.Next.{white, coded, next-from, next-at}
@@ -23,21 +24,21 @@ part-length : (s : List ℕ) (a b : ℕ) → a ≤ b → b ≤ length s → leng
 part-length s a b h k = let d = length-drop a s in length-take-le (b - a) (drop a s) (omega arith)
 
 -- A run of name bytes from `a` to `b`: over the limit, no reserved word, a reserved word.
-pub run-long : (s : List ℕ) (a b : ℕ) → a ≤ b → b ≤ length s → 24 < b - a → coded (run-token a (take (b - a) (drop a s))) ≡ v.Long
+pub run-long : (s : List ℕ) (a b : ℕ) → a ≤ b → b ≤ length s → name-limit < b - a → coded (run-token a (take (b - a) (drop a s))) ≡ v.Long
 unfolding run-token
-run-long s a b h k l = rw (part-length s a b h k, lt-ltb 24 (b - a) l)
+run-long s a b h k l = rw (part-length s a b h k, lt-ltb name-limit (b - a) l)
 
-pub run-name : (s : List ℕ) (a b w : ℕ) → a ≤ b → b ≤ length s → b - a ≤ 24 → w ≡ place (take (b - a) (drop a s)) reserved → w ≡ 0
+pub run-name : (s : List ℕ) (a b w : ℕ) → a ≤ b → b ≤ length s → b - a ≤ name-limit → w ≡ place (take (b - a) (drop a s)) reserved → w ≡ 0
     → coded (run-token a (take (b - a) (drop a s))) ≡ v.Name a (b - a)
 unfolding run-token
 run-name s a b w h k l e z =
-    rw (part-length s a b h k, le-ltb 24 (b - a) l, ← e) (coded-name (record { start = a; letters = take (b - a) (drop a s) }) w z ∙ ap (v.Name a) (part-length s a b h k))
+    rw (part-length s a b h k, le-ltb name-limit (b - a) l, ← e) (coded-name (record { start = a; letters = take (b - a) (drop a s) }) w z ∙ ap (v.Name a) (part-length s a b h k))
 
-pub run-word : (s : List ℕ) (a b w : ℕ) → a ≤ b → b ≤ length s → b - a ≤ 24 → w ≡ place (take (b - a) (drop a s)) reserved → (w ≡ 0 → ⊥)
+pub run-word : (s : List ℕ) (a b w : ℕ) → a ≤ b → b ≤ length s → b - a ≤ name-limit → w ≡ place (take (b - a) (drop a s)) reserved → (w ≡ 0 → ⊥)
     → coded (run-token a (take (b - a) (drop a s))) ≡ v.Word w
 unfolding run-token
 run-word s a b w h k l e z =
-    rw (part-length s a b h k, le-ltb 24 (b - a) l, ← e) (coded-word (record { start = a; letters = take (b - a) (drop a s) }) w z)
+    rw (part-length s a b h k, le-ltb name-limit (b - a) l, ← e) (coded-word (record { start = a; letters = take (b - a) (drop a s) }) w z)
 
 -- Nothing but white stands there.
 pub next-end : (s : List ℕ) (at p : ℕ) → p ≡ at + white (drop at s) → length s ≤ p → next-at s at ≡ record { token = v.End; at = p }

@@ -9,6 +9,7 @@ use lib.Dec.{eqb, ltb}
 use lib.ListN.{length, take, drop, length-drop}
 use lib.Seq.{drop-drop, length-take-le}
 use borrow.Author.Tests.{eqb-true, ltb-false}
+use Rattle.laws.specs.Limits.{name-limit}
 use Rattle.laws.proofs.Lists.{drop-next}
 use Rattle.classes.specs.Classes.{class-of}
 use Rattle.text.specs.Tokens.{Token, word, name, long, bad, run, run-token, word-or-name, place, reserved, mark-of, equals-first, token-here, more-bytes, tokens-from}
@@ -96,11 +97,11 @@ left-over s p x xs e = let l = length-drop p s in let m = ap length e in omega a
 
 run-lies : (size from p : ℕ) (l : List ℕ) → from ≤ p → 0 < length l → p + length l ≤ size → Lies size from (coded (run-token p l)) (p + length l)
 unfolding run-token
-run-lies size from p l h k m = go (ltb 24 (length l)) (place l reserved) refl
+run-lies size from p l h k m = go (ltb name-limit (length l)) (place l reserved) refl
   where
-    go : (t : Bool) (w : ℕ) → ltb 24 (length l) ≡ t → Lies size from (coded (cond t long (word-or-name (record { start = p; letters = l }) w))) (p + length l)
+    go : (t : Bool) (w : ℕ) → ltb name-limit (length l) ≡ t → Lies size from (coded (cond t long (word-or-name (record { start = p; letters = l }) w))) (p + length l)
     go true w e = (omega arith, m)
-    go false zero e = (h, k, ltb-false 24 (length l) e, refl, m)
+    go false zero e = (h, k, ltb-false name-limit (length l) e, refl, m)
     go false (suc w) e = (omega arith, m)
 
 begun-lies : (size from p x : ℕ) (xs : List ℕ) → from ≤ p → suc (p + length xs) ≡ size

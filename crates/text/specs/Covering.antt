@@ -3,6 +3,7 @@ use Prim.Native.Nat.{ℕ, suc, _+_, _<_}
 use mathlib.Core.Path.{_≡_}
 use mathlib.Core.List.{List, [], _∷_, _++_}
 use lib.ListN.{length, getD}
+use Rattle.laws.specs.Limits.{name-limit}
 use Rattle.classes.specs.Classes.{class-of}
 use Rattle.text.specs.Tokens.{Token, word, name, long, bad, reserved}
 
@@ -18,7 +19,7 @@ spelling w = getD ([] ∷ reserved ++ marks) w []
 unfoldable pub Spells : ℕ → Token → List ℕ → Type 0
 Spells p (word w) bytes = bytes ≡ spelling w
 Spells p (name n) bytes = (n .start ≡ p) × (n .letters ≡ bytes)
-Spells p long bytes = 24 < length bytes
+Spells p long bytes = name-limit < length bytes
 Spells p bad bytes = length bytes ≡ 1
 
 -- The text from place `p` on is white bytes and the bytes of these tokens, in their order, and nothing else.

@@ -5,6 +5,7 @@ use mathlib.Core.Bool.{cond}
 use mathlib.Core.List.{List, [], _∷_}
 use lib.Dec.{eqb}
 use lib.ListN.{length, take, drop}
+use Rattle.laws.specs.Limits.{name-limit}
 use Rattle.classes.specs.Classes.{class-of}
 use Rattle.text.specs.Tokens.{Name, Token, word, name, long, bad, token-here, more-bytes, tokens-from}
 use Rattle.text.specs.declared.Next.{Next}
@@ -60,6 +61,6 @@ shown text v.Bad rest = bad ∷ rest
 abbrev pub Lies : ℕ → ℕ → code.Token → ℕ → Type 0
 Lies size from v.End next = (from ≤ next) × (size ≤ next)
 Lies size from (v.Word w) next = (from < next) × (next ≤ size)
-Lies size from (v.Name at len) next = (from ≤ at) × (0 < len) × (len ≤ 24) × (at + len ≡ next) × (next ≤ size)
+Lies size from (v.Name at len) next = (from ≤ at) × (0 < len) × (len ≤ name-limit) × (at + len ≡ next) × (next ≤ size)
 Lies size from v.Long next = (from < next) × (next ≤ size)
 Lies size from v.Bad next = (from < next) × (next ≤ size)

@@ -4,6 +4,7 @@ use mathlib.Core.Bool.{Bool, true, false, cond}
 use mathlib.Core.List.{List, [], _∷_}
 use lib.Dec.{eqb, ltb}
 use lib.ListN.{length, take}
+use Rattle.laws.specs.Limits.{name-limit}
 use Rattle.classes.specs.Classes.{one-of, class-of}
 
 -- A name: the place of its first byte in the text, and its bytes.
@@ -107,7 +108,7 @@ word-or-name n (suc k) = word (suc k)
 -- A run of name bytes at a place: too long, a reserved word, or a name.
 unfoldable pub run-token : ℕ → List ℕ → Token
 run-token p letters =
-    cond (ltb 24 (length letters)) long (word-or-name (record { start = p; letters = letters }) (place letters reserved))
+    cond (ltb name-limit (length letters)) long (word-or-name (record { start = p; letters = letters }) (place letters reserved))
 
 -- How many bytes of classes 2 and 3 a text begins with.
 unfoldable pub run : List ℕ → ℕ

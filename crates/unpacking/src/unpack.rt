@@ -1,7 +1,7 @@
 // Unpacking by the number of slots and how many values each has. These are not entry points: the table was tested before.
 ghost use mathlib.Core.Path.{_≡_};
 ghost use Prim.Native.Nat.{_≤_};
-ghost use Rattle.table.specs.Limits.{slot-limit};
+ghost use Rattle.laws.specs.Limits.{slot-limit};
 ghost use Rattle.laws.specs.Answers.{refused};
 ghost use Rattle.cards.specs.Forms.{read-card, read-slip};
 ghost use Rattle.cards.specs.Cards.{card-read, slip-read};

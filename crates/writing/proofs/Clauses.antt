@@ -10,7 +10,7 @@ use Rattle.model.specs.Rules as model
 use Rattle.model.specs.Result.{pair}
 use Rattle.table.specs.declared.Rule.{Rule}
 use Rattle.table.specs.Shape.{zero-literal, zero-assignment, RuleShaped}
-use Rattle.table.specs.Limits.{literal-limit, assignment-limit}
+use Rattle.laws.specs.Limits.{literal-limit, assignment-limit}
 use Rattle.table.specs.Link.{literal-of, literals-of, assignments-of}
 use Rattle.table.proofs.Walks.{literals-from, literals-start, literals-next, literals-end, assigned-from, assigned-start, assigned-next, assigned-end}
 use Rattle.writing.specs.inner.Written.{Pairing, followed, separated, literal-bytes, condition-bytes, assign-bytes}

@@ -14,7 +14,7 @@ use Rattle.laws.proofs.Listed.{used-next, used-end}
 use Rattle.model.specs.Rules as model
 use Rattle.table.specs.declared.Table.{Table}
 use Rattle.table.specs.Shape.{zero-slot, zero-rule, Shaped}
-use Rattle.table.specs.Limits.{row, rule-limit}
+use Rattle.laws.specs.Limits.{row, rule-limit}
 use Rattle.table.specs.Link.{rule-of, rules-of}
 use Rattle.writing.specs.inner.Written.{followed, separated, rule-bytes, lines-joined}
 use Rattle.writing.specs.inner.Spelled.{spelled, spelled-pair, spelled-values, spelled-line, spelled-lines, spelled-rules, spelled-file}

@@ -2,7 +2,7 @@
 ghost use Prim.Native.Nat.{_+_, _≤_, _<_};
 ghost use lib.ListN.{length};
 ghost use Rattle.laws.specs.Quoted.{bytes};
-ghost use Rattle.table.specs.Limits.{slot-limit, value-limit};
+ghost use Rattle.laws.specs.Limits.{slot-limit, value-limit};
 ghost use Rattle.table.specs.inner.Fits.{TableFits};
 ghost use Rattle.writing.specs.inner.Puts.{longest, Puts};
 ghost use Rattle.writing.specs.inner.Written.{separated};

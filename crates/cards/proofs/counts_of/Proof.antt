@@ -5,7 +5,7 @@ use Prim.Native.Nat.{_-_, _≤_, _<_}
 use lib.ListN.{length, getD}
 use lib.Seq.{length-take-le, getD-take}
 use Rattle.table.specs.declared.Slot.{Slot}
-use Rattle.table.specs.Limits.{slot-limit}
+use Rattle.laws.specs.Limits.{slot-limit}
 use Rattle.table.specs.Shape.{zero-slot}
 use Rattle.table.specs.Link.{slots-of, value-counts}
 use Rattle.table.proofs.Shape.{shaped}

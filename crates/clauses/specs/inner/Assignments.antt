@@ -6,7 +6,7 @@ use Rattle.laws.specs.Filled.{filled}
 use Rattle.laws.specs.inner.Filled.{Filled}
 use Rattle.text.specs.Tokens.{Token, GETS}
 use Rattle.model.specs.Rules.{Pair}
-use Rattle.table.specs.Limits.{assignment-limit}
+use Rattle.laws.specs.Limits.{assignment-limit}
 use Rattle.table.specs.Shape.{zero-assignment}
 use Rattle.table.specs.Link.{assignment-of}
 use Rattle.grammar.specs.Files.{Slot}

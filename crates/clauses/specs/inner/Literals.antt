@@ -3,6 +3,7 @@ use Prim.Native.Nat.{ℕ, _+_, _*_, _≤_, _<_}
 use mathlib.Core.Bool.{Bool}
 use mathlib.Core.List.{List}
 use lib.ListN.{length, take, drop}
+use Rattle.laws.specs.Limits.{value-limit, row}
 use Rattle.text.specs.Tokens.{Token}
 use Rattle.model.specs.Rules.{Literal}
 use Rattle.table.specs.Link.{literal-of}
@@ -17,7 +18,7 @@ use Rattle.clauses.specs.declared.literals.LiteralRead.the-variants as r
 -- The spans in `slotspans` are those of the slots' names, and in `valuespans`, from place s * 16 + 1 on, those of slot s's values.
 pub record Looked (text : List ℕ) (slots : List Slot) (slotspans valuespans : List ℕ) : Type 0 where
   pub slotspans-listed : Listed text slotspans (spellings (slot-names slots))
-  pub valuespans-listed : (s : ℕ) → s < length slots → Listed text (take 15 (drop (s * 16 + 1) valuespans)) (spellings (values-of slots s))
+  pub valuespans-listed : (s : ℕ) → s < length slots → Listed text (take value-limit (drop (s * row + 1) valuespans)) (spellings (values-of slots s))
 
 -- The value of a literal, after its slot and its mark.
 unfoldable pub value-literal : List Slot → ℕ → Bool → Bool → List Token → Part Literal

@@ -7,7 +7,7 @@ use Rattle.model.specs.Orders.{names, changes}
 use Rattle.model.specs.Strata.{weak, Strata}
 use Rattle.model.specs.Response.{response-by, response}
 use Rattle.table.specs.declared.Table.{Table}
-use Rattle.table.specs.Limits.{rule-limit}
+use Rattle.laws.specs.Limits.{rule-limit}
 use Rattle.table.specs.Link.{rules-of, stratum-at}
 use Rattle.table.specs.inner.Flat.{flags-of, pairs-of}
 use Rattle.table.specs.inner.Fits.{TableFits}

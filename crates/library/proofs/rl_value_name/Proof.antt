@@ -5,7 +5,7 @@ use mathlib.Core.Bool.{true}
 use Prim.Native.Nat.{_≤_, _<_}
 use lib.ListN.{getD}
 use borrow.Author.Tests.{not-true, not-false}
-use Rattle.table.specs.Limits.{slot-limit, value-limit}
+use Rattle.laws.specs.Limits.{slot-limit, value-limit}
 use Rattle.table.specs.Shape.{zero-slot}
 use Rattle.names.specs.Names.{has-slot, has-value}
 use Rattle.names.proofs.Names.{slot-inside, value-inside}

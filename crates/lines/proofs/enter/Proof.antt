@@ -7,7 +7,7 @@ use mathlib.Core.Path.{_≡_, refl}
 use native.Mathlib.Nat.{add-zero}
 use lib.ListN.{length, drop, drop-of-length-le}
 use lib.Seq.{sets, drop-cons}
-use Rattle.table.specs.Limits.{value-limit}
+use Rattle.laws.specs.Limits.{value-limit}
 use borrow.Author.Needs.{needs}
 use Rattle.lines.proofs.enter.Statement.{statement}
 use Rattle.lines.proofs.enter.Tie as tie

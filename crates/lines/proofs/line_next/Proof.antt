@@ -4,7 +4,7 @@ use native.Mathlib.Omega.{arith}
 use mathlib.Core.Path.{_≡_, ap, subst, _∙_}
 use mathlib.Core.List.{List, []}
 use lib.ListN.{length}
-use Rattle.grammar.specs.Limits.{max-values}
+use Rattle.laws.specs.Limits.{value-limit}
 use Rattle.grammar.specs.Files.{Slot, spellings, slot-names}
 use Rattle.grammar.specs.Reading.{read-values}
 use Rattle.steps.specs.inner.Places.{tokens-past, Step-lies, outcome-part}
@@ -30,7 +30,7 @@ head-lies c = subst (Declared-lies _ _ _) (c .head .given .1) (c .before .before
 
 -- The values with this outcome.
 values-read : (c : tie.After-values-next) (r : Step) → c .values-next .result .outcome ≡ r
-    → read-values max-values [] (tokens-past (c .before .before .before .before .before .before .before .args .rest .now) (c .before .before .before .before .before .before .before .args .base) (c .before .before .head .given .0 .1 .0))
+    → read-values value-limit [] (tokens-past (c .before .before .before .before .before .before .before .args .rest .now) (c .before .before .before .before .before .before .before .args .base) (c .before .before .head .given .0 .1 .0))
     ≡ outcome-part (c .before .before .before .before .before .before .before .args .rest .now) (c .before .before .before .before .before .before .before .args .base) (span-names (c .before .before .before .before .before .before .before .args .text .now) (c .values-next .result .spans) (c .values-next .result .count)) r
 values-read c r e = c .values-next .ensures .0 ∙ ap (outcome-part _ _ _) e
 

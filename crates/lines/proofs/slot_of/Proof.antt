@@ -7,7 +7,7 @@ use mathlib.Core.Path.{_≡_, refl, _∙_}
 use mathlib.Core.List.{[], _∷_, map}
 use lib.ListN.{length, take, getD, length-set}
 use lib.Seq.{take-all, take-suc, take-suc-set}
-use Rattle.table.specs.Limits.{value-limit}
+use Rattle.laws.specs.Limits.{value-limit}
 use Rattle.laws.proofs.Lists.{map-append}
 use Rattle.lines.specs.inner.Index.{stretch-at}
 use borrow.Author.Needs.{needs}

@@ -5,9 +5,8 @@ use native.Mathlib.Omega.{arith}
 use mathlib.Core.Path.{_≡_, refl, sym, ap, subst, _∙_}
 use mathlib.Core.List.{[]}
 use lib.ListN.{length, set}
-use Rattle.grammar.specs.Limits.{max-values}
+use Rattle.laws.specs.Limits.{value-limit}
 use Rattle.grammar.specs.Reading.{took, new-name, read-values}
-use Rattle.table.specs.Limits.{value-limit}
 use Rattle.steps.specs.inner.Places.{tokens-past, choice, Fork-lies}
 use Rattle.lines.specs.inner.Index.{span-names}
 use Rattle.lines.specs.inner.Lines.{declared-part, Declared-lies, Values-lie}
@@ -23,7 +22,7 @@ use Rattle.lines.proofs.values_next.Tie as tie
 -- The values so far are those of the spans, and what is left of the reading gives what the whole gives.
 abbrev Inv-loop : tie.InvT-loop
 Inv-loop text rest base start spans₀ count₀ at₀ spans count at =
-    Values-lie text spans count × (start ≤ at) × (read-values (value-limit - count) (span-names text spans count) (tokens-past rest base at) ≡ read-values max-values [] (tokens-past rest base start))
+    Values-lie text spans count × (start ≤ at) × (read-values (value-limit - count) (span-names text spans count) (tokens-past rest base at) ≡ read-values value-limit [] (tokens-past rest base start))
 
 abbrev μ-loop : tie.MeasureT-loop
 μ-loop text rest base start spans₀ count₀ at₀ spans count at = length rest - at
@@ -47,7 +46,7 @@ more-lies c =
 
 -- What is left of the reading after it, by what stands next.
 values-left : (c : tie.After-fork-next Inv-loop μ-loop) (w : Fork) → c .fork-next .result ≡ w
-    → read-values max-values [] (tokens-past (c .before .before .before .before .before .before .before .before .before .before .args .rest .now) (c .before .before .before .before .before .before .before .before .before .before .args .base) (c .before .before .before .before .before .before .before .before .before .before .args .start))
+    → read-values value-limit [] (tokens-past (c .before .before .before .before .before .before .before .before .before .before .args .rest .now) (c .before .before .before .before .before .before .before .before .before .before .args .base) (c .before .before .before .before .before .before .before .before .before .before .args .start))
     ≡ follow (λ more. read-values (value-limit - (c .before .before .before .before .before .before .before .loop .count + 1)) (span-names (c .before .before .before .before .before .before .before .before .before .before .args .text .now) (set (c .before .before .before .before .before .before .before .loop .spans) (c .before .before .before .before .before .before .before .loop .count) (c .before .before .before .declared .given .0 .0)) (c .before .before .before .before .before .before .before .loop .count + 1)) more)
     (took (span-names (c .before .before .before .before .before .before .before .before .before .before .args .text .now) (set (c .before .before .before .before .before .before .before .loop .spans) (c .before .before .before .before .before .before .before .loop .count) (c .before .before .before .declared .given .0 .0)) (c .before .before .before .before .before .before .before .loop .count + 1))) (choice (c .before .before .before .before .before .before .before .before .before .before .args .rest .now) (c .before .before .before .before .before .before .before .before .before .before .args .base) w)
 values-left c w e =

@@ -7,7 +7,7 @@ use Rattle.text.specs.Tokens.{Name}
 use Rattle.grammar.specs.Files.{Slot, slot-names, values-of}
 use Rattle.table.specs.declared.Name as stretch
 use Rattle.table.specs.declared.Slot as tabled
-use Rattle.table.specs.Limits.{slot-limit, value-limit, row}
+use Rattle.laws.specs.Limits.{slot-limit, value-limit, row}
 use Rattle.table.specs.inner.Flat.{pair-places}
 use Rattle.steps.specs.inner.Spans.{span-letters, Span-lies}
 

@@ -6,7 +6,7 @@ use lib.ListN.{length, drop}
 use Rattle.text.specs.Tokens.{Name, Token, SLOT, OPEN}
 use Rattle.grammar.specs.Files.{Slot, slot-names}
 use Rattle.grammar.specs.Reading.{Part, took, stop, _then_, expects, new-name}
-use Rattle.table.specs.Limits.{value-limit}
+use Rattle.laws.specs.Limits.{value-limit}
 use Rattle.steps.specs.inner.Places.{tokens-past}
 use Rattle.steps.specs.inner.Spans.{Span-lies}
 use Rattle.lines.specs.inner.Index.{span-name, span-names, Spanned}

@@ -2,7 +2,7 @@
 -- Assumes nothing.
 use borrow.Author.Tests.{lt-ltb, le-ltb}
 use Rattle.laws.specs.Truth.{_∧ᵇ_}
-use Rattle.table.specs.Limits.{slot-limit}
+use Rattle.laws.specs.Limits.{slot-limit}
 use Rattle.names.specs.Names.{has-slot}
 use native.Mathlib.Omega.{arith}
 use Rattle.names.proofs.has_slot.Statement.{statement}

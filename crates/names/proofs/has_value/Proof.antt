@@ -2,7 +2,7 @@
 -- Assumes nothing.
 use borrow.Author.Tests.{le-leb, lt-leb}
 use Rattle.laws.specs.Truth.{_∧ᵇ_}
-use Rattle.table.specs.Limits.{value-limit}
+use Rattle.laws.specs.Limits.{value-limit}
 use Rattle.names.specs.Names.{has-value}
 use native.Mathlib.Omega.{arith}
 use Rattle.names.proofs.has_value.Statement.{statement}

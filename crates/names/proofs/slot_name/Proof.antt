@@ -4,7 +4,7 @@ use mathlib.Core.Path.{_≡_, refl, sym, _∙_}
 use mathlib.Core.Bool.{true}
 use Prim.Native.Nat.{_<_}
 use borrow.Author.Tests.{not-true, not-false}
-use Rattle.table.specs.Limits.{slot-limit}
+use Rattle.laws.specs.Limits.{slot-limit}
 use Rattle.names.specs.Names.{has-slot}
 use Rattle.names.proofs.Names.{slot-inside, slot-shown, slot-lacking}
 use native.Mathlib.Omega.{arith}

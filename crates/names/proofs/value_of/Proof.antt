@@ -4,7 +4,7 @@ use mathlib.Core.Path.{_≡_, refl, sym, _∙_}
 use mathlib.Core.Bool.{true}
 use Prim.Native.Nat.{_≤_}
 use borrow.Author.Tests.{not-true, not-false}
-use Rattle.table.specs.Limits.{value-limit}
+use Rattle.laws.specs.Limits.{value-limit}
 use Rattle.names.specs.Names.{has-value}
 use Rattle.names.proofs.Names.{value-inside, value-of-shown, value-of-lacking}
 use native.Mathlib.Omega.{arith}

@@ -6,7 +6,7 @@ use mathlib.Core.Path.{_≡_, refl, sym, ap, _∙_}
 use mathlib.Core.List.{List}
 use lib.ListN.{length}
 use borrow.Author.Needs.{needs}
-use Rattle.grammar.specs.Limits.{max-text}
+use Rattle.laws.specs.Limits.{text-limit}
 use Rattle.grammar.specs.Reading.{parse}
 use Rattle.table.specs.declared.Table.{Table}
 use Rattle.table.specs.Shape.{Shaped}
@@ -62,14 +62,12 @@ size c =
     omega (arith, z, p .put-file .ensures .ends)
 
 returns : tie.Need-returns
-unfolding max-text
 returns c =
     let n = c .before in
     let s = n .before .before .before .before .before .before .before .before .before .before in
     answer-refused _ 34 0 (s .args .out .now) (fitted-34 (print-of (parse (s .args .text .now))) (length (s .args .out .now)) (omega (arith, size n, c .if1 .taken)))
 
 returns-2 : tie.Need-returns-2
-unfolding max-text
 returns-2 c =
     let n = c .before .before in
     let s = n .before .before .before .before .before .before .before .before .before .before in
@@ -89,7 +87,6 @@ same-length : tie.Need-same-length
 same-length c = c .before .before .put-file2 .ensures .same-length
 
 returns-3 : tie.Need-returns-3
-unfolding max-text
 returns-3 c =
     let q = c .before .before in
     let f = q .before .before .before .before in

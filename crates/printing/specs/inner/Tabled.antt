@@ -4,12 +4,11 @@ use mathlib.Core.Path.{_≡_}
 use mathlib.Core.List.{List, map}
 use lib.ListN.{length, getD}
 use Rattle.laws.specs.Filled.{filled}
-use Rattle.grammar.specs.Limits.{max-text, max-values}
+use Rattle.laws.specs.Limits.{text-limit, value-limit, slot-limit}
 use Rattle.grammar.specs.Files.{Slot}
 use Rattle.grammar.specs.Standing.{Slots-stand}
 use Rattle.table.specs.declared.Name.{Name}
 use Rattle.table.specs.declared.Table.{Table}
-use Rattle.table.specs.Limits.{slot-limit}
 use Rattle.table.specs.Shape.{zero-name}
 use Rattle.table.specs.Empty.{unused-slot}
 use Rattle.steps.specs.inner.Spans.{span}
@@ -23,7 +22,7 @@ span-of n = span (n .start) (n .size)
 
 -- A name within the limits of a text and of a name, so that its span says where it stands.
 abbrev pub SmallName : Name → Type 0
-SmallName n = (n .start ≤ max-text) × (n .size < 32)
+SmallName n = (n .start ≤ text-limit) × (n .size < 32)
 
 -- So is each of the names in a list.
 abbrev pub SmallNames : List Name → Type 0
@@ -34,7 +33,7 @@ pub record Tabled (text : List ℕ) (slots : List Slot) (t : Table) : Type 0 whe
   pub width-is : t .width ≡ length slots
   pub slots-are : t .slots ≡ filled slot-limit unused-slot (map slot-for slots)
   pub few : length slots ≤ slot-limit
-  pub few-values : Each (λ (s : Slot). length (s .values) ≤ max-values) slots
-  pub short : length text ≤ max-text
+  pub few-values : Each (λ (s : Slot). length (s .values) ≤ value-limit) slots
+  pub short : length text ≤ text-limit
   pub stand : Slots-stand text slots
   pub well-named : Each Well-named slots

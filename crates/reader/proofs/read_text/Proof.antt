@@ -1,7 +1,7 @@
 -- `reader::read_text` meets its contract.
 -- Assumes nothing.
 use mathlib.Core.Path.{refl, sym, ap, _∙_}
-use Rattle.grammar.specs.Limits.{max-text}
+use Rattle.laws.specs.Limits.{text-limit}
 use Rattle.reader.specs.Tables.{file-read}
 use Rattle.grammar.proofs.Forward.{read-short}
 use Rattle.reader.proofs.ReadLaws.{answer-refused, read-long}
@@ -13,15 +13,12 @@ empty-table-requires : tie.Need-empty-table-requires
 empty-table-requires c κs = search needs
 
 returns : tie.Need-returns
-unfolding max-text
 returns c = answer-refused _ _ _ _ _ (read-long (c .before .before .before .args .text .now) (c .before .if1 .taken)) refl (c .empty-table .ensures)
 
 read-statements-requires : tie.Need-read-statements-requires
-unfolding max-text
 read-statements-requires c κs = c .if1 .left
 
 returns-2 : tie.Need-returns-2
-unfolding max-text
 returns-2 c = c .read-statements .ensures ∙ ap file-read (sym (read-short (c .before .before .before .args .text .now) (c .before .if1 .left)))
 
 pub read-text-spec : {M : Type 1} → statement M

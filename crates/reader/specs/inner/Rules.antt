@@ -8,7 +8,7 @@ use Rattle.grammar.specs.Files.{Slot}
 use Rattle.grammar.specs.Reading.{Part, took, stop, _then_, expects, read-slot, read-value, read-condition, read-assign}
 use Rattle.model.specs.Result.{pair}
 use Rattle.laws.specs.inner.Filled.{Filled}
-use Rattle.table.specs.Limits.{literal-limit, assignment-limit}
+use Rattle.laws.specs.Limits.{literal-limit, assignment-limit, slot-limit, value-limit}
 use Rattle.table.specs.Shape.{zero-literal, zero-assignment}
 use Rattle.table.specs.declared.Rule as ruled
 use Rattle.steps.specs.inner.Places.{tokens-past}
@@ -39,7 +39,7 @@ pair-part rest base (read.Took s v next) = took (pair s v) (tokens-past rest bas
 pair-part rest base (read.Fault k) = stop k
 
 abbrev pub Pair-lies : ℕ → ℕ → PairRead → Type 0
-Pair-lies size from (read.Took s v next) = (s ≤ 31) × (v ≤ 15) × (from < next) × (next ≤ size)
+Pair-lies size from (read.Took s v next) = (s < slot-limit) × (v ≤ value-limit) × (from < next) × (next ≤ size)
 Pair-lies size from (read.Fault k) = Unit
 
 -- The rest of a rule, after its trigger and IF.

@@ -6,10 +6,9 @@ use mathlib.Core.List.{List, [], _∷_, _++_}
 use lib.ListN.{length}
 use Rattle.text.specs.Tokens.{Token, SLOT}
 use Rattle.model.specs.Rules.{Rule}
-use Rattle.grammar.specs.Limits.{max-slots, max-rules}
+use Rattle.laws.specs.Limits.{slot-limit, rule-limit}
 use Rattle.grammar.specs.Files.{Slot}
 use Rattle.grammar.specs.Reading.{Parsed, accepted, refused, begins-with, read-lines, read-rules}
-use Rattle.table.specs.Limits.{slot-limit, rule-limit}
 use Rattle.table.specs.Link.{rule-of}
 use Rattle.table.specs.declared.Rule as ruled
 use Rattle.steps.specs.inner.Places.{tokens-past}
@@ -24,8 +23,8 @@ use Rattle.reader.specs.declared.statements.Statement.{Statement}
 
 -- What the tokens left come to after these slots and rules: slot lines may still come while there is no rule.
 unfoldable pub read-on : List Slot → List Rule → List Token → Parsed
-read-on slots [] ts = read-lines (max-slots - length slots) slots ts
-read-on slots (r ∷ rs) ts = read-rules (max-rules - length (r ∷ rs)) slots (r ∷ rs) ts
+read-on slots [] ts = read-lines (slot-limit - length slots) slots ts
+read-on slots (r ∷ rs) ts = read-rules (rule-limit - length (r ∷ rs)) slots (r ∷ rs) ts
 
 -- A slot line must stand next.
 abbrev pub Slot-next : List Token → Type 0

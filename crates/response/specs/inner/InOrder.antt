@@ -4,7 +4,7 @@ use mathlib.Core.Path.{_≡_}
 use lib.ListN.{getD}
 use Rattle.laws.specs.Packed.{byte-count}
 use Rattle.table.specs.declared.Table.{Table}
-use Rattle.table.specs.Limits.{slot-limit}
+use Rattle.laws.specs.Limits.{slot-limit}
 use Rattle.cards.specs.declared.Card.{Card}
 use Rattle.cards.specs.declared.Slip.{Slip}
 use Rattle.cards.specs.Forms.{card-bits}

@@ -4,7 +4,7 @@ use mathlib.Core.List.{List}
 use Prim.Native.Nat.{ℕ}
 use Rattle.laws.specs.Filled.{filled}
 use Rattle.model.specs.Result.{new-card}
-use Rattle.table.specs.Limits.{slot-limit, row}
+use Rattle.laws.specs.Limits.{slot-limit, row}
 use Rattle.table.specs.inner.Flat.{set-of}
 
 -- The new card of so many slots, with no value in the places that are not used.

@@ -7,7 +7,7 @@ use Rattle.laws.specs.Truth.{_∧ᵇ_}
 use Rattle.laws.specs.Listed.{all-of}
 use Rattle.model.specs.Rules.{each-once}
 use Rattle.table.specs.declared.Rule.{Rule}
-use Rattle.table.specs.Limits.{literal-limit, assignment-limit}
+use Rattle.laws.specs.Limits.{literal-limit, assignment-limit}
 use Rattle.table.specs.Link.{assignments-of}
 use Rattle.soundness.specs.Sound.{has-pair, named}
 

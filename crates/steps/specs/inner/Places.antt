@@ -5,6 +5,7 @@ use mathlib.Core.Bool.{cond}
 use mathlib.Core.List.{List, [], _∷_}
 use lib.Dec.{eqb}
 use lib.ListN.{take, drop}
+use Rattle.laws.specs.Limits.{name-limit}
 use Rattle.text.specs.Tokens.{Name, Token, word, name, long, bad, tokens-from}
 use Rattle.text.specs.declared.Token as code
 use Rattle.text.specs.declared.Token.the-variants as v
@@ -84,5 +85,5 @@ named-part rest base (named.At start size next) = took (name-past rest base star
 named-part rest base (named.Fault k) = stop k
 
 abbrev pub Named-lies : ℕ → ℕ → Named → Type 0
-Named-lies size from (named.At start length next) = (from < next) × (next ≤ size) × (0 < length) × (length ≤ 24) × (start + length ≡ next)
+Named-lies size from (named.At start length next) = (from < next) × (next ≤ size) × (0 < length) × (length ≤ name-limit) × (start + length ≡ next)
 Named-lies size from (named.Fault k) = Unit

@@ -3,6 +3,7 @@ use Prim.Native.Nat.{ℕ, _+_, _*_, _/_, _%_, _≤_, _<_}
 use mathlib.Core.Path.{_≡_}
 use mathlib.Core.List.{List, [], _∷_}
 use lib.ListN.{length, take, drop}
+use Rattle.laws.specs.Limits.{slot-limit}
 use Rattle.text.specs.Tokens.{Name, Token}
 use Rattle.grammar.specs.Files.{place-in}
 use Rattle.grammar.specs.Reading.{Part, took, stop, _then_, a-name, known-value}
@@ -45,5 +46,5 @@ Number-lies top size from (number.Fault k) = Unit
 
 -- A slot's number is 0 to 31.
 abbrev pub Slot-lies : ℕ → ℕ → Number → Type 0
-Slot-lies size from (number.Is n next) = (n ≤ 31) × (from < next) × (next ≤ size)
+Slot-lies size from (number.Is n next) = (n < slot-limit) × (from < next) × (next ≤ size)
 Slot-lies size from (number.Fault k) = Unit

@@ -11,7 +11,7 @@ use Rattle.model.specs.Strata.{weak, needed, barred}
 use Rattle.model.specs.Circles.{circle-of}
 use Rattle.model.specs.Least.{strata-of}
 use Rattle.table.specs.declared.Table.{Table}
-use Rattle.table.specs.Limits.{rule-limit}
+use Rattle.laws.specs.Limits.{rule-limit}
 use Rattle.table.specs.Link.{rules-of}
 use Rattle.table.specs.inner.Flat.{place-of}
 use Rattle.strata.specs.declared.least.Found.{Found}

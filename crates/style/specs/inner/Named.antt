@@ -4,6 +4,7 @@ use mathlib.Core.Path.{_≡_}
 use mathlib.Core.Bool.{true}
 use mathlib.Core.List.{List, [], _∷_}
 use lib.ListN.{length, getD}
+use Rattle.laws.specs.Limits.{name-limit}
 use Rattle.classes.specs.Classes.{one-of, class-of}
 use Rattle.text.specs.Tokens.{Token, word, name, long, bad, SLOT, WHEN, IF, THEN, AND, NOT, TRUE, OPEN, CLOSE, COMMA, SEMICOLON, BECOMES, HAS, GETS, reserved, place, run, Name}
 use Rattle.grammar.specs.Files.{Slot}
@@ -13,7 +14,7 @@ use Rattle.grammar.specs.Standing.{Named-by}
 pub record Is-name (letters : List ℕ) : Type 0 where
   pub begins : class-of (getD letters 0 0) ≡ 2
   pub goes-on : run letters ≡ length letters
-  pub short : length letters ≤ 24
+  pub short : length letters ≤ name-limit
   pub unreserved : place letters reserved ≡ 0
 
 -- A token that may be laid out: one of the words and marks, or a name.

@@ -3,7 +3,7 @@ use Prim.Native.Nat.{ℕ, _≤_, _<_}
 use lib.ListN.{getD}
 use Rattle.table.specs.declared.Rule.{Rule}
 use Rattle.table.specs.declared.Table.{Table}
-use Rattle.table.specs.Limits.{rule-limit, literal-limit, assignment-limit}
+use Rattle.laws.specs.Limits.{rule-limit, literal-limit, assignment-limit}
 use Rattle.table.specs.Shape.{zero-rule, zero-literal, zero-assignment}
 use Rattle.table.specs.inner.Flat.{Placed}
 

@@ -9,7 +9,7 @@ use Rattle.laws.specs.Truth.{_∧ᵇ_}
 use Rattle.laws.specs.Tabulated.{tabulate}
 use Rattle.model.specs.Rules.{Pair, Pairs}
 use Rattle.model.specs.Result.{pair}
-use Rattle.table.specs.Limits.{slot-limit, row}
+use Rattle.laws.specs.Limits.{slot-limit, row}
 
 -- The places of all slots.
 abbrev pub pair-places : ℕ

@@ -3,7 +3,7 @@ use Prim.Native.Nat.{ℕ, _+_, _*_, _≤_}
 use mathlib.Core.Path.{_≡_}
 use mathlib.Core.List.{List, _++_}
 use lib.ListN.{length, take, drop}
-use Rattle.table.specs.Limits.{slot-limit, rule-limit}
+use Rattle.laws.specs.Limits.{slot-limit, rule-limit}
 
 -- No line of a slot and no line of a rule has more bytes, and so no print of an accepted text has more than `longest` (`print-bounded`, crate `printing`).
 abbrev pub slot-line-most : ℕ

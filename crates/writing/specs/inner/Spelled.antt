@@ -6,7 +6,7 @@ use lib.Dec.{leb}
 use lib.ListN.{length, getD}
 use Rattle.laws.specs.Tabulated.{tabulate}
 use Rattle.table.specs.declared.Table.{Table}
-use Rattle.table.specs.Limits.{slot-limit, value-limit, row}
+use Rattle.laws.specs.Limits.{slot-limit, value-limit, row}
 use Rattle.table.specs.Shape.{zero-slot, zero-rule}
 use Rattle.table.specs.inner.Flat.{place-of}
 use Rattle.table.specs.Link.{rules-of}

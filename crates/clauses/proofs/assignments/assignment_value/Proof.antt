@@ -9,6 +9,7 @@ use Rattle.steps.specs.inner.Spans.{number-part, Number-lies}
 use Rattle.steps.specs.declared.names.Number.the-variants as number
 use Rattle.clauses.proofs.AssignmentLaws as assignments
 use borrow.Author.Needs.{needs}
+use Rattle.laws.specs.Limits.{value-limit}
 use Rattle.clauses.proofs.assignments.assignment_value.Statement.{statement}
 use Rattle.clauses.proofs.assignments.assignment_value.Tie as tie
 
@@ -17,8 +18,8 @@ mark-lies : (c : tie.After-mark) → Step-lies (length (c .before .before .befor
 mark-lies c = subst (Step-lies _ _) (c .mark .given .1) (c .before .before .word-next .ensures .1)
 
 -- The value that was found is 1 to 15.
-found-lies : (c : tie.After-found) → Number-lies 15 (length (c .before .before .before .before .before .before .before .before .before .before .args .rest .now)) (c .before .before .before .before .mark .given .0 .0) (number.Is (c .found .given .0 .0) (c .found .given .0 .1 .0))
-found-lies c = subst (Number-lies 15 _ _) (c .found .given .1) (c .before .before .value-next .ensures .1)
+found-lies : (c : tie.After-found) → Number-lies value-limit (length (c .before .before .before .before .before .before .before .before .before .before .args .rest .now)) (c .before .before .before .before .mark .given .0 .0) (number.Is (c .found .given .0 .0) (c .found .given .0 .1 .0))
+found-lies c = subst (Number-lies value-limit _ _) (c .found .given .1) (c .before .before .value-next .ensures .1)
 
 word-next-requires : tie.Need-word-next-requires
 word-next-requires c κs = search needs

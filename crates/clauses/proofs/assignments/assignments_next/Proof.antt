@@ -5,10 +5,9 @@ use native.Mathlib.Omega.{arith}
 use mathlib.Core.Path.{_≡_, sym, ap, subst, _∙_}
 use mathlib.Core.List.{List, []}
 use lib.ListN.{length}
-use Rattle.grammar.specs.Limits.{max-assignments}
+use Rattle.laws.specs.Limits.{assignment-limit}
 use Rattle.grammar.specs.Files.{Slot}
 use Rattle.grammar.specs.Reading.{read-assignments}
-use Rattle.table.specs.Limits.{assignment-limit}
 use Rattle.steps.specs.inner.Places.{tokens-past, choice, Fork-lies}
 use Rattle.clauses.specs.inner.Literals.{Looked}
 use Rattle.clauses.specs.inner.Assignments.{pairs-in, Unused-zero, assignment-part, Assignment-lies}
@@ -22,7 +21,7 @@ use Rattle.clauses.proofs.assignments.assignments_next.Tie as tie
 abbrev Inv-loop : tie.InvT-loop
 Inv-loop text rest slotspans valuespans start list₀ at₀ list at =
     (start ≤ at) × Unused-zero list × ((base : ℕ) (slots : List Slot) → Looked text slots slotspans valuespans
-    → read-assignments slots max-assignments [] (tokens-past rest base start) ≡ read-assignments slots (assignment-limit - list .count) (pairs-in list) (tokens-past rest base at))
+    → read-assignments slots assignment-limit [] (tokens-past rest base start) ≡ read-assignments slots (assignment-limit - list .count) (pairs-in list) (tokens-past rest base at))
 
 abbrev μ-loop : tie.MeasureT-loop
 μ-loop text rest slotspans valuespans start list₀ at₀ list at = assignment-limit - list .count

@@ -5,7 +5,7 @@ use native.Mathlib.Omega.{arith}
 use mathlib.Core.Path.{_≡_, refl, sym, ap, _∙_}
 use mathlib.Core.List.{_∷_}
 use lib.ListN.{length, drop, getD, length-map}
-use Rattle.table.specs.Limits.{assignment-limit}
+use Rattle.laws.specs.Limits.{assignment-limit}
 use Rattle.table.specs.Link.{assignment-of}
 use Rattle.table.specs.Shape.{zero-assignment}
 use Rattle.model.proofs.Pairs.{assigns-here, assigns-later}

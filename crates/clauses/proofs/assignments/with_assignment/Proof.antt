@@ -2,7 +2,7 @@
 -- Assumes nothing.
 use mathlib.Core.Path.{refl}
 use Rattle.laws.proofs.Filled.{filled-add}
-use Rattle.table.specs.Limits.{assignment-limit}
+use Rattle.laws.specs.Limits.{assignment-limit}
 use Rattle.table.specs.Shape.{zero-assignment}
 use Rattle.clauses.proofs.AssignmentLaws as assignments
 use borrow.Author.Needs.{needs}

@@ -11,7 +11,7 @@ use Rattle.laws.specs.inner.Filled.{Filled}
 use Rattle.laws.proofs.Filled.{filled-none, filled-add}
 use Rattle.table.specs.Shape.{zero-literal}
 use Rattle.grammar.specs.Files.{Slot}
-use Rattle.grammar.specs.Limits.{max-literals}
+use Rattle.laws.specs.Limits.{literal-limit}
 use Rattle.grammar.specs.Reading.{took, read-literal, read-literals}
 use Rattle.steps.specs.inner.Places.{tokens-past, choice, Fork-lies}
 use Rattle.clauses.specs.inner.Literals.{Looked, literal-part, Literal-lies}
@@ -23,14 +23,14 @@ use Rattle.clauses.proofs.conditions.literals_next.Statement.{statement
 use Rattle.clauses.proofs.conditions.literals_next.Tie as tie
 
 abbrev Inv-loop : tie.InvT-loop
-Inv-loop text rest slotspans valuespans start list₀ at₀ list at = (start ≤ at) × Filled 8 zero-literal (list .places) (list .count) × ((base : ℕ) (slots : List Slot) → Looked text slots slotspans valuespans
-    → read-literals slots max-literals [] (tokens-past rest base start) ≡ read-literals slots (8 - list .count) (literals-in list) (tokens-past rest base at))
+Inv-loop text rest slotspans valuespans start list₀ at₀ list at = (start ≤ at) × Filled literal-limit zero-literal (list .places) (list .count) × ((base : ℕ) (slots : List Slot) → Looked text slots slotspans valuespans
+    → read-literals slots literal-limit [] (tokens-past rest base start) ≡ read-literals slots (literal-limit - list .count) (literals-in list) (tokens-past rest base at))
 
 abbrev μ-loop : tie.MeasureT-loop
-μ-loop text rest slotspans valuespans start list₀ at₀ list at = 8 - list .count
+μ-loop text rest slotspans valuespans start list₀ at₀ list at = literal-limit - list .count
 
 -- The literal that was read, where it lies, and that there was room for it.
-room-left : (r : tie.After-read Inv-loop μ-loop) → r .before .before .before .before .loop .list .count < 8
+room-left : (r : tie.After-read Inv-loop μ-loop) → r .before .before .before .before .loop .list .count < literal-limit
 room-left r = r .before .before .before .if1 .left
 
 literal-lies : (r : tie.After-read Inv-loop μ-loop) → Literal-lies (length (r .before .before .before .before .before .before .before .before .before .args .rest .now)) (r .before .before .before .before .loop .at) (read.Took (r .read .given .0 .0) (r .read .given .0 .1 .0))
@@ -44,7 +44,6 @@ no-literals-requires : tie.Need-no-literals-requires Inv-loop μ-loop
 no-literals-requires c κs = search needs
 
 loop-holds : tie.Need-loop-holds Inv-loop μ-loop
-unfolding max-literals
 loop-holds c = let e = c .no-literals .ensures in (omega arith, rw e (filled-none 8 zero-literal), λ base slots L. rw e refl)
 
 no-more-requires : tie.Need-no-more-requires Inv-loop μ-loop
@@ -54,7 +53,7 @@ returns : tie.Need-returns Inv-loop μ-loop
 returns c =
     let l = c .before .before .loop in
     let h : 8 ≤ l .list .count = c .before .if1 .taken in
-    (λ base slots L. l .inv .2 base slots L ∙ conditions.literals-full slots (8 - l .list .count) _ _ (omega arith) ∙ c .no-more .ensures base _, tt, l .inv .1)
+    (λ base slots L. l .inv .2 base slots L ∙ conditions.literals-full slots (literal-limit - l .list .count) _ _ (omega arith) ∙ c .no-more .ensures base _, tt, l .inv .1)
 
 literal-next-requires : tie.Need-literal-next-requires Inv-loop μ-loop
 literal-next-requires c κs = c .before .before .before .before .before .before .pre
@@ -89,12 +88,12 @@ loop-again c =
     let f = w .before .before in
     let r = f .before .before in
     let l = r .before .before .before .before .loop in
-    let h : l .list .count < 8 = room-left r in
+    let h : l .list .count < literal-limit = room-left r in
     let n = literal-lies r in
     let d = subst (Fork-lies _ _) (w .way .given .1) (f .fork-next .ensures .1) in (
       omega (arith, l .inv .0, n .0, d .0),
       filled-add 8 zero-literal _ _ _ (l .inv .1) h,
-      λ base slots L. l .inv .2 base slots L ∙ conditions.literals-on slots (8 - l .list .count) _ _ _ _ _ (omega arith) (literal-read r base slots L) (f .fork-next .ensures .0 base ∙ ap (choice _ base) (w .way .given .1))
+      λ base slots L. l .inv .2 base slots L ∙ conditions.literals-on slots (literal-limit - l .list .count) _ _ _ _ _ (omega arith) (literal-read r base slots L) (f .fork-next .ensures .0 base ∙ ap (choice _ base) (w .way .given .1))
           ∙ ap₂ (λ (k : ℕ) (ls : List model.Literal). read-literals slots k ls (tokens-past (r .before .before .before .before .before .before .before .before .before .args .rest .now) base (w .way .given .0 .0))) (omega arith) (sym (conditions.literals-add _ _ _ (l .inv .1) h)),
     )
 
@@ -107,10 +106,10 @@ returns-2 c =
     let f = w .before .before in
     let r = f .before .before in
     let l = r .before .before .before .before .loop in
-    let h : l .list .count < 8 = room-left r in
+    let h : l .list .count < literal-limit = room-left r in
     let n = literal-lies r in
     let d = subst (Fork-lies _ _) (w .way2 .given .1) (f .fork-next .ensures .1) in (
-      λ base slots L. l .inv .2 base slots L ∙ conditions.literals-end slots (8 - l .list .count) _ _ _ _ _ (omega arith) (literal-read r base slots L) (f .fork-next .ensures .0 base ∙ ap (choice _ base) (w .way2 .given .1))
+      λ base slots L. l .inv .2 base slots L ∙ conditions.literals-end slots (literal-limit - l .list .count) _ _ _ _ _ (omega arith) (literal-read r base slots L) (f .fork-next .ensures .0 base ∙ ap (choice _ base) (w .way2 .given .1))
           ∙ ap (λ (ls : List model.Literal). took ls (tokens-past (r .before .before .before .before .before .before .before .before .before .args .rest .now) base (w .way2 .given .0 .0))) (sym (conditions.literals-add _ _ _ (l .inv .1) h)),
       (omega (arith, l .inv .0, n .0, d .0), d .1),
       filled-add 8 zero-literal _ _ _ (l .inv .1) h,
@@ -125,9 +124,9 @@ returns-3 c =
     let f = w .before .before in
     let r = f .before .before in
     let l = r .before .before .before .before .loop in
-    let h : l .list .count < 8 = room-left r in
+    let h : l .list .count < literal-limit = room-left r in
     let n = literal-lies r in (
-      λ base slots L. l .inv .2 base slots L ∙ conditions.literals-fault slots (8 - l .list .count) _ _ _ _ _ (omega arith) (literal-read r base slots L) (f .fork-next .ensures .0 base ∙ ap (choice _ base) (w .way3 .given .1)),
+      λ base slots L. l .inv .2 base slots L ∙ conditions.literals-fault slots (literal-limit - l .list .count) _ _ _ _ _ (omega arith) (literal-read r base slots L) (f .fork-next .ensures .0 base ∙ ap (choice _ base) (w .way3 .given .1)),
       tt,
       filled-add 8 zero-literal _ _ _ (l .inv .1) h,
     )
@@ -140,8 +139,8 @@ returns-4 c =
     let r = c .before in
     let n = r .before .before in
     let l = n .before .before .loop in
-    let h : l .list .count < 8 = n .before .if1 .left in
-    (λ base slots L. l .inv .2 base slots L ∙ conditions.literals-stop slots (8 - l .list .count) _ _ _ (omega arith) (n .literal-next .ensures .0 base slots L ∙ ap (literal-part _ base) (r .read2 .given .1)), tt, l .inv .1)
+    let h : l .list .count < literal-limit = n .before .if1 .left in
+    (λ base slots L. l .inv .2 base slots L ∙ conditions.literals-stop slots (literal-limit - l .list .count) _ _ _ (omega arith) (n .literal-next .ensures .0 base slots L ∙ ap (literal-part _ base) (r .read2 .given .1)), tt, l .inv .1)
 
 pub literals-next-spec : {M : Type 1} → statement M
 literals-next-spec =

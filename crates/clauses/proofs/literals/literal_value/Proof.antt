@@ -8,12 +8,13 @@ use Rattle.steps.specs.inner.Spans.{number-part, Number-lies}
 use Rattle.steps.specs.declared.names.Number.the-variants as number
 use Rattle.clauses.proofs.LiteralLaws as literals
 use borrow.Author.Needs.{needs}
+use Rattle.laws.specs.Limits.{value-limit}
 use Rattle.clauses.proofs.literals.literal_value.Statement.{statement}
 use Rattle.clauses.proofs.literals.literal_value.Tie as tie
 
 -- The value that was found is 1 to 15.
-found-lies : (c : tie.After-found) → Number-lies 15 (length (c .before .before .before .before .before .before .args .rest .now)) (c .before .before .before .before .before .before .args .at) (number.Is (c .found .given .0 .0) (c .found .given .0 .1 .0))
-found-lies c = subst (Number-lies 15 _ _) (c .found .given .1) (c .before .before .value-next .ensures .1)
+found-lies : (c : tie.After-found) → Number-lies value-limit (length (c .before .before .before .before .before .before .args .rest .now)) (c .before .before .before .before .before .before .args .at) (number.Is (c .found .given .0 .0) (c .found .given .0 .1 .0))
+found-lies c = subst (Number-lies value-limit _ _) (c .found .given .1) (c .before .before .value-next .ensures .1)
 
 value-next-requires : tie.Need-value-next-requires
 value-next-requires c κs = search needs

@@ -3,7 +3,7 @@
 use mathlib.Core.Path.{_≡_, sym, ap, _∙_}
 use Prim.Native.Nat.{_-_, _≤_, _<_}
 use lib.ListN.{length, getD}
-use Rattle.table.specs.Limits.{slot-limit}
+use Rattle.laws.specs.Limits.{slot-limit}
 use Rattle.laws.specs.Answers.{passed, fault}
 use Rattle.cards.specs.Cards.{card-values}
 use Rattle.cards.specs.inner.Fitting.{counts-in, verdict-outcome}

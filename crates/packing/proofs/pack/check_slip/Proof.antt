@@ -4,7 +4,7 @@ use mathlib.Core.Path.{_≡_, sym, ap, ap₂, _∙_}
 use Prim.Native.Nat.{ℕ, _-_, _≤_, _<_}
 use lib.ListN.{length, getD}
 use Rattle.model.specs.Result.{pair}
-use Rattle.table.specs.Limits.{slot-limit}
+use Rattle.laws.specs.Limits.{slot-limit}
 use Rattle.cards.specs.Forms.{change-fault}
 use Rattle.cards.specs.Cards.{changes-of}
 use Rattle.cards.specs.inner.Fitting.{counts-in, verdict-outcome}

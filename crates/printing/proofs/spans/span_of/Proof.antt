@@ -1,17 +1,15 @@
 -- `spans::span_of` meets its contract.
 -- Assumes nothing.
 use mathlib.Core.Path.{refl}
-use Rattle.grammar.specs.Limits.{max-text}
+use Rattle.laws.specs.Limits.{text-limit}
 use borrow.Author.Needs.{needs}
 use Rattle.printing.proofs.spans.span_of.Statement.{statement}
 use Rattle.printing.proofs.spans.span_of.Tie as tie
 
 mul-result : tie.Need-mul-result
-unfolding max-text
 mul-result c = search needs
 
 add-result : tie.Need-add-result
-unfolding max-text
 add-result c = search needs
 
 returns : tie.Need-returns

@@ -3,7 +3,7 @@
 use Prim.Native.Nat.{_-_}
 use native.Mathlib.Omega.{arith}
 use mathlib.Core.Path.{ap, subst, _∙_}
-use Rattle.grammar.specs.Limits.{max-rules}
+use Rattle.laws.specs.Limits.{rule-limit}
 use Rattle.steps.specs.inner.Places.{step-part, Step-lies, outcome-part}
 use Rattle.table.specs.Link.{rule-of}
 use Rattle.reader.proofs.StatementLaws as statements
@@ -24,7 +24,6 @@ empty-rule-requires : tie.Need-empty-rule-requires
 empty-rule-requires c κs = search needs
 
 returns : tie.Need-returns
-unfolding max-rules
 returns c =
     let a = c .before .before in
     let w = a .before .before in
@@ -41,7 +40,6 @@ empty-rule-requires-2 : tie.Need-empty-rule-requires-2
 empty-rule-requires-2 c κs = search needs
 
 returns-2 : tie.Need-returns-2
-unfolding max-rules
 returns-2 c =
     let a = c .before .before .before in
     let w = a .before .before in
@@ -64,7 +62,6 @@ no-line-requires-4 : tie.Need-no-line-requires-4
 no-line-requires-4 c κs = search needs
 
 returns-3 : tie.Need-returns-3
-unfolding max-rules
 returns-3 c =
     let a = c .before .before in
     let k = a .before .before .before in
@@ -77,7 +74,6 @@ returns-3 c =
     )
 
 returns-4 : tie.Need-returns-4
-unfolding max-rules
 returns-4 c =
     let a = c .before .before in
     let k = a .before .before .before in

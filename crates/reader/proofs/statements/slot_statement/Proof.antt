@@ -3,7 +3,7 @@
 use Prim.Native.Nat.{_-_}
 use native.Mathlib.Omega.{arith}
 use mathlib.Core.Path.{refl, ap, subst, _∙_}
-use Rattle.grammar.specs.Limits.{max-slots}
+use Rattle.laws.specs.Limits.{slot-limit}
 use Rattle.steps.specs.inner.Places.{Step-lies, outcome-part}
 use Rattle.lines.specs.inner.Index.{span-slot}
 use Rattle.lines.specs.inner.Lines.{Line-lies}
@@ -20,7 +20,6 @@ empty-rule-requires : tie.Need-empty-rule-requires
 empty-rule-requires c κs = search needs
 
 returns : tie.Need-returns
-unfolding max-slots
 returns c =
     let h = c .before .before .if1 .taken in
     (λ slots valuespans I e n. statements.on-line-full slots _ (omega arith) n, tt)
@@ -41,7 +40,6 @@ empty-rule-requires-3 : tie.Need-empty-rule-requires-3
 empty-rule-requires-3 c κs = search needs
 
 returns-2 : tie.Need-returns-2
-unfolding max-slots
 returns-2 c =
     let a = c .before .before in
     let k = a .before .before in
@@ -56,7 +54,6 @@ returns-2 c =
     )
 
 returns-3 : tie.Need-returns-3
-unfolding max-slots
 returns-3 c =
     let a = c .before .before in
     let k = a .before .before in

@@ -1,7 +1,7 @@
 -- `results::ending::changed_value` meets its contract.
 -- Assumes nothing.
 use Prim.Native.Nat.{_-_, _≤_}
-use Rattle.table.specs.Limits.{row}
+use Rattle.laws.specs.Limits.{row}
 use Rattle.results.proofs.Values.{NoneBelow, none-start, none-next, value-found, value-none}
 use borrow.Author.Needs.{needs}
 use Rattle.results.proofs.ending.changed_value.Statement.{statement}

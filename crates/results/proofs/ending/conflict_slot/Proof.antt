@@ -3,7 +3,7 @@
 use mathlib.Core.Path.{_≡_}
 use mathlib.Core.Logic.{⊎-elim}
 use Prim.Native.Nat.{_-_, _≤_}
-use Rattle.table.specs.Limits.{row}
+use Rattle.laws.specs.Limits.{row}
 use Rattle.results.proofs.Values.{values-below, values-start, values-next, CalmBelow, calm-start, calm-next, conflict-found, conflict-none}
 use native.Mathlib.Omega.{arith}
 use borrow.Author.Needs.{needs}

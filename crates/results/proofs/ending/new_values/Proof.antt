@@ -6,7 +6,7 @@ use Prim.Native.Nat.{_-_, _≤_}
 use Rattle.laws.specs.Filled.{filled}
 use Rattle.laws.specs.Tabulated.{tabulate}
 use Rattle.model.specs.Result.{new-value, new-card}
-use Rattle.table.specs.Limits.{slot-limit, row}
+use Rattle.laws.specs.Limits.{slot-limit, row}
 use Rattle.table.specs.inner.Flat.{set-of}
 use Rattle.results.specs.inner.Ending.{new-places}
 use Rattle.results.proofs.Values.{new-changed, new-kept, filled-next}

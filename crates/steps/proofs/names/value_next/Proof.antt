@@ -9,11 +9,12 @@ use native.Mathlib.Nat.{add-sub-cancel-left}
 use Rattle.grammar.specs.Files.{values-of}
 use Rattle.steps.proofs.Spans as spans
 use borrow.Author.Needs.{needs}
+use Rattle.laws.specs.Limits.{value-limit, row}
 use Rattle.steps.proofs.names.value_next.Statement.{statement}
 use Rattle.steps.proofs.names.value_next.Tie as tie
 
 -- The part handed on is the 15 places of the slot's values.
-part-is : (xs : List ℕ) (s : ℕ) → take (s * 16 + 1 + 15 - (s * 16 + 1)) (drop (s * 16 + 1) xs) ≡ take 15 (drop (s * 16 + 1) xs)
+part-is : (xs : List ℕ) (s : ℕ) → take (s * 16 + 1 + 15 - (s * 16 + 1)) (drop (s * 16 + 1) xs) ≡ take value-limit (drop (s * row + 1) xs)
 part-is xs s = rw add-sub-cancel-left
 
 part-length : (xs : List ℕ) (s : ℕ) → length (take (s * 16 + 1 + 15 - (s * 16 + 1)) (drop (s * 16 + 1) xs)) ≤ 15

@@ -5,7 +5,7 @@ use Prim.Native.Nat.{ℕ, _-_, _≤_, _<_}
 use lib.ListN.{length, getD}
 use Rattle.laws.specs.Filled.{filled}
 use Rattle.laws.specs.Packed.{byte-count}
-use Rattle.table.specs.Limits.{slot-limit}
+use Rattle.laws.specs.Limits.{slot-limit}
 use Rattle.laws.specs.Answers.{passed, fault}
 use Rattle.cards.specs.Forms.{card-bits, count-in, values-in, padding, card-test}
 use Rattle.cards.specs.Cards.{card-read, card-of}

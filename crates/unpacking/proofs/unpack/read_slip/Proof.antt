@@ -5,7 +5,7 @@ use Prim.Native.Nat.{ℕ, _-_, _≤_, _<_}
 use lib.ListN.{length, getD}
 use Rattle.laws.specs.Packed.{byte-count}
 use Rattle.model.specs.Result.{pair}
-use Rattle.table.specs.Limits.{slot-limit}
+use Rattle.laws.specs.Limits.{slot-limit}
 use Rattle.laws.specs.Answers.{passed}
 use Rattle.cards.specs.Forms.{slip-bits, count-in, changes-in, padding, change-fault, slip-test}
 use Rattle.cards.specs.Cards.{no-change, change-of, slip-read, slip-of}

@@ -7,7 +7,7 @@ use mathlib.Core.List.{List, _++_}
 use lib.ListN.{length, getD}
 use borrow.Author.Needs.{needs}
 use Rattle.laws.specs.Quoted.{bytes-from, bytes}
-use Rattle.table.specs.Limits.{row}
+use Rattle.laws.specs.Limits.{row}
 use Rattle.writing.specs.inner.Puts.{longest}
 use Rattle.writing.specs.inner.Spelled.{spelled}
 use Rattle.writing.proofs.Putting.{puts-on, puts-as, room-first, room-rest, Left, left-start, left-on, left-room, left-as, left-end}

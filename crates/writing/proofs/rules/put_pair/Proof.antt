@@ -6,7 +6,7 @@ use mathlib.Core.List.{List, _++_}
 use lib.ListN.{length, getD}
 use borrow.Author.Needs.{needs}
 use Rattle.model.specs.Result.{pair}
-use Rattle.table.specs.Limits.{row}
+use Rattle.laws.specs.Limits.{row}
 use Rattle.writing.specs.inner.Puts.{longest, Puts}
 use Rattle.writing.specs.inner.Spelled.{spelled, spelled-pair}
 use Rattle.writing.proofs.Putting.{puts-on, room-first, room-rest}

@@ -1,15 +1,23 @@
--- Document 01, 'Rule text': the limits of a table.
+-- Document 01, 'Rule text': the limits, each said once.
 use Prim.Native.Nat.{ℕ}
 
--- Slots.
+-- Bytes in a text.
+abbrev pub text-limit : ℕ
+text-limit = 65535
+
+-- Bytes in a name.
+abbrev pub name-limit : ℕ
+name-limit = 24
+
+-- Slots in a file.
 abbrev pub slot-limit : ℕ
 slot-limit = 32
 
--- Values for each slot.
+-- Values in a slot.
 abbrev pub value-limit : ℕ
 value-limit = 15
 
--- Rules.
+-- Rules in a file.
 abbrev pub rule-limit : ℕ
 rule-limit = 255
 
@@ -21,6 +29,6 @@ literal-limit = 8
 abbrev pub assignment-limit : ℕ
 assignment-limit = 4
 
--- The places of one slot in an array indexed by pair: its values, and 0.
+-- The values of a slot and 0, which stands for none: the places of one slot in an array indexed by pair.
 abbrev pub row : ℕ
 row = 16
