@@ -8,7 +8,6 @@ use mathlib.Core.List.{List, [], _∷_, _++_}
 use Rattle.laws.specs.Quoted.{bytes-from, bytes}
 use Rattle.classes.specs.Classes.{class-of}
 use Rattle.text.specs.Tokens.{Name, reserved, mark-of, run-token, run, token-here, more-bytes, tokens-from, tokens}
-use Rattle.laws.specs.Limits.{text-limit, slot-limit, value-limit, rule-limit, literal-limit, assignment-limit}
 use Rattle.grammar.specs.Files.{Slot}
 use Rattle.laws.specs.Truth.{_∨ᵇ_}
 use Rattle.model.specs.Rules.{assigns}

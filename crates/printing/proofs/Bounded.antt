@@ -10,7 +10,7 @@ use lib.ListN.{length, length-append, length-map}
 use Rattle.laws.specs.Quoted.{bytes-from, bytes}
 use Rattle.text.specs.Tokens.{Name}
 use Rattle.model.specs.Rules.{Pair, Literal, Rule}
-use Rattle.laws.specs.Limits.{slot-limit, value-limit, rule-limit, literal-limit, assignment-limit, name-limit}
+use Rattle.laws.specs.Limits.{name-limit}
 use Rattle.grammar.specs.Files.{Slot, File, spellings, slot-named, value-named}
 use Rattle.grammar.specs.Meaning.{Is-file}
 use Rattle.grammar.proofs.Declared.{Declared-pair, Declared-rule, Valued, file-declared}

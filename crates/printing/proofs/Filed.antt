@@ -13,7 +13,7 @@ use Rattle.laws.proofs.Truth.{and-l}
 use Rattle.laws.proofs.Tabulated.{is-tabulate}
 use Rattle.text.specs.Tokens.{Name}
 use Rattle.model.specs.Rules.{Pair, Literal, Rule}
-use Rattle.laws.specs.Limits.{slot-limit, value-limit, row}
+use Rattle.laws.specs.Limits.{value-limit, row}
 use Rattle.grammar.specs.Files.{Slot, File, spellings, slot-names, values-of, no-slot}
 use Rattle.grammar.specs.Meaning.{Is-file}
 use Rattle.grammar.proofs.Accepts.{accepts-iff}

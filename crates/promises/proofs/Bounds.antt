@@ -19,7 +19,7 @@ use Rattle.model.proofs.Pairs.{same-eq, among-at}
 use Rattle.model.proofs.Changes.{cause}
 use Rattle.model.proofs.Orders.{are-rules}
 use Rattle.model.proofs.Results.{value-in-right, slip-e, slip-rising, new-card-length, new-card-at}
-use Rattle.laws.specs.Limits.{row, slot-limit, value-limit}
+use Rattle.laws.specs.Limits.{row, value-limit}
 use Rattle.grammar.specs.Files.{Slot, File, no-slot, slot-counts}
 use Rattle.grammar.proofs.Declared.{Declared-pair, slot-declared, value-declared, Declared-rule, Valued, Declared-file}
 use Rattle.laws.specs.Answers.{passed}

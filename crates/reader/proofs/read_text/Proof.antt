@@ -1,7 +1,6 @@
 -- `reader::read_text` meets its contract.
 -- Assumes nothing.
 use mathlib.Core.Path.{refl, sym, ap, _∙_}
-use Rattle.laws.specs.Limits.{text-limit}
 use Rattle.reader.specs.Tables.{file-read}
 use Rattle.grammar.proofs.Forward.{read-short}
 use Rattle.reader.proofs.ReadLaws.{answer-refused, read-long}

@@ -1,7 +1,6 @@
 -- `spans::span_of` meets its contract.
 -- Assumes nothing.
 use mathlib.Core.Path.{refl}
-use Rattle.laws.specs.Limits.{text-limit}
 use borrow.Author.Needs.{needs}
 use Rattle.printing.proofs.spans.span_of.Statement.{statement}
 use Rattle.printing.proofs.spans.span_of.Tie as tie

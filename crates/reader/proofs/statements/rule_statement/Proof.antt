@@ -3,7 +3,6 @@
 use Prim.Native.Nat.{_-_}
 use native.Mathlib.Omega.{arith}
 use mathlib.Core.Path.{ap, subst, _∙_}
-use Rattle.laws.specs.Limits.{rule-limit}
 use Rattle.steps.specs.inner.Places.{step-part, Step-lies, outcome-part}
 use Rattle.table.specs.Link.{rule-of}
 use Rattle.reader.proofs.StatementLaws as statements

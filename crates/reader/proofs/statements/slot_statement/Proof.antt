@@ -3,7 +3,6 @@
 use Prim.Native.Nat.{_-_}
 use native.Mathlib.Omega.{arith}
 use mathlib.Core.Path.{refl, ap, subst, _∙_}
-use Rattle.laws.specs.Limits.{slot-limit}
 use Rattle.steps.specs.inner.Places.{Step-lies, outcome-part}
 use Rattle.lines.specs.inner.Index.{span-slot}
 use Rattle.lines.specs.inner.Lines.{Line-lies}
