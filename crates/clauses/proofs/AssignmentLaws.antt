@@ -3,7 +3,7 @@
 use Prim.Native.Nat.{ℕ, suc, _+_, _-_, _≤_, _<_, min}
 use native.Mathlib.Omega.{arith}
 use native.Mathlib.Numerals.{add-one}
-use mathlib.Core.Path.{_≡_, refl, ap, _∙_}
+use mathlib.Core.Path.{_≡_, ap, _∙_}
 use mathlib.Core.Bool.{Bool, true, false}
 use mathlib.Core.List.{List, [], _∷_, _++_, map}
 use lib.ListN.{length, take, drop, getD, set, length-map, length-take, List·getD-map, drop-of-length-le}
@@ -29,10 +29,6 @@ use Rattle.clauses.specs.declared.assignments.AssignmentRead.the-variant
 use Rattle.clauses.proofs.ListLaws as lists
 use Rattle.steps.proofs.Places.{next-is, next-not}
 use Rattle.clauses.proofs.LiteralLaws.{slot-inside}
-
--- The room for assignments is the table's.
-pub room-is : assignment-limit ≡ assignment-limit
-room-is = refl
 
 -- No assignments.
 pub none-zero : Unused-zero (assignment-list [])
@@ -130,7 +126,7 @@ lies-earlier size from later (read.Fault k) h d = tt
 -- The list of assignments, where `room` more may come: none may; the next is refused; it is read, and the list goes on, ends, or is refused.
 pub list-start : (slots : List Slot) (list : Assignments) (ts : List Token) → list ≡ assignment-list []
     → read-assignments slots assignment-limit [] ts ≡ read-assignments slots (assignment-limit - list .count) (pairs-in list) ts
-list-start slots list ts e = rw (room-is, e)
+list-start slots list ts e = rw e
 
 pub list-full : (slots : List Slot) (room : ℕ) (sofar : List Pair) (ts : List Token) → room ≡ 0 → read-assignments slots room sofar ts ≡ no-assignment sofar ts
 unfolding read-assignments

@@ -1,7 +1,7 @@
 // Assignments: a slot's name, `:=`, a value's name; one of them, or a list in braces.
 ghost use mathlib.Core.Path.{_≡_};
 ghost use mathlib.Core.List.{List, [], _∷_, _++_};
-ghost use Prim.Native.Nat.{ℕ, _+_, _*_, _≤_, _<_};
+ghost use Prim.Native.Nat.{ℕ, _+_, _*_, _<_};
 ghost use lib.ListN.{length, take, drop};
 ghost use Rattle.table.specs.inner.Flat.{pair-places};
 ghost use Rattle.model.specs.Rules.{Pair, assigns};

@@ -14,7 +14,7 @@ use Rattle.tally.specs.declared.Tally.{Tally}
 use Rattle.response.specs.declared.Outcome.{Outcome}
 use Rattle.response.specs.declared.Outcome.the-variants.{Answered, Refused}
 use Rattle.response.specs.declared.Response.{Response}
-use Rattle.response.specs.Respond as responding
+use Rattle.response.specs.Respond.{response-refusal, response-second}
 use Rattle.library.specs.declared.RlRead.{RlRead}
 use Rattle.library.specs.declared.RlPrinted.{RlPrinted}
 use Rattle.library.specs.declared.RlName.{RlName}
@@ -60,7 +60,7 @@ fired-count (Refused k s) = 0
 -- An outcome by numbers, with a tally as it is.
 abbrev pub numbered : Outcome → Tally → RlResponse
 numbered o y =
-    record { number = responding.response-refusal o; second = responding.response-second o; length = changes-length o; fired = fired-count o; tally = y }
+    record { number = response-refusal o; second = response-second o; length = changes-length o; fired = fired-count o; tally = y }
 
 -- A response.
 abbrev pub response-numbers : Response → RlResponse

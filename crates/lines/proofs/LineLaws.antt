@@ -33,10 +33,6 @@ pub new-free : (names : List Name) (ts left : List Token) (n : Name) (p : ℕ) �
 unfolding new-name _then_ new
 new-free names ts left n p e f z = rw (e, ← f, z)
 
--- The room for values is the table's.
-pub room-is : value-limit ≡ value-limit
-room-is = refl
-
 -- The values, where `room` more may come: no new name; one too many; one more, and what follows it.
 pub values-fault : (room : ℕ) (sofar : List Name) (ts : List Token) (k : ℕ) → new-name sofar ts ≡ stop k → read-values room sofar ts ≡ stop k
 unfolding read-values read-list no-value _then_

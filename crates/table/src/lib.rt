@@ -5,7 +5,7 @@ ghost use Rattle.table.specs.inner.Flat.{Placed, At};
 ghost use Rattle.table.specs.Link.{literal-of};
 ghost use Rattle.model.specs.Strata.{is-becomes, is-plain, is-under-not};
 
-// The limits of document 01; specs/Limits.antt has the same numbers.
+// The limits of document 01; `laws/specs/Limits.antt` has the same numbers.
 pub const SLOTS: usize = 32;
 
 pub const VALUES: usize = 15;

@@ -54,7 +54,7 @@ values-left c w e =
     sym (l .inv .2) ∙ lines.values-step _ (l .spans) (l .count) _ _ _ _ (l .inv .0) (c .before .if1 .left) (name-read (c .before .before .before)) (c .fork-next .ensures .0 _ ∙ ap (choice _ _) e)
 
 loop-holds : tie.Need-loop-holds Inv-loop μ-loop
-loop-holds c = (index.values-none _, omega arith, rw (lines.room-is) refl)
+loop-holds c = (index.values-none _, omega arith, refl)
 
 slice-aggregate-new-next : tie.Need-slice-aggregate-new-next Inv-loop μ-loop
 slice-aggregate-new-next c = search needs
