@@ -15,7 +15,7 @@ use Rattle.model.specs.Rules.{Pair}
 use Rattle.table.specs.declared.Slot.{Slot}
 use Rattle.table.specs.declared.Table.{Table}
 use Rattle.laws.specs.Limits.{slot-limit}
-use Rattle.table.specs.Shape.{Shaped}
+use Rattle.table.specs.inner.Shape.{Shaped}
 use Rattle.table.specs.Link.{value-counts}
 use Rattle.soundness.specs.Sound.{sound}
 use Rattle.soundness.proofs.Sound.{sound-width}

@@ -13,7 +13,7 @@ use Rattle.laws.proofs.Tabulated.{is-tabulate}
 use Rattle.model.specs.Rules.{Pair}
 use Rattle.table.specs.declared.Table.{Table}
 use Rattle.laws.specs.Limits.{slot-limit, value-limit}
-use Rattle.table.specs.Shape.{Shaped}
+use Rattle.table.specs.inner.Shape.{Shaped}
 use Rattle.table.specs.Link.{value-counts}
 use Rattle.table.proofs.Link.{count-is}
 use Rattle.table.proofs.Link as link

@@ -15,7 +15,7 @@ use Rattle.text.specs.Tokens.{Name, Token, GETS, OPEN, CLOSE, COMMA}
 use Rattle.model.proofs.Pairs.{assigns-none}
 use Rattle.model.specs.Rules.{Pair, assigns}
 use Rattle.laws.specs.Limits.{assignment-limit}
-use Rattle.table.specs.Shape.{zero-assignment}
+use Rattle.table.specs.Zero.{zero-assignment}
 use Rattle.table.specs.Link.{assignment-of}
 use Rattle.table.specs.declared.Assignment.{Assignment}
 use Rattle.grammar.specs.Files.{Slot}

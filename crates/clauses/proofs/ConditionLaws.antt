@@ -18,7 +18,7 @@ use Rattle.text.specs.declared.Token.the-variants as v
 use Rattle.text.proofs.Token as kinds
 use Rattle.model.specs.Rules as model
 use Rattle.table.specs.Link.{literal-of}
-use Rattle.table.specs.Shape.{zero-literal}
+use Rattle.table.specs.Zero.{zero-literal}
 use Rattle.table.specs.declared.Literal.{Literal}
 use Rattle.grammar.specs.Files.{Slot}
 use Rattle.grammar.specs.Reading.{took, stop, expects, fork, read-literal, no-literal, read-literals, read-condition}

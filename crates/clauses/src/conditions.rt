@@ -6,7 +6,7 @@ ghost use lib.ListN.{length, replicate};
 ghost use Rattle.table.specs.inner.Flat.{pair-places};
 ghost use Rattle.laws.specs.inner.Filled.{Filled};
 ghost use Rattle.model.specs.Rules as model;
-ghost use Rattle.table.specs.Shape.{zero-literal};
+ghost use Rattle.table.specs.Zero.{zero-literal};
 ghost use Rattle.grammar.specs.Files.{Slot};
 ghost use Rattle.laws.specs.Limits.{literal-limit};
 ghost use Rattle.grammar.specs.Reading.{stop, read-literals, read-condition, no-literal};

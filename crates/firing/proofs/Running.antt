@@ -28,7 +28,8 @@ use Rattle.model.proofs.Loop.{Reached, start, level-fires, levels-end}
 use Rattle.model.proofs.Exists.{loop-end}
 use Rattle.table.specs.declared.Table.{Table}
 use Rattle.laws.specs.Limits.{rule-limit}
-use Rattle.table.specs.Shape.{zero-rule, Shaped}
+use Rattle.table.specs.Zero.{zero-rule}
+use Rattle.table.specs.inner.Shape.{Shaped}
 use Rattle.table.specs.Link.{rule-of, rules-of, assignments-of, stratum-at}
 use Rattle.table.specs.inner.Flat.{set-of, flags-of, pairs-of, add-pairs, pair-places}
 use Rattle.table.specs.inner.Fits.{TableFits}

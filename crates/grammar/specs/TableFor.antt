@@ -7,7 +7,7 @@ use Rattle.grammar.specs.Files.{Slot, File}
 use Rattle.table.specs.declared.Name as stretch
 use Rattle.table.specs.declared.Slot as tabled
 use Rattle.laws.specs.Limits.{value-limit, slot-limit, rule-limit, literal-limit, assignment-limit}
-use Rattle.table.specs.Shape.{zero-name, zero-literal, zero-assignment}
+use Rattle.table.specs.Zero.{zero-name, zero-literal, zero-assignment}
 use Rattle.model.specs.Rules.{Pair}
 use Rattle.table.specs.declared.Assignment.{Assignment}
 use Rattle.model.specs.Rules as model

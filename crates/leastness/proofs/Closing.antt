@@ -22,7 +22,8 @@ use Rattle.model.proofs.Pairs.{needed-tested, barred-tested, meet-i}
 use Rattle.table.specs.declared.Rule.{Rule}
 use Rattle.table.specs.declared.Table.{Table}
 use Rattle.laws.specs.Limits.{rule-limit}
-use Rattle.table.specs.Shape.{zero-rule, Shaped}
+use Rattle.table.specs.Zero.{zero-rule}
+use Rattle.table.specs.inner.Shape.{Shaped}
 use Rattle.table.specs.Link.{assignments-of, rule-of, rules-of, stratum-at, literals-of}
 use Rattle.table.specs.inner.Flat.{place-of, pair-places}
 use Rattle.table.specs.inner.Fits.{RuleFits, TableFits}

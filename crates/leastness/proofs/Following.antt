@@ -21,7 +21,8 @@ use Rattle.model.specs.Justified.{Justified, level-with}
 use Rattle.model.proofs.Pairs.{needed-tested, meet-i, meet-e}
 use Rattle.model.proofs.Justified.{all-justified}
 use Rattle.table.specs.declared.Table.{Table}
-use Rattle.table.specs.Shape.{zero-rule, Shaped}
+use Rattle.table.specs.Zero.{zero-rule}
+use Rattle.table.specs.inner.Shape.{Shaped}
 use Rattle.table.specs.Link.{assignments-of, rules-of, stratum-at}
 use Rattle.table.specs.inner.Flat.{place-of}
 use Rattle.table.specs.inner.Fits.{TableFits}

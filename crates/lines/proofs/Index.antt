@@ -15,7 +15,7 @@ use Rattle.grammar.specs.Files.{Slot, spellings, slot-names, values-of, no-slot
 use Rattle.table.specs.declared.Name as stretch
 use Rattle.laws.specs.Limits.{slot-limit, value-limit, row}
 use Rattle.table.specs.inner.Flat.{pair-places}
-use Rattle.table.specs.Shape.{zero-name}
+use Rattle.table.specs.Zero.{zero-name}
 use Rattle.laws.proofs.Lists.{map-append}
 use Rattle.laws.proofs.Truth.{le-or-lt}
 use Rattle.steps.specs.inner.Places.{name-past, Named-lies}

@@ -10,7 +10,8 @@ use Rattle.model.specs.Rules.{Pair, Pairs, Literal, was, became, test, holds, a
 use Rattle.model.specs.Rules as model
 use Rattle.table.specs.declared.Rule.{Rule}
 use Rattle.laws.specs.Limits.{row, literal-limit}
-use Rattle.table.specs.Shape.{zero-literal, RuleShaped}
+use Rattle.table.specs.Zero.{zero-literal}
+use Rattle.table.specs.inner.Shape.{RuleShaped}
 use Rattle.table.specs.Link.{literal-of, rule-of}
 use Rattle.table.specs.inner.Flat.{place-of, set-of}
 use Rattle.table.proofs.Flat.{set-in}

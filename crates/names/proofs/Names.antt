@@ -15,7 +15,7 @@ use Rattle.table.specs.declared.Name.{Name}
 use Rattle.table.specs.declared.Slot.{Slot}
 use Rattle.table.specs.declared.Table.{Table}
 use Rattle.laws.specs.Limits.{slot-limit, value-limit}
-use Rattle.table.specs.Shape.{zero-name, zero-slot}
+use Rattle.table.specs.Zero.{zero-name, zero-slot}
 use Rattle.names.specs.Names.{part-place, not-shown, has-slot, has-value, show-name, show-slot, show-value-of, show-value}
 
 pub slot-inside : (width slot : ℕ) → has-slot width slot ≡ true → (slot < slot-limit) × (slot < width)

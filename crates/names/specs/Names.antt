@@ -10,7 +10,7 @@ use Rattle.table.specs.declared.Name.{Name}
 use Rattle.table.specs.declared.Slot.{Slot}
 use Rattle.table.specs.declared.Table.{Table}
 use Rattle.laws.specs.Limits.{slot-limit, value-limit}
-use Rattle.table.specs.Shape.{zero-name, zero-slot}
+use Rattle.table.specs.Zero.{zero-name, zero-slot}
 
 -- An answer: 0, where a part of the text begins, and that part; or a refusal's number and an empty part at the beginning.
 pub record Showing : Type 0 where

@@ -20,7 +20,8 @@ use Rattle.grammar.proofs.Accepts.{accepts-iff}
 use Rattle.grammar.proofs.Stands.{file-stands}
 use Rattle.grammar.proofs.Declared.{Declared-pair, slot-declared, value-declared, Declared-rule, Valued, Declared-file, file-declared}
 use Rattle.table.specs.declared.Table.{Table}
-use Rattle.table.specs.Shape.{Shaped, zero-slot, zero-rule}
+use Rattle.table.specs.Zero.{zero-slot, zero-rule}
+use Rattle.table.specs.inner.Shape.{Shaped}
 use Rattle.table.specs.inner.Fits.{TableFits}
 use Rattle.table.specs.inner.Flat.{place-of}
 use Rattle.table.specs.Link.{assignment-of, rule-of}

@@ -19,7 +19,7 @@ use Rattle.grammar.specs.Files.{Slot, no-slot}
 use Rattle.grammar.specs.Standing.{Named-by}
 use Rattle.table.specs.declared.Slot as tabled
 use Rattle.table.specs.declared.Table.{Table}
-use Rattle.table.specs.Shape.{zero-name, zero-slot}
+use Rattle.table.specs.Zero.{zero-name, zero-slot}
 use Rattle.table.specs.Empty.{unused-slot}
 use Rattle.steps.specs.inner.Spans.{span, Span-lies}
 use Rattle.lines.specs.inner.Index.{span-name, span-names, span-slot, Spanned, Indexed}

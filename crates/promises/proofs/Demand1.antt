@@ -15,7 +15,7 @@ use Rattle.table.specs.declared.Name.{Name}
 use Rattle.table.specs.declared.Slot.{Slot}
 use Rattle.table.specs.declared.Table.{Table}
 use Rattle.table.specs.Empty.{empty-table}
-use Rattle.table.specs.Shape.{zero-slot, zero-name}
+use Rattle.table.specs.Zero.{zero-slot, zero-name}
 use Rattle.table.specs.Link.{rules-of, value-counts}
 use Rattle.grammar.specs.Files.{File}
 use Rattle.grammar.specs.Meaning.{Is-file}

@@ -15,7 +15,7 @@ use Rattle.laws.proofs.Truth.{le-or-lt}
 use Rattle.model.specs.Rules.{Pair}
 use Rattle.cards.specs.Forms.{card-bits, slip-bits, count-in, values-in, changes-in, padding, values-test, card-test, change-fault, slip-test, card-bytes, slip-bytes, read-card, read-slip, write-card, write-slip}
 use Rattle.cards.proofs.Tested.{ValuesLeft, values-start, values-next, values-fault, values-end, other-count, same-count, no-pair, ChangesLeft, changes-start, changes-next, changes-fault, changes-end, fault-25, fault-26, fault-27, fault-high, no-fault}
-use Rattle.promises.specs.Reasons.{FirstAbove, ValuesReason, another-count, value-above, ValuesRight, CardReason, card-length, card-values, card-padding, CardRight, PackedCardReason, packed-values, packed-card-room, slot-of, value-of, Rises, slot-lacking, not-rising, value-lacking, ChangeFault, ChangeRight, FirstFaulty, ChangesRight, SlipReason, slip-length, slip-change, slip-padding, SlipRight, PackedSlipReason, too-many, packed-change, packed-slip-room}
+use Rattle.promises.specs.Reasons.{FirstAbove, ValuesReason, another-count, value-above, ValuesRight, CardReason, card-length, values-refused, card-padding, CardRight, PackedCardReason, packed-values, packed-card-room, slot-of, value-of, Rises, slot-lacking, not-rising, value-lacking, ChangeFault, ChangeRight, FirstFaulty, ChangesRight, SlipReason, slip-length, slip-change, slip-padding, SlipRight, PackedSlipReason, too-many, packed-change, packed-slip-room}
 
 -- What is taken has a property, and what is refused a reason.
 abbrev pub Judged : {A : Type 0} → (ℕ → ℕ → Type 0) → (A → Type 0) → OrRefused A → Type 0
@@ -69,7 +69,7 @@ unfolding read-card
 card-judged counts ys =
     judged-if (CardReason counts ys) (λ vs. (vs ≡ values-in ys) × CardRight counts ys) (eqb (length ys) (byte-count (card-bits (count-in ys)))) _ (refused 20 0)
     (λ b. let l = eqb-true (length ys) _ b in
-    judged-after (CardReason counts ys) (ValuesReason counts (values-in ys)) (ValuesRight counts (values-in ys)) _ (card-test counts (values-in ys)) _ (values-judged counts (values-in ys)) (λ k s r. card-values l r)
+    judged-after (CardReason counts ys) (ValuesReason counts (values-in ys)) (ValuesRight counts (values-in ys)) _ (card-test counts (values-in ys)) _ (values-judged counts (values-in ys)) (λ k s r. values-refused l r)
     (λ v. judged-if (CardReason counts ys) _ (eqb (padding ys (card-bits (count-in ys))) 0) (taken (values-in ys)) (refused 23 0)
     (λ p. (refl, record { long = l; values-right = v; padded = eqb-true _ 0 p })) (λ p. card-padding l v (eqb-false _ 0 p))))
     (λ b. card-length (eqb-false (length ys) _ b))

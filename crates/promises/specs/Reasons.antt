@@ -68,7 +68,7 @@ CardPadded ys = padding ys (card-bits (count-in ys)) ≡ 0
 -- The bytes of a card. 20: not of their own count's length (the empty among them). 21, 22. 23: padding not zero.
 pub data CardReason (counts ys : List ℕ) : ℕ → ℕ → Type 0 where
   card-length : ¬ CardLong ys → CardReason counts ys 20 0
-  card-values : {k s : ℕ} → CardLong ys → ValuesReason counts (values-in ys) k s → CardReason counts ys k s
+  values-refused : {k s : ℕ} → CardLong ys → ValuesReason counts (values-in ys) k s → CardReason counts ys k s
   card-padding : CardLong ys → ValuesRight counts (values-in ys) → ¬ CardPadded ys → CardReason counts ys 23 0
 
 -- None of these.

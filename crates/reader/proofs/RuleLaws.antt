@@ -14,7 +14,7 @@ use Rattle.steps.specs.declared.step.Step.{Step}
 use Rattle.steps.specs.declared.step.Step.the-variants as step
 use Rattle.laws.proofs.Filled.{filled-none}
 use Rattle.laws.specs.Limits.{literal-limit, assignment-limit}
-use Rattle.table.specs.Shape.{zero-literal, zero-assignment}
+use Rattle.table.specs.Zero.{zero-literal, zero-assignment}
 use Rattle.table.specs.Empty.{unused-rule}
 use Rattle.table.specs.Link.{rule-of}
 use Rattle.table.specs.declared.Rule as ruled

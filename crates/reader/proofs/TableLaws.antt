@@ -12,7 +12,7 @@ use Rattle.laws.proofs.Lists.{map-append}
 use Rattle.model.specs.Rules as model
 use Rattle.table.specs.Link.{literal-of, assignment-of, rule-of}
 use Rattle.laws.specs.Limits.{slot-limit, rule-limit, literal-limit, assignment-limit}
-use Rattle.table.specs.Shape.{zero-literal, zero-assignment}
+use Rattle.table.specs.Zero.{zero-literal, zero-assignment}
 use Rattle.table.specs.Empty.{unused-rule, unused-slot, empty-table}
 use Rattle.table.specs.declared.Literal.{Literal}
 use Rattle.table.specs.declared.Assignment.{Assignment}

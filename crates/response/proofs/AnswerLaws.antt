@@ -29,7 +29,7 @@ use Rattle.model.proofs.Alike.{SameCard}
 use Rattle.model.proofs.Pairs.{same-eq}
 use Rattle.table.specs.declared.Table.{Table}
 use Rattle.laws.specs.Limits.{slot-limit, row, rule-limit}
-use Rattle.table.specs.Shape.{Shaped}
+use Rattle.table.specs.inner.Shape.{Shaped}
 use Rattle.table.specs.Link.{rules-of}
 use Rattle.table.specs.inner.Flat.{set-of, add-pairs, pair-places}
 use Rattle.table.proofs.Link.{rules-length}

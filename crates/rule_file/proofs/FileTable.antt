@@ -20,7 +20,8 @@ use Rattle.table.specs.declared.Literal.{Literal}
 use Rattle.table.specs.declared.Rule.{Rule}
 use Rattle.table.specs.declared.Slot.{Slot}
 use Rattle.laws.specs.Limits.{slot-limit, value-limit, rule-limit, literal-limit, assignment-limit}
-use Rattle.table.specs.Shape.{zero-literal, zero-assignment, zero-rule, zero-slot, zero-name, LiteralShaped, AssignmentShaped, RuleShaped, SlotShaped, Shaped}
+use Rattle.table.specs.Zero.{zero-literal, zero-assignment, zero-rule, zero-slot, zero-name}
+use Rattle.table.specs.inner.Shape.{LiteralShaped, AssignmentShaped, RuleShaped, SlotShaped, Shaped}
 use Rattle.table.specs.Empty.{unused-rule, unused-slot}
 use Rattle.table.specs.Link.{literal-of, assignment-of, rule-of, rules-of, value-counts}
 use Rattle.names.specs.Names.{has-slot, has-value}

@@ -15,7 +15,7 @@ use Rattle.grammar.specs.Files.{File, values-of}
 use Rattle.grammar.specs.Standing.{Named-by, Slots-stand}
 use Rattle.table.specs.declared.Slot.{Slot}
 use Rattle.laws.specs.Limits.{slot-limit, value-limit}
-use Rattle.table.specs.Shape.{zero-name, zero-slot}
+use Rattle.table.specs.Zero.{zero-name, zero-slot}
 use Rattle.table.specs.Empty.{unused-slot}
 use Rattle.names.specs.Names.{not-shown, has-slot, has-value, show-name, show-slot, show-value-of, show-value}
 use Rattle.names.proofs.Names.{slot-inside, value-inside, name-inside}

@@ -12,7 +12,8 @@ use Rattle.model.specs.Strata.{weak, Strata}
 use Rattle.model.specs.Least.{LeastStrata}
 use Rattle.table.specs.declared.Table.{Table}
 use Rattle.laws.specs.Limits.{slot-limit, value-limit}
-use Rattle.table.specs.Shape.{zero-slot, Shaped}
+use Rattle.table.specs.Zero.{zero-slot}
+use Rattle.table.specs.inner.Shape.{Shaped}
 use Rattle.table.specs.Link.{rules-of, stratum-at}
 use Rattle.table.specs.inner.Fits.{TableFits}
 use Rattle.soundness.specs.Sound.{within-limits, well-formed, sound}

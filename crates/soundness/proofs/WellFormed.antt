@@ -19,7 +19,8 @@ use Rattle.table.specs.declared.Rule.{Rule}
 use Rattle.table.specs.declared.Slot.{Slot}
 use Rattle.table.specs.declared.Table.{Table}
 use Rattle.laws.specs.Limits.{slot-limit, value-limit, rule-limit, literal-limit, assignment-limit}
-use Rattle.table.specs.Shape.{zero-literal, zero-assignment, zero-rule, zero-slot, RuleShaped, Shaped}
+use Rattle.table.specs.Zero.{zero-literal, zero-assignment, zero-rule, zero-slot}
+use Rattle.table.specs.inner.Shape.{RuleShaped, Shaped}
 use Rattle.table.specs.Link.{literal-of, assignment-of, rule-of, literals-of, assignments-of, slots-of, used-rules, value-counts}
 use Rattle.names.specs.Names.{has-slot}
 use Rattle.table.specs.inner.Flat.{Placed}

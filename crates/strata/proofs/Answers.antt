@@ -15,7 +15,7 @@ use Rattle.model.specs.Least.{strata-of}
 use Rattle.model.proofs.Steps.{lowest-through-not}
 use Rattle.model.proofs.Strata.{no-circle, no-strata, least-strata}
 use Rattle.table.specs.declared.Table.{Table}
-use Rattle.table.specs.Shape.{Shaped}
+use Rattle.table.specs.inner.Shape.{Shaped}
 use Rattle.table.specs.Empty.{empty-table}
 use Rattle.table.specs.Link.{rules-of, stratum-at}
 use Rattle.table.specs.inner.Fits.{TableFits}

@@ -18,7 +18,8 @@ use Rattle.model.proofs.Pairs.{same-eq}
 use Rattle.table.specs.declared.Literal.{Literal}
 use Rattle.table.specs.declared.Rule.{Rule}
 use Rattle.table.specs.declared.Table.{Table}
-use Rattle.table.specs.Shape.{zero-literal, zero-assignment, zero-rule, Shaped}
+use Rattle.table.specs.Zero.{zero-literal, zero-assignment, zero-rule}
+use Rattle.table.specs.inner.Shape.{Shaped}
 use Rattle.table.specs.Link.{literal-of, assignment-of, assignments-of, rule-of, rules-of}
 use Rattle.table.specs.inner.Flat.{Placed}
 use Rattle.table.specs.inner.Fits.{RuleFits, TableFits}

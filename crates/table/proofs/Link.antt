@@ -8,7 +8,7 @@ use lib.Seq.{getD-take}
 use Rattle.model.specs.Orders.{rule-at}
 use Rattle.model.specs.Orders as orders
 use Rattle.table.specs.declared.Table.{Table}
-use Rattle.table.specs.Shape.{zero-rule, zero-slot}
+use Rattle.table.specs.Zero.{zero-rule, zero-slot}
 use Rattle.table.specs.Link.{rule-of, rules-of, carried-strata, stratum-at, value-counts}
 
 pub rules-length : (t : Table) → t .count ≤ length (t .rules) → length (rules-of t) ≡ t .count

@@ -16,7 +16,8 @@ use Rattle.table.specs.declared.Rule.{Rule}
 use Rattle.table.specs.declared.Slot.{Slot}
 use Rattle.table.specs.declared.Table.{Table}
 use Rattle.laws.specs.Limits.{slot-limit, rule-limit, literal-limit, assignment-limit}
-use Rattle.table.specs.Shape.{zero-literal, zero-assignment, zero-rule, zero-slot, LiteralShaped, AssignmentShaped, RuleShaped, SlotShaped, Shaped}
+use Rattle.table.specs.Zero.{zero-literal, zero-assignment, zero-rule, zero-slot}
+use Rattle.table.specs.inner.Shape.{LiteralShaped, AssignmentShaped, RuleShaped, SlotShaped, Shaped}
 use Rattle.table.proofs.Literal as literal
 use Rattle.table.proofs.Assignment as assignment
 use Rattle.table.proofs.Rule as rule

@@ -13,7 +13,8 @@ use Rattle.model.specs.Result.{pair}
 use Rattle.model.specs.Strata.{pairs-where, is-becomes, is-plain, is-under-not, tested, needed, barred}
 use Rattle.table.specs.declared.Rule.{Rule}
 use Rattle.laws.specs.Limits.{literal-limit, assignment-limit}
-use Rattle.table.specs.Shape.{zero-literal, zero-assignment, RuleShaped}
+use Rattle.table.specs.Zero.{zero-literal, zero-assignment}
+use Rattle.table.specs.inner.Shape.{RuleShaped}
 use Rattle.table.specs.Link.{literal-of, literals-of, assignment-of, assignments-of, rule-of}
 
 module _ (r : Rule) where

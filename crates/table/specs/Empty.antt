@@ -4,7 +4,7 @@ use Rattle.table.specs.declared.Rule.{Rule}
 use Rattle.table.specs.declared.Slot.{Slot}
 use Rattle.table.specs.declared.Table.{Table}
 use Rattle.laws.specs.Limits.{slot-limit, value-limit, rule-limit, literal-limit, assignment-limit}
-use Rattle.table.specs.Shape.{zero-literal, zero-assignment, zero-name}
+use Rattle.table.specs.Zero.{zero-literal, zero-assignment, zero-name}
 
 -- A rule's place that is not used.
 abbrev pub unused-rule : Rule

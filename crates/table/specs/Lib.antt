@@ -1,4 +1,4 @@
-pub mod Shape
+pub mod Zero
 pub mod Empty
 pub mod Link
 pub mod inner

@@ -1,2 +1,3 @@
 pub mod Flat
 pub mod Fits
+pub mod Shape

@@ -9,7 +9,8 @@ use Rattle.laws.specs.Quoted.{bytes}
 use Rattle.model.specs.Rules as model
 use Rattle.model.specs.Result.{pair}
 use Rattle.table.specs.declared.Rule.{Rule}
-use Rattle.table.specs.Shape.{zero-literal, zero-assignment, RuleShaped}
+use Rattle.table.specs.Zero.{zero-literal, zero-assignment}
+use Rattle.table.specs.inner.Shape.{RuleShaped}
 use Rattle.laws.specs.Limits.{literal-limit, assignment-limit}
 use Rattle.table.specs.Link.{literal-of, literals-of, assignments-of}
 use Rattle.table.proofs.Walks.{literals-from, literals-start, literals-next, literals-end, assigned-from, assigned-start, assigned-next, assigned-end}

@@ -13,7 +13,8 @@ use Rattle.laws.proofs.Tabulated.{tabulate-length, tabulate-at}
 use Rattle.laws.proofs.Listed.{used-next, used-end}
 use Rattle.model.specs.Rules as model
 use Rattle.table.specs.declared.Table.{Table}
-use Rattle.table.specs.Shape.{zero-slot, zero-rule, Shaped}
+use Rattle.table.specs.Zero.{zero-slot, zero-rule}
+use Rattle.table.specs.inner.Shape.{Shaped}
 use Rattle.laws.specs.Limits.{row, rule-limit}
 use Rattle.table.specs.Link.{rule-of, rules-of}
 use Rattle.writing.specs.inner.Written.{followed, separated, rule-bytes, lines-joined}

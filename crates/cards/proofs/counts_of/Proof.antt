@@ -6,7 +6,7 @@ use lib.ListN.{length, getD}
 use lib.Seq.{length-take-le, getD-take}
 use Rattle.table.specs.declared.Slot.{Slot}
 use Rattle.laws.specs.Limits.{slot-limit}
-use Rattle.table.specs.Shape.{zero-slot}
+use Rattle.table.specs.Zero.{zero-slot}
 use Rattle.table.specs.Link.{slots-of, value-counts}
 use Rattle.table.proofs.Shape.{shaped}
 use Rattle.cards.proofs.Taken.{Gathered, gathered-start, gathered-next, gathered-all}

@@ -4,7 +4,8 @@ use mathlib.Core.Path.{_≡_, sym, _∙_}
 use Prim.Native.Nat.{_+_, _-_, _≤_}
 use Rattle.table.proofs.Shape.{rule-shaped}
 use Rattle.model.specs.Strata.{is-becomes}
-use Rattle.table.specs.Shape.{RuleShaped, zero-literal}
+use Rattle.table.specs.Zero.{zero-literal}
+use Rattle.table.specs.inner.Shape.{RuleShaped}
 use Rattle.table.proofs.Walks.{picked-from, tested-start, picked-end, picked-next, picked-over}
 use lib.ListN.{getD}
 use borrow.Author.Tests.{not-true, not-false}

@@ -8,7 +8,8 @@ use Rattle.circles.proofs.Leading.{leads-here, leads-linked, leads-over
 use mathlib.Core.Path.{_≡_, refl, sym, _∙_, ap}
 use Prim.Native.Nat.{_+_, _-_, _≤_}
 use Rattle.table.proofs.Shape.{rule-shaped}
-use Rattle.table.specs.Shape.{RuleShaped, zero-assignment}
+use Rattle.table.specs.Zero.{zero-assignment}
+use Rattle.table.specs.inner.Shape.{RuleShaped}
 use Rattle.table.proofs.Walks.{assigned-from, assigned-start, assigned-end, assigned-next}
 use Rattle.circles.specs.inner.Links.{linked, leads-to}
 use native.Mathlib.Omega.{arith}

@@ -4,7 +4,7 @@ use mathlib.Core.Path.{_≡_, refl, sym, _∙_, ap}
 use Prim.Native.Nat.{ℕ, _-_, _≤_}
 use Rattle.table.proofs.Shape.{rule-shaped}
 use Rattle.model.specs.Strata.{is-becomes}
-use Rattle.table.specs.Shape.{RuleShaped}
+use Rattle.table.specs.inner.Shape.{RuleShaped}
 use Rattle.table.proofs.Walks.{picked-from, tested-start, picked-end, picked-next, picked-over}
 use borrow.Author.Tests.{not-true, not-false}
 use mathlib.Core.List.{List}

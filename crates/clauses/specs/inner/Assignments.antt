@@ -7,7 +7,7 @@ use Rattle.laws.specs.inner.Filled.{Filled}
 use Rattle.text.specs.Tokens.{Token, GETS}
 use Rattle.model.specs.Rules.{Pair}
 use Rattle.laws.specs.Limits.{assignment-limit}
-use Rattle.table.specs.Shape.{zero-assignment}
+use Rattle.table.specs.Zero.{zero-assignment}
 use Rattle.table.specs.Link.{assignment-of}
 use Rattle.grammar.specs.Files.{Slot}
 use Rattle.grammar.specs.Reading.{Part, took, stop, _then_, expects, read-value, read-assignment}

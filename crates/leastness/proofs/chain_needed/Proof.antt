@@ -5,7 +5,7 @@ use Prim.Native.Nat.{_+_, _-_, _*_, _≤_}
 use borrow.Author.Tests.{not-true, not-false}
 use Rattle.model.specs.Result.{pair}
 use Rattle.model.specs.Strata.{is-plain}
-use Rattle.table.specs.Shape.{RuleShaped}
+use Rattle.table.specs.inner.Shape.{RuleShaped}
 use Rattle.table.proofs.Shape.{rule-shaped}
 use Rattle.table.proofs.Walks.{picked-from, needed-start, picked-end, picked-next, picked-over}
 use Rattle.leastness.specs.inner.Chains.{heads-with, nexts-with}

@@ -9,7 +9,8 @@ use Rattle.model.specs.Result.{pair}
 use Rattle.table.specs.Link.{assignments-of}
 use mathlib.Core.List.{List}
 use Rattle.model.specs.Rules.{Pair}
-use Rattle.table.specs.Shape.{RuleShaped, zero-assignment}
+use Rattle.table.specs.Zero.{zero-assignment}
+use Rattle.table.specs.inner.Shape.{RuleShaped}
 use Rattle.table.proofs.Shape.{rule-shaped}
 use Rattle.table.proofs.Walks.{assigned-from, assigned-start, assigned-end, assigned-next}
 use Rattle.leastness.specs.inner.Flagging.{flagging, Room, flag-all}

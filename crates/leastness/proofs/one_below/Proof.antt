@@ -8,7 +8,8 @@ use borrow.Author.Tests.{not-true, not-false}
 use Rattle.model.specs.Result.{pair}
 use Rattle.table.specs.Link.{rule-of}
 use Rattle.model.specs.Strata.{is-under-not, barred}
-use Rattle.table.specs.Shape.{RuleShaped, zero-literal}
+use Rattle.table.specs.Zero.{zero-literal}
+use Rattle.table.specs.inner.Shape.{RuleShaped}
 use Rattle.table.proofs.Shape.{rule-shaped}
 use Rattle.table.proofs.Walks.{picked-from, barred-start, picked-end, picked-next, picked-over}
 use Rattle.leastness.specs.inner.OneBelow.{one-below}

@@ -6,7 +6,7 @@ use Prim.Native.Nat.{_≤_, _<_}
 use lib.ListN.{getD}
 use borrow.Author.Tests.{not-true, not-false}
 use Rattle.laws.specs.Limits.{slot-limit, value-limit}
-use Rattle.table.specs.Shape.{zero-slot}
+use Rattle.table.specs.Zero.{zero-slot}
 use Rattle.names.specs.Names.{has-slot, has-value}
 use Rattle.names.proofs.Names.{slot-inside, value-inside, value-shown, value-lacking, value-of-shown, value-of-lacking}
 use Rattle.library.specs.Results.{name-numbers}

@@ -9,7 +9,7 @@ use Rattle.grammar.specs.Files.{Slot}
 use Rattle.grammar.specs.Standing.{Slots-stand}
 use Rattle.table.specs.declared.Name.{Name}
 use Rattle.table.specs.declared.Table.{Table}
-use Rattle.table.specs.Shape.{zero-name}
+use Rattle.table.specs.Zero.{zero-name}
 use Rattle.table.specs.Empty.{unused-slot}
 use Rattle.steps.specs.inner.Spans.{span}
 use Rattle.grammar.specs.TableFor.{slot-for}

@@ -9,7 +9,7 @@ use Rattle.grammar.specs.Reading.{Part, took, stop, _then_, expects, read-slot,
 use Rattle.model.specs.Result.{pair}
 use Rattle.laws.specs.inner.Filled.{Filled}
 use Rattle.laws.specs.Limits.{literal-limit, assignment-limit, slot-limit, value-limit}
-use Rattle.table.specs.Shape.{zero-literal, zero-assignment}
+use Rattle.table.specs.Zero.{zero-literal, zero-assignment}
 use Rattle.table.specs.declared.Rule as ruled
 use Rattle.steps.specs.inner.Places.{tokens-past}
 use Rattle.clauses.specs.declared.conditions.Literals.{Literals}

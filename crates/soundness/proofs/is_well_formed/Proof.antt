@@ -3,7 +3,7 @@
 use mathlib.Core.Path.{_≡_, refl, sym, _∙_}
 use Prim.Native.Nat.{_-_, _≤_}
 use borrow.Author.Tests.{not-true, not-false}
-use Rattle.table.specs.Shape.{Shaped}
+use Rattle.table.specs.inner.Shape.{Shaped}
 use Rattle.table.proofs.Shape.{shaped}
 use Rattle.soundness.proofs.WellFormed.{Counted, counted-start, counted-step, RightUpTo, right-start, right-more, many-slots, no-values, many-values, many-rules, wrong-rule, all-right}
 use native.Mathlib.Omega.{arith}

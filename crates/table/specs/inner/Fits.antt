@@ -4,7 +4,7 @@ use lib.ListN.{getD}
 use Rattle.table.specs.declared.Rule.{Rule}
 use Rattle.table.specs.declared.Table.{Table}
 use Rattle.laws.specs.Limits.{rule-limit, literal-limit, assignment-limit}
-use Rattle.table.specs.Shape.{zero-rule, zero-literal, zero-assignment}
+use Rattle.table.specs.Zero.{zero-rule, zero-literal, zero-assignment}
 use Rattle.table.specs.inner.Flat.{Placed}
 
 -- A rule: its numbers of literals and assignments are within the limits, and the pairs of its trigger, of the literals used and of the assignments used have a place.

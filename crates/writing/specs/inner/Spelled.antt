@@ -7,7 +7,7 @@ use lib.ListN.{length, getD}
 use Rattle.laws.specs.Tabulated.{tabulate}
 use Rattle.table.specs.declared.Table.{Table}
 use Rattle.laws.specs.Limits.{slot-limit, value-limit, row}
-use Rattle.table.specs.Shape.{zero-slot, zero-rule}
+use Rattle.table.specs.Zero.{zero-slot, zero-rule}
 use Rattle.table.specs.inner.Flat.{place-of}
 use Rattle.table.specs.Link.{rules-of}
 use Rattle.steps.specs.inner.Spans.{span-letters}

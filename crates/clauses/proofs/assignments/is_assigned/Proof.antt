@@ -7,7 +7,7 @@ use mathlib.Core.List.{_∷_}
 use lib.ListN.{length, drop, getD, length-map}
 use Rattle.laws.specs.Limits.{assignment-limit}
 use Rattle.table.specs.Link.{assignment-of}
-use Rattle.table.specs.Shape.{zero-assignment}
+use Rattle.table.specs.Zero.{zero-assignment}
 use Rattle.model.proofs.Pairs.{assigns-here, assigns-later}
 use Rattle.model.specs.Rules.{assigns}
 use Rattle.clauses.specs.inner.Assignments.{pairs-in}

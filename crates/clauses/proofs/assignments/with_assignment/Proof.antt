@@ -3,7 +3,7 @@
 use mathlib.Core.Path.{refl}
 use Rattle.laws.proofs.Filled.{filled-add}
 use Rattle.laws.specs.Limits.{assignment-limit}
-use Rattle.table.specs.Shape.{zero-assignment}
+use Rattle.table.specs.Zero.{zero-assignment}
 use Rattle.clauses.proofs.AssignmentLaws as assignments
 use borrow.Author.Needs.{needs}
 use Rattle.clauses.proofs.assignments.with_assignment.Statement.{statement}

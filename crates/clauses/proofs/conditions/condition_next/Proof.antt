@@ -5,7 +5,7 @@ use native.Mathlib.Omega.{arith}
 use mathlib.Core.Path.{_≡_, ap, subst, _∙_}
 use lib.ListN.{length}
 use Rattle.laws.proofs.Filled.{filled-none}
-use Rattle.table.specs.Shape.{zero-literal}
+use Rattle.table.specs.Zero.{zero-literal}
 use Rattle.text.specs.Tokens.{TRUE}
 use Rattle.grammar.specs.Reading.{took, expects}
 use Rattle.steps.specs.inner.Places.{tokens-past, step-part, Step-lies, choice, Fork-lies}

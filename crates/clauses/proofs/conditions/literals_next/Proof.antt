@@ -9,7 +9,7 @@ use mathlib.Core.List.{List, []}
 use lib.ListN.{length}
 use Rattle.laws.specs.inner.Filled.{Filled}
 use Rattle.laws.proofs.Filled.{filled-none, filled-add}
-use Rattle.table.specs.Shape.{zero-literal}
+use Rattle.table.specs.Zero.{zero-literal}
 use Rattle.grammar.specs.Files.{Slot}
 use Rattle.laws.specs.Limits.{literal-limit}
 use Rattle.grammar.specs.Reading.{took, read-literal, read-literals}

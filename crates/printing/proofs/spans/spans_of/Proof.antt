@@ -9,7 +9,7 @@ use lib.ListN.{length, take, getD, length-set}
 use lib.Seq.{take-all, take-suc, take-suc-set}
 use Rattle.laws.proofs.Lists.{map-append}
 use Rattle.laws.specs.Limits.{value-limit}
-use Rattle.table.specs.Shape.{zero-name}
+use Rattle.table.specs.Zero.{zero-name}
 use Rattle.table.proofs.Shape.{slot-shaped}
 use Rattle.printing.specs.inner.Tabled.{span-of}
 use borrow.Author.Needs.{needs}

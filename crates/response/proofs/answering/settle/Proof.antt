@@ -6,7 +6,7 @@ use mathlib.Core.List.{List, _++_}
 use Prim.Native.Nat.{ℕ}
 use lib.ListN.{take, drop, replicate}
 use lib.Seq.{length-take-le}
-use Rattle.table.specs.Shape.{Shaped}
+use Rattle.table.specs.inner.Shape.{Shaped}
 use Rattle.laws.specs.Packed.{byte-count}
 use Rattle.table.specs.inner.Flat.{set-of, add-pairs, pair-places}
 use Rattle.table.proofs.Shape.{shaped}

@@ -12,7 +12,8 @@ use borrow.Author.Needs.{needs}
 use Rattle.model.specs.Strata.{is-plain, is-under-not}
 use Rattle.model.proofs.Pairs.{when-plain, when-under-not, when-neither}
 use Rattle.table.specs.declared.Rule.{Rule}
-use Rattle.table.specs.Shape.{RuleShaped, zero-literal}
+use Rattle.table.specs.Zero.{zero-literal}
+use Rattle.table.specs.inner.Shape.{RuleShaped}
 use Rattle.table.specs.Link.{rule-of, literal-of}
 use Rattle.table.proofs.Shape.{rule-shaped}
 use Rattle.table.proofs.Walks.{picked-from, needed-start, barred-start, picked-end, picked-next, picked-over}

@@ -5,7 +5,7 @@ use lib.ListN.{getD}
 use mathlib.Core.Path.{_≡_, refl}
 use Prim.Native.Nat.{_-_, _≤_, max}
 use Rattle.table.proofs.Shape.{rule-shaped}
-use Rattle.table.specs.Shape.{RuleShaped}
+use Rattle.table.specs.inner.Shape.{RuleShaped}
 use Rattle.table.proofs.Walks.{assigned-from, assigned-start, assigned-end, assigned-next}
 use Rattle.strata.specs.inner.Heights.{raise-all}
 use native.Mathlib.Omega.{arith}

@@ -5,7 +5,7 @@ use native.Mathlib.Omega.{arith}
 use mathlib.Core.Path.{_≡_, ap, _∙_}
 use mathlib.Core.List.{List, _++_, append-assoc}
 use borrow.Author.Needs.{needs}
-use Rattle.table.specs.Shape.{Shaped}
+use Rattle.table.specs.inner.Shape.{Shaped}
 use Rattle.table.proofs.Shape.{shaped}
 use Rattle.writing.specs.inner.Spelled.{spelled-file}
 use Rattle.writing.proofs.Putting.{Left, left-start, left-on, left-room, left-as, left-end}

@@ -1,36 +1,14 @@
 -- What the types of the code give every table: the lengths of its arrays and the ranges of its bytes.
 use mathlib.Core.Path.{_≡_}
-use mathlib.Core.Bool.{false}
-use mathlib.Core.List.{[]}
 use Prim.Native.Nat.{ℕ, _<_}
 use lib.ListN.{length, getD}
 use Rattle.table.specs.declared.Literal.{Literal}
 use Rattle.table.specs.declared.Assignment.{Assignment}
 use Rattle.table.specs.declared.Rule.{Rule}
-use Rattle.table.specs.declared.Name.{Name}
 use Rattle.table.specs.declared.Slot.{Slot}
 use Rattle.table.specs.declared.Table.{Table}
 use Rattle.laws.specs.Limits.{slot-limit, value-limit, rule-limit, literal-limit, assignment-limit}
-
--- What reading a list of literals past its end gives.
-abbrev pub zero-literal : Literal
-zero-literal = record { becomes = false; negated = false; slot = 0; value = 0 }
-
--- The same for assignments.
-abbrev pub zero-assignment : Assignment
-zero-assignment = record { slot = 0; value = 0 }
-
--- The same for rules.
-abbrev pub zero-rule : Rule
-zero-rule = record { slot = 0; value = 0; literals = []; tested = 0; assignments = []; assigned = 0; stratum = 0 }
-
--- The same for names.
-abbrev pub zero-name : Name
-zero-name = record { start = 0; size = 0 }
-
--- The same for slots.
-abbrev pub zero-slot : Slot
-zero-slot = record { name = zero-name; values = []; count = 0 }
+use Rattle.table.specs.Zero.{zero-literal, zero-assignment, zero-rule, zero-slot}
 
 -- A literal names its pair in bytes.
 pub record LiteralShaped (l : Literal) : Type 0 where
