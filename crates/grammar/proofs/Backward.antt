@@ -78,7 +78,7 @@ literal-back (name n ∷ ts) slots neg m rest e = plain-back slots neg (name n �
 literal-back (long ∷ ts) slots neg m rest e = never 13 m rest e
 literal-back (bad ∷ ts) slots neg m rest e = never 11 m rest e
 
-literal-meaning : (ts : List Token) (slots : List Slot) (m : Literal) (rest : List Token) (h : Literal-found ts slots false m rest) → Means-literal slots (h .tree) m
+pub literal-meaning : (ts : List Token) (slots : List Slot) (m : Literal) (rest : List Token) (h : Literal-found ts slots false m rest) → Means-literal slots (h .tree) m
 literal-meaning ts slots m rest h = record { mark = h .mark; sign = h .sign; names = h .names }
 
 pub no-literal-back : (sofar : List Literal) (ts : List Token) (out : List Literal) (rest : List Token) → no-literal sofar ts ≡ took out rest → ⊥
@@ -90,7 +90,7 @@ no-literal-back sofar (long ∷ ts) out rest e = never 13 out rest e
 no-literal-back sofar (bad ∷ ts) out rest e = never 11 out rest e
 
 -- A condition that was read, up to its THEN.
-condition-back : (slots : List Slot) (ts : List Token) (out : List Literal) (rest : List Token) → read-condition slots ts ≡ took out rest
+pub condition-back : (slots : List Slot) (ts : List Token) (out : List Literal) (rest : List Token) → read-condition slots ts ≡ took out rest
     → (d : ConditionTree) × (ts ≡ spell-condition d (word THEN ∷ rest)) × Means-condition slots d out × (length out ≤ literal-limit)
 unfolding read-condition read-literals
 condition-back slots ts out rest e =
@@ -109,7 +109,7 @@ condition-back slots ts out rest e =
     start m left x = let a = literal-back ts slots false m left x in (one-literal (a .tree), a .spelled, means-one (literal-meaning ts slots m left a))
 
 -- An assignment that was read.
-assignment-back : (slots : List Slot) (ps : List Pair) (ts : List Token) (p : Pair) (rest : List Token) → read-assignment slots ps ts ≡ took p rest
+pub assignment-back : (slots : List Slot) (ps : List Pair) (ts : List Token) (p : Pair) (rest : List Token) → read-assignment slots ps ts ≡ took p rest
     → (a : AssignmentTree) × (ts ≡ spell-assignment a rest) × Means-assignment slots a p × (assigns ps (p .slot) ≡ false)
 unfolding read-assignment
 assignment-back slots ps ts p rest e =
@@ -130,7 +130,7 @@ unfolding no-assignment
 no-assignment-back sofar ts out rest e = let a = then-back (a-name ts) _ out rest e in never 15 out rest (a .3)
 
 -- There is room for an assignment without braces.
-room-for-one : 1 ≤ assignment-limit
+pub room-for-one : 1 ≤ assignment-limit
 room-for-one = omega arith
 
 -- What was read between THEN and `;`.

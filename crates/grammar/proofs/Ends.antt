@@ -91,10 +91,14 @@ module _ {T : Type 0} (spells : T → List Token → List Token) (past : (t : T)
   piece-spelled b p t rest us n e more =
       sym (refits t rest more) ∙ ap (λ (y : List Token). y ++ word SEMICOLON ∷ more) (sym (ap before-semi e) ∙ before-free (tokens-from b 0 p) us (tokens-free b 0 p n))
 
+  -- Tokens without `;` hold no statement.
+  pub not-free : (t : T) (rest : List Token) → Free (spells t rest) → ⊥
+  not-free t rest h = go (before-semi (spells t rest)) (subst Free (sym (refits t rest rest)) h)
+    where
+      go : (ts : List Token) → Free (ts ++ word SEMICOLON ∷ rest) → ⊥
+      go [] x = let y = x .0 in let z : _≡_ {A = ℕ} 0 1 = cc in absurd (omega arith)
+      go (u ∷ ts) x = go ts (x .1)
+
   -- A text without `;` holds no statement.
   pub no-statement : (w : List ℕ) (p : ℕ) (t : T) (rest : List Token) → No-semi w → tokens-from w 0 p ≡ spells t rest → ⊥
-  no-statement w p t rest n e = not-free (before-semi (spells t rest)) rest (subst Free (e ∙ sym (refits t rest rest)) (tokens-free w 0 p n))
-    where
-      not-free : (ts us : List Token) → Free (ts ++ word SEMICOLON ∷ us) → ⊥
-      not-free [] us h = let x = h .0 in let z : _≡_ {A = ℕ} 0 1 = cc in absurd (omega arith)
-      not-free (t ∷ ts) us h = not-free ts us (h .1)
+  no-statement w p t rest n e = not-free t rest (subst Free e (tokens-free w 0 p n))

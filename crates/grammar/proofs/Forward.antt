@@ -1,25 +1,25 @@
 -- What a tree derives is read as what it means.
 -- Assumes nothing.
-use Prim.Native.Nat.{ℕ, zero, suc, _+_, _-_, _≤_}
+use Prim.Native.Nat.{ℕ, zero, suc, _+_, _-_, _≤_, _<_}
 use native.Mathlib.Omega.{arith}
 use mathlib.Core.Path.{_≡_, refl, sym, ap, _∙_}
 use mathlib.Core.Bool.{Bool, false, not, cond}
 use mathlib.Core.List.{List, [], _∷_, _++_, append-assoc, append-nil}
-use borrow.Author.Tests.{le-leb, eq-eqb}
+use borrow.Author.Tests.{le-leb, lt-leb, eq-eqb}
 use lib.ListN.{length, length-append}
 use Rattle.text.specs.Tokens.{Name, Token, word, name, SLOT, WHEN, IF, THEN, AND, TRUE, OPEN, CLOSE, COMMA, SEMICOLON, BECOMES, GETS, tokens}
 use Rattle.model.specs.Rules.{Pair, Literal, Rule, assigns}
 use Rattle.laws.specs.Limits.{text-limit, slot-limit, value-limit, rule-limit, literal-limit, assignment-limit}
 use Rattle.grammar.specs.Files.{Slot, File, place-in, slot-names}
 use Rattle.grammar.specs.Grammar.{RuleTree, rule, trigger, ConditionTree, LiteralTree, not-literal, becomes-value, holds-value, AssignTree, AssignmentListTree, AssignmentTree, gets-value, ValueListTree, LineTree, line, FileTree, spell, spell-literal, spell-condition, spell-assignment, spell-assignments, spell-assign, spell-rule, spell-rules, spell-values, spell-line, spell-lines}
-use Rattle.grammar.specs.Reading.{Part, took, stop, accepted, _then_, expects, fork, a-name, begins-with, if-next, new, new-name, known-slot, known-value, unassigned, read-slot, read-value, read-target, read-list, plain-literal, read-literal, no-literal, read-literals, read-condition, read-assignment, no-assignment, read-assignments, read-assign, read-rule, no-value, read-values, read-line, go-on, read-rules, read-lines, read-tokens, parse}
+use Rattle.grammar.specs.Reading.{Part, took, stop, accepted, refused, _then_, expects, fork, a-name, begins-with, if-next, new, new-name, known-slot, known-value, unassigned, read-slot, read-value, read-target, read-list, plain-literal, read-literal, no-literal, read-literals, read-condition, read-assignment, no-assignment, read-assignments, read-assign, read-rule, no-value, read-values, read-line, go-on, read-rules, read-lines, read-tokens, parse}
 use Rattle.grammar.specs.Meaning.{Names, turned, nots, tests-change, tested-slot, tested-value, Means-literal, Means-condition, means-and, means-one, means-true, Means-assignment, means-assignment, Means-assignments, means-first, means-comma, Means-assign, means-alone, means-braces, means-trigger, Means-rule, means-rule, Means-rules, no-rules, more-rules, Means-values, means-value, means-values, Means-line, means-line, Means-lines, no-lines, more-lines, Means, Is-file}
 
 pub took-then : {A B : Type 0} (a : A) (ts : List Token) (f : A → List Token → Part B) → (took a ts then f) ≡ f a ts
 unfolding _then_
 took-then a ts f = refl
 
-expects-here : (w : ℕ) (ts : List Token) → expects w (word w ∷ ts) ≡ took tt ts
+pub expects-here : (w : ℕ) (ts : List Token) → expects w (word w ∷ ts) ≡ took tt ts
 unfolding expects
 expects-here w ts = ap (λ (t : Bool). cond t (took tt ts) (stop 12)) (eq-eqb w w refl)
 
@@ -32,7 +32,7 @@ slot-here : (slots : List Slot) (s v : Name) (p : Pair) (ts : List Token) → Na
 unfolding read-slot a-name _then_ known-slot
 slot-here slots s v p ts n = ap (λ (k : ℕ). known-slot k ts) (n .slot-is)
 
-value-here : (slots : List Slot) (s v : Name) (p : Pair) (ts : List Token) → Names slots s v p → read-value slots (p .slot) (name v ∷ ts) ≡ took (p .value) ts
+pub value-here : (slots : List Slot) (s v : Name) (p : Pair) (ts : List Token) → Names slots s v p → read-value slots (p .slot) (name v ∷ ts) ≡ took (p .value) ts
 unfolding read-value a-name _then_
 value-here slots s v p ts n = ap (λ (k : ℕ). known-value k ts) (n .value-is) ∙ known-value-there (p .value) ts (n .value-there)
 
@@ -41,7 +41,7 @@ target-here : (slots : List Slot) (ps : List Pair) (s v : Name) (p : Pair) (ts :
 unfolding read-target unassigned
 target-here slots ps s v p ts n e = rw (slot-here slots s v p ts n, took-then) (ap (λ (t : Bool). unassigned t (p .slot) ts) e)
 
-new-here : (ns : List Name) (n : Name) (ts : List Token) → place-in ns n ≡ 0 → new-name ns (name n ∷ ts) ≡ took n ts
+pub new-here : (ns : List Name) (n : Name) (ts : List Token) → place-in ns n ≡ 0 → new-name ns (name n ∷ ts) ≡ took n ts
 unfolding new-name a-name _then_ new
 new-here ns n ts e = ap (λ (k : ℕ). new k n ts) e
 
@@ -71,7 +71,7 @@ literal-is slots l m rest h =
 abbrev pub after-literal : List Slot → ℕ → List Literal → List Token → Part (List Literal)
 after-literal slots = after-part (λ sofar ts. read-literal ts slots false) no-literal AND THEN
 
-literals-step : (slots : List Slot) (room : ℕ) (ms : List Literal) (l : LiteralTree) (m : Literal) (rest : List Token) → Means-literal slots l m
+pub literals-step : (slots : List Slot) (room : ℕ) (ms : List Literal) (l : LiteralTree) (m : Literal) (rest : List Token) → Means-literal slots l m
     → read-literals slots (suc room) ms (spell-literal l rest) ≡ after-literal slots room (ms ++ m ∷ []) rest
 unfolding read-literals
 literals-step slots room ms l m rest h = list-step _ _ AND THEN room ms (spell-literal l rest) m rest (literal-is slots l m rest h)
@@ -81,11 +81,11 @@ no-true (not-literal l) rest = refl
 no-true (becomes-value s v) rest = refl
 no-true (holds-value s v) rest = refl
 
-and-here : (slots : List Slot) (room : ℕ) (ms : List Literal) (rest : List Token) → after-literal slots room ms (word AND ∷ rest) ≡ read-literals slots room ms rest
+pub and-here : (slots : List Slot) (room : ℕ) (ms : List Literal) (rest : List Token) → after-literal slots room ms (word AND ∷ rest) ≡ read-literals slots room ms rest
 unfolding fork read-literals
 and-here slots room ms rest = refl
 
-then-here : (slots : List Slot) (room : ℕ) (ms : List Literal) (rest : List Token) → after-literal slots room ms (word THEN ∷ rest) ≡ took ms rest
+pub then-here : (slots : List Slot) (room : ℕ) (ms : List Literal) (rest : List Token) → after-literal slots room ms (word THEN ∷ rest) ≡ took ms rest
 unfolding fork
 then-here slots room ms rest = refl
 
@@ -93,11 +93,11 @@ condition-one : (slots : List Slot) (l : LiteralTree) (rest : List Token) → re
 unfolding read-condition if-next
 condition-one slots l rest = rw (no-true l rest)
 
-condition-true : (slots : List Slot) (rest : List Token) → read-condition slots (word TRUE ∷ rest) ≡ after-literal slots literal-limit [] rest
+pub condition-true : (slots : List Slot) (rest : List Token) → read-condition slots (word TRUE ∷ rest) ≡ after-literal slots literal-limit [] rest
 unfolding read-condition if-next read-literals
 condition-true slots rest = refl
 
-condition-read : (slots : List Slot) (c : ConditionTree) (ms : List Literal) (rest : List Token) (room : ℕ) → Means-condition slots c ms → room + length ms ≡ literal-limit
+pub condition-read : (slots : List Slot) (c : ConditionTree) (ms : List Literal) (rest : List Token) (room : ℕ) → Means-condition slots c ms → room + length ms ≡ literal-limit
     → read-condition slots (spell-condition c rest) ≡ after-literal slots room ms rest
 condition-read slots c ms rest room (means-and {c = d} {ms = ls} {l = l} {m = m} g h) e =
     condition-read slots d ls (word AND ∷ spell-literal l rest) (suc room) g (let x = length-append ls (m ∷ []) in omega arith)
@@ -121,7 +121,7 @@ assignment-is slots ps a p rest (means-assignment {s = s} {v = v} n) e =
 abbrev pub after-assignment : List Slot → ℕ → List Pair → List Token → Part (List Pair)
 after-assignment slots = after-part (read-assignment slots) no-assignment COMMA CLOSE
 
-assignments-step : (slots : List Slot) (room : ℕ) (ps : List Pair) (a : AssignmentTree) (p : Pair) (rest : List Token) → Means-assignment slots a p
+pub assignments-step : (slots : List Slot) (room : ℕ) (ps : List Pair) (a : AssignmentTree) (p : Pair) (rest : List Token) → Means-assignment slots a p
     → assigns ps (p .slot) ≡ false → read-assignments slots (suc room) ps (spell-assignment a rest) ≡ after-assignment slots room (ps ++ p ∷ []) rest
 unfolding read-assignments
 assignments-step slots room ps a p rest n e = list-step _ _ COMMA CLOSE room ps (spell-assignment a rest) p rest (assignment-is slots ps a p rest n e)
@@ -183,7 +183,7 @@ rules-read slots ts rs sofar (suc room) (more-rules {t = rule (trigger s v) c a}
 abbrev pub after-value : ℕ → List Name → List Token → Part (List Name)
 after-value = after-part new-name no-value COMMA CLOSE
 
-values-step : (room : ℕ) (ns : List Name) (n : Name) (rest : List Token) → place-in ns n ≡ 0
+pub values-step : (room : ℕ) (ns : List Name) (n : Name) (rest : List Token) → place-in ns n ≡ 0
     → read-values (suc room) ns (name n ∷ rest) ≡ after-value room (ns ++ n ∷ []) rest
 unfolding read-values
 values-step room ns n rest e = list-step _ _ COMMA CLOSE room ns (name n ∷ rest) n rest (new-here ns n rest e)
@@ -254,6 +254,11 @@ tree-read t f m =
 pub read-short : (text : List ℕ) → length text ≤ text-limit → parse text ≡ read-tokens (tokens text)
 unfolding parse
 read-short text h = rw (le-leb (length text) text-limit h)
+
+-- A text over the limit is refused with 10.
+pub read-long : (text : List ℕ) → text-limit < length text → parse text ≡ refused 10 0
+unfolding parse
+read-long text h = rw (lt-leb (length text) text-limit h)
 
 -- A text that is a file is read as that file.
 pub file-parsed : (text : List ℕ) (f : File) → Is-file text f → parse text ≡ accepted f

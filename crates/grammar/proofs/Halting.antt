@@ -31,13 +31,13 @@ pub record Halt (B : List Token → Type 0) (R : List Token → Parsed) (C : Lis
   pub stopped : Stop B (Clean R n) (λ us. R us ≡ refused k n) ts k
   pub completed : C (stopped .mid)
 
-go-on-stops : {A : Type 0} (done : ℕ) (m : Part A) (f : A → List Token → Parsed) (k n : ℕ) → go-on done m f ≡ refused k n
+pub go-on-stops : {A : Type 0} (done : ℕ) (m : Part A) (f : A → List Token → Parsed) (k n : ℕ) → go-on done m f ≡ refused k n
     → ((m ≡ stop k) × (done ≡ n)) ⊎ ((a : A) × (ts : List Token) × (m ≡ took a ts) × (f a ts ≡ refused k n))
 unfolding go-on
 go-on-stops done (took a ts) f k n e = inr (a, ts, refl, e)
 go-on-stops done (stop j) f k n e = inl (let z : j ≡ k = cc in ap stop z, cc)
 
-go-on-stop : {A : Type 0} (done : ℕ) (m : Part A) (f : A → List Token → Parsed) (k : ℕ) → m ≡ stop k → go-on done m f ≡ refused k done
+pub go-on-stop : {A : Type 0} (done : ℕ) (m : Part A) (f : A → List Token → Parsed) (k : ℕ) → m ≡ stop k → go-on done m f ≡ refused k done
 unfolding go-on
 go-on-stop done m f k e = rw e
 
@@ -96,18 +96,18 @@ rules-full : (slots : List Slot) (sofar : List Rule) (t : Token) (ts : List Toke
 unfolding read-rules
 rules-full slots sofar t ts k e = go-on-stop (length sofar) (expects WHEN (t ∷ ts)) _ k e
 
-one-too-many : (slots : List Slot) (sofar : List Rule) (ts : List Token) → read-rules zero slots sofar (word WHEN ∷ ts) ≡ refused 15 (length sofar)
+pub one-too-many : (slots : List Slot) (sofar : List Rule) (ts : List Token) → read-rules zero slots sofar (word WHEN ∷ ts) ≡ refused 15 (length sofar)
 unfolding read-rules go-on expects
 one-too-many slots sofar ts = refl
 
-rule-refused : (room : ℕ) (slots : List Slot) (sofar : List Rule) (t : Token) (ts : List Token) (k : ℕ) → read-rule slots (t ∷ ts) ≡ stop k → read-rules (suc room) slots sofar (t ∷ ts) ≡ refused k (length sofar)
+pub rule-refused : (room : ℕ) (slots : List Slot) (sofar : List Rule) (t : Token) (ts : List Token) (k : ℕ) → read-rule slots (t ∷ ts) ≡ stop k → read-rules (suc room) slots sofar (t ∷ ts) ≡ refused k (length sofar)
 unfolding read-rules
 rule-refused room slots sofar t ts k e = go-on-stop (length sofar) (read-rule slots (t ∷ ts)) _ k e
 
 clean-end : (room : ℕ) (slots : List Slot) (sofar : List Rule) → Clean (read-rules room slots sofar) (length sofar) []
 clean-end room slots sofar = inr (record { slots = slots; rules = sofar }, rules-end room slots sofar, refl)
 
-not-refused : {C : Type 0} (f : File) (k n : ℕ) → accepted f ≡ refused k n → C
+pub not-refused : {C : Type 0} (f : File) (k n : ℕ) → accepted f ≡ refused k n → C
 not-refused f k n e = refused-never k n f (sym e)
 
 pub refused-same : (j m k n : ℕ) → refused j m ≡ refused k n → (j ≡ k) × (m ≡ n)
@@ -165,13 +165,13 @@ past-rule room slots sofar r x ts left k n e there h = record {
     on : (us : List Token) → read-rules (suc room) slots sofar (spell-rule x us) ≡ read-rules room slots (sofar ++ r ∷ []) us
     on us = rules-take room slots sofar (spell-rule x us) r us (there us)
 
-rules-again : (room : ℕ) (slots : List Slot) (sofar : List Rule) (t : Token) (ts : List Token) (k n : ℕ) → read-rules (suc room) slots sofar (t ∷ ts) ≡ refused k n
+pub rules-again : (room : ℕ) (slots : List Slot) (sofar : List Rule) (t : Token) (ts : List Token) (k n : ℕ) → read-rules (suc room) slots sofar (t ∷ ts) ≡ refused k n
     → ((read-rule slots (t ∷ ts) ≡ stop k) × (length sofar ≡ n))
     ⊎ ((r : Rule) × (left : List Token) × (read-rule slots (t ∷ ts) ≡ took r left) × (read-rules room slots (sofar ++ r ∷ []) left ≡ refused k n))
 unfolding read-rules
 rules-again room slots sofar t ts k n e = go-on-stops (length sofar) (read-rule slots (t ∷ ts)) _ k n e
 
-rules-last : (slots : List Slot) (sofar : List Rule) (t : Token) (ts : List Token) (k n : ℕ) → read-rules zero slots sofar (t ∷ ts) ≡ refused k n
+pub rules-last : (slots : List Slot) (sofar : List Rule) (t : Token) (ts : List Token) (k n : ℕ) → read-rules zero slots sofar (t ∷ ts) ≡ refused k n
     → ((expects WHEN (t ∷ ts) ≡ stop k) × (length sofar ≡ n)) ⊎ ((u : Unit {0}) × (left : List Token) × (expects WHEN (t ∷ ts) ≡ took u left) × (refused 15 (length sofar) ≡ refused k n))
 unfolding read-rules
 rules-last slots sofar t ts k n e = go-on-stops (length sofar) (expects WHEN (t ∷ ts)) _ k n e
@@ -220,7 +220,7 @@ rules-refused room before ts k n off e =
       completed = (let c = h .completed in ([], c .0, c .1, c .2, c .3, (let z = c .4 in omega arith)));
     }
 
-slot-too-many : (before : List Slot) (ts : List Token) → read-lines zero before (word SLOT ∷ ts) ≡ refused 15 0
+pub slot-too-many : (before : List Slot) (ts : List Token) → read-lines zero before (word SLOT ∷ ts) ≡ refused 15 0
 unfolding read-lines if-next
 slot-too-many before ts = refl
 
@@ -239,7 +239,7 @@ many-lines before ts = record {
   completed = ([], [], [], refl, tt, refl);
 }
 
-line-next : (room : ℕ) (before : List Slot) (ts : List Token) → begins-with SLOT ts ≡ true
+pub line-next : (room : ℕ) (before : List Slot) (ts : List Token) → begins-with SLOT ts ≡ true
     → read-lines (suc room) before ts ≡ go-on 0 (read-line before ts) (λ s rest. read-lines room (before ++ s ∷ []) rest)
 unfolding read-lines if-next
 line-next room before ts e = rw e

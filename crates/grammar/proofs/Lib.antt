@@ -17,4 +17,8 @@ pub mod Choosing
 pub mod Parts
 pub mod Stops
 pub mod Halting
+pub mod Reaching
+pub mod Causes
+pub mod Faults
+pub mod Counted
 pub mod Refusals

@@ -173,12 +173,12 @@ both G H = record {
   some-tree = (G .some-tree, H .some-tree);
 }
 
-then-stops : {A B : Type 0} (m : Part A) (f : A → List Token → Part B) (k : ℕ) → (m then f) ≡ stop k → (m ≡ stop k) ⊎ ((a : A) × (ts : List Token) × (m ≡ took a ts) × (f a ts ≡ stop k))
+pub then-stops : {A B : Type 0} (m : Part A) (f : A → List Token → Part B) (k : ℕ) → (m then f) ≡ stop k → (m ≡ stop k) ⊎ ((a : A) × (ts : List Token) × (m ≡ took a ts) × (f a ts ≡ stop k))
 unfolding _then_
 then-stops (took a ts) f k e = inr (a, ts, refl, e)
 then-stops (stop j) f k e = inl (let z : j ≡ k = cc in ap stop z)
 
-stop-then : {A B : Type 0} (m : Part A) (f : A → List Token → Part B) (k : ℕ) → m ≡ stop k → (m then f) ≡ stop k
+pub stop-then : {A B : Type 0} (m : Part A) (f : A → List Token → Part B) (k : ℕ) → m ≡ stop k → (m then f) ≡ stop k
 unfolding _then_
 stop-then m f k e = rw e
 

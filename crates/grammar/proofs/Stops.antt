@@ -20,7 +20,7 @@ use Rattle.grammar.proofs.Choosing.{reader-along, either, reader-fork, 
 use Rattle.grammar.proofs.Parts.{slot-name-read, value-name-read, new-name-read, target-name-read, full-assignment-read, full-value-read, x-name, literal-append, literal-written, literals, reader-literals}
 
 -- Conditions with their THEN.
-condition-append : (c : ConditionTree) (xs ys : List Token) → spell-condition c (xs ++ ys) ≡ spell-condition c xs ++ ys
+pub condition-append : (c : ConditionTree) (xs ys : List Token) → spell-condition c (xs ++ ys) ≡ spell-condition c xs ++ ys
 condition-append (and-literal c l) xs ys = ap (λ (y : List Token). spell-condition c (word AND ∷ y)) (literal-append l xs ys) ∙ condition-append c (word AND ∷ spell-literal l xs) ys
 condition-append (one-literal l) xs ys = literal-append l xs ys
 condition-append true-alone xs ys = refl
@@ -77,7 +77,7 @@ reader-condition slots =
     (λ c rest. let x = condition-leftmost c in ap (λ (d : ConditionTree). spell-condition d (word THEN ∷ rest)) (x .2) ∙ parts-spelled (x .0) (x .1) rest)
 
 -- Assignments.
-assignment-append : (a : AssignmentTree) (xs ys : List Token) → spell-assignment a (xs ++ ys) ≡ spell-assignment a xs ++ ys
+pub assignment-append : (a : AssignmentTree) (xs ys : List Token) → spell-assignment a (xs ++ ys) ≡ spell-assignment a xs ++ ys
 assignment-append (gets-value s v) xs ys = refl
 
 assignment-written : (a : AssignmentTree) (rest : List Token) → Written rest → Written (spell-assignment a rest)

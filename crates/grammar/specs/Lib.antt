@@ -4,5 +4,6 @@ pub mod Meaning
 pub mod Reading
 pub mod Pieces
 pub mod Standing
+pub mod Beginnings
 pub mod Refusals
 pub mod TableFor

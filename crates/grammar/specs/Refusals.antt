@@ -1,5 +1,5 @@
 -- Where a refusal of 11 to 17 stands, and why (document 01, 'Refusals'): what holds of the tokens before the faulty token, and of that token.
-use Prim.Native.Nat.{ℕ, _≤_}
+use Prim.Native.Nat.{ℕ, _<_}
 use mathlib.Core.Path.{_≡_}
 use mathlib.Core.List.{List, [], _∷_, _++_}
 use mathlib.Core.Logic.{_⊎_}
@@ -8,6 +8,7 @@ use Rattle.text.specs.Tokens.{Name, Token, word, name, long, bad}
 use Rattle.text.specs.Cut.{Free}
 use Rattle.grammar.specs.Files.{File}
 use Rattle.grammar.specs.Grammar.{RuleTree, LineTree, FileTree, spell, spell-rules, spell-lines}
+use Rattle.grammar.specs.Beginnings.{Position, Before, Fault-at}
 use Rattle.grammar.specs.Reading.{accepted, refused, read-tokens}
 
 -- A derivation goes on from these tokens: the tokens of some tree begin with them. (A tree knows neither limits nor declarations.)
@@ -27,13 +28,13 @@ Out-of-place before bad = ⊥
 abbrev pub Underived : List Token → Type 0
 Underived ts = (tree : FileTree) → ¬ (spell tree ≡ ts)
 
--- A fault by its number: the tokens before it, then the faulty token with what follows, or nothing where the text ends. A fault of 14 to 17 stands at a token that is in its place.
+-- A fault by its number: the tokens before it, then the faulty token with what follows, or nothing where the text ends. A fault of 14 to 17 stands at a token in its place, by what the tokens before have said; one token may have several.
 pub data Fault : ℕ → List Token → List Token → Type 0 where
   no-token : {before later : List Token} → Fault 11 before (bad ∷ later)
   no-place : {before later : List Token} {t : Token} → Out-of-place before t → Fault 12 before (t ∷ later)
   ends-inside : {before : List Token} → Underived before → Fault 12 before []
   too-long : {before later : List Token} → ((n : Name) → Goes-on (before ++ name n ∷ [])) → Fault 13 before (long ∷ later)
-  in-place : {k : ℕ} {before later : List Token} {t : Token} → 14 ≤ k → k ≤ 17 → Goes-on (before ++ t ∷ []) → Fault k before (t ∷ later)
+  in-place : {k : ℕ} {before later : List Token} {t : Token} {P : Position} → Before before P → Fault-at k P t → Fault k before (t ∷ later)
 
 -- Said of tokens from which a derivation goes on: none of them has a fault, and `n` rules are completed by them. They are read to their end, which is inside a statement (12) or accepted.
 abbrev pub No-fault : List Token → ℕ → Type 0
@@ -53,7 +54,7 @@ pub record Completed (ts : List Token) (n : ℕ) : Type 0 where
   pub unended : Free part
   pub count : length rules ≡ n
 
--- The refusal `k` with second number `n` stands at the first of `after`, or at the end where there is none.
+-- The refusal `k` with second number `n` stands at the first of `after`, or at the end where there is none: no token before has a fault, this one has `k`, and none of a smaller number.
 pub record Stands-at (ts : List Token) (k n : ℕ) : Type 0 where
   pub before : List Token
   pub after : List Token
@@ -61,7 +62,22 @@ pub record Stands-at (ts : List Token) (k n : ℕ) : Type 0 where
   pub goes-on : Goes-on before
   pub no-fault : No-fault before n
   pub fault : Fault k before after
+  pub smallest : (j : ℕ) → j < k → ¬ Fault j before after
   pub decided : Decided k n before after
+  pub completed : Completed before n
+
+-- None of these tokens has a fault.
+abbrev pub Faultless : List Token → Type 0
+Faultless ts = (before : List Token) (t : Token) (later : List Token) → ts ≡ before ++ t ∷ later → (k : ℕ) → ¬ Fault k before (t ∷ later)
+
+-- The earliest token with a fault, or the end, the smallest number `k` of its faults, and the number `n` of rules completed before it. Nothing here is read.
+pub record Earliest (ts : List Token) (k n : ℕ) : Type 0 where
+  pub before : List Token
+  pub after : List Token
+  pub whole : ts ≡ before ++ after
+  pub faultless : Faultless before
+  pub fault : Fault k before after
+  pub smallest : (j : ℕ) → j < k → ¬ Fault j before after
   pub completed : Completed before n
 
 -- No derivation goes on with the first of `after`, or, where there is none, none is whole.

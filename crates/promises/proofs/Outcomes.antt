@@ -20,6 +20,7 @@ use Rattle.grammar.specs.Files.{File}
 use Rattle.grammar.specs.Reading as grammar
 use Rattle.grammar.specs.Reading.{Parsed, accepted, parse}
 use Rattle.grammar.specs.Refusals.{Fault, no-token, no-place, ends-inside, too-long, in-place}
+use Rattle.grammar.proofs.Faults.{from-fourteen}
 use Rattle.grammar.proofs.Refusals.{refusal-stands}
 use Rattle.strata.specs.Layered.{with-strata}
 use Rattle.grammar.specs.TableFor.{table-for}
@@ -42,7 +43,7 @@ fault-number k before after no-token = one-of of-file 11 tt
 fault-number k before after (no-place u) = one-of of-file 12 tt
 fault-number k before after (ends-inside u) = one-of of-file 12 tt
 fault-number k before after (too-long u) = one-of of-file 13 tt
-fault-number k before after (in-place low high u) = in-file k low high
+fault-number k before after (in-place {t = t} {P = P} b f) = let r = from-fourteen k P t f in in-file k (r .0) (r .1)
 
 -- What a reading comes to.
 abbrev Reads : FileRead → Type 0

@@ -6,12 +6,11 @@ use mathlib.Core.Path.{_≡_, sym, ap, subst, _∙_}
 use mathlib.Core.List.{List, [], _∷_, _++_}
 use lib.ListN.{length, take, drop, set, replicate, length-drop}
 use lib.Seq.{take-all, sets}
-use borrow.Author.Tests.{lt-leb}
 use Rattle.text.specs.Tokens.{tokens, tokens-from}
 use Rattle.model.specs.Rules as model
 use Rattle.laws.specs.Limits.{text-limit, slot-limit, rule-limit, row}
 use Rattle.grammar.specs.Files.{Slot, File}
-use Rattle.grammar.specs.Reading.{Parsed, accepted, refused, parse, read-tokens, read-lines}
+use Rattle.grammar.specs.Reading.{Parsed, accepted, refused, read-tokens, read-lines}
 use Rattle.table.specs.inner.Flat.{pair-places}
 use Rattle.table.specs.Empty.{empty-table}
 use Rattle.table.specs.Link.{rule-of}
@@ -116,8 +115,3 @@ answer-end a f t e g = rw (e, g)
 pub answer-refused : (a : Parsed) (k n m : ℕ) (t : Table) → a ≡ refused k n → m ≡ n → t ≡ empty-table → record { outcome = outcome.Refused k m; table = t } ≡ file-read a
 unfolding file-read
 answer-refused a k n m t e g h = rw (e, g, h)
-
--- A text over the limit, and one within it.
-pub read-long : (text : List ℕ) → text-limit < length text → parse text ≡ refused 10 0
-unfolding parse
-read-long text h = rw (lt-leb (length text) text-limit h)

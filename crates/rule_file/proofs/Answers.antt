@@ -19,13 +19,12 @@ use Rattle.table.specs.declared.Table.{Table}
 use Rattle.table.specs.Empty.{empty-table}
 use Rattle.table.specs.inner.Fits.{TableFits}
 use Rattle.table.specs.Link.{rules-of}
-use Rattle.text.specs.Tokens.{Token}
 use Rattle.grammar.specs.Files.{File}
 use Rattle.grammar.specs.Meaning.{Is-file}
 use Rattle.grammar.specs.Reading.{Parsed, accepted, refused, parse}
-use Rattle.grammar.specs.Refusals.{Fault, no-token, no-place, ends-inside, too-long, in-place}
 use Rattle.grammar.proofs.Accepts.{accepts-iff}
 use Rattle.grammar.proofs.Declared.{file-declared}
+use Rattle.grammar.proofs.Faults.{fault-range}
 use Rattle.grammar.proofs.Refusals.{refusal-stands}
 use Rattle.grammar.proofs.Stands.{file-stands}
 use Rattle.names.specs.Names.{show-slot, show-value}
@@ -121,15 +120,8 @@ unfolding layered
 layered-circle f n = rw (ne-eqb (circle-of weak (f .rules)) 0 n) refl
 
 -- The grammar's reading gives 10 to 17.
-fault-range : (k : ℕ) (before after : List Token) → Fault k before after → (10 ≤ k) × (k ≤ 17)
-fault-range k before after no-token = (omega arith, omega arith)
-fault-range k before after (no-place o) = (omega arith, omega arith)
-fault-range k before after (ends-inside o) = (omega arith, omega arith)
-fault-range k before after (too-long o) = (omega arith, omega arith)
-fault-range k before after (in-place l h o) = (omega (arith, l), h)
-
 refused-range : (text : List ℕ) (k n : ℕ) → parse text ≡ refused k n → (10 ≤ k) × (k ≤ 17)
-refused-range text k n e = ⊎-elim (λ w. (omega (arith, w .0), omega (arith, w .0))) (λ w. fault-range k _ _ (w .1 .fault)) (refusal-stands text k n e)
+refused-range text k n e = ⊎-elim (λ w. (omega (arith, w .0), omega (arith, w .0))) (λ w. let r = fault-range k (w .1 .before) (w .1 .after) (w .1 .fault) in (omega (arith, r .0), r .1)) (refusal-stands text k n e)
 
 outcomes-differ : (k n : ℕ) → Accepted ≡ Refused k n → ⊥
 outcomes-differ k n c = let z : _≡_ {A = ℕ} 0 1 = cc in omega arith

@@ -2,8 +2,8 @@
 -- Assumes nothing.
 use mathlib.Core.Path.{refl, sym, ap, _∙_}
 use Rattle.reader.specs.Tables.{file-read}
-use Rattle.grammar.proofs.Forward.{read-short}
-use Rattle.reader.proofs.ReadLaws.{answer-refused, read-long}
+use Rattle.grammar.proofs.Forward.{read-short, read-long}
+use Rattle.reader.proofs.ReadLaws.{answer-refused}
 use borrow.Author.Needs.{needs}
 use Rattle.reader.proofs.read_text.Statement.{statement}
 use Rattle.reader.proofs.read_text.Tie as tie
