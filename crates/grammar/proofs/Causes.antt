@@ -17,7 +17,7 @@ use Rattle.grammar.specs.Files.{Slot, place-in, slot-names, values-of}
 use Rattle.grammar.specs.Grammar.{trigger, spell-literal, spell-condition, spell-assignment, spell-rule, spell-line}
 use Rattle.grammar.specs.Meaning.{means-trigger}
 use Rattle.grammar.specs.Reading.{Part, took, stop, refused, _then_, expects, fork, a-name, new, new-name, known-slot, known-value, unassigned, read-slot, read-value, read-target, read-list, plain-literal, read-literal, no-literal, read-literals, read-condition, read-assignment, no-assignment, read-assignments, read-assign, read-rule, no-value, read-values, read-line, read-rules, read-lines, read-tokens}
-use Rattle.grammar.specs.Beginnings.{Position, next-line, new-slot, new-value, next-rule, next-trigger, next-condition, next-literal, tested-slot, next-assign, next-listed, assigned-slot, next-value, Before, start, behind-line, behind-slot, behind-open, behind-value, lines-over, behind-rule, behind-when, behind-trigger-slot, behind-if, no-true-first, behind-true, behind-literal, literal-first, behind-not, behind-becomes, behind-has, behind-then, no-brace, behind-brace, behind-assignment, in-braces, behind-gets, Fault-at, slot-twice, value-twice, too-many-slots, too-many-values, too-many-rules, too-many-literals, too-many-nots, too-many-assignments, no-trigger-slot, no-tested-slot, no-assigned-slot, no-such-value, slot-assigned-twice}
+use Rattle.grammar.specs.Beginnings.{Position, next-line, fresh-slot, fresh-value, next-rule, next-trigger, next-condition, next-literal, literal-slot, next-assign, next-listed, assigned-slot, next-value, Before, start, behind-line, behind-slot, behind-open, behind-value, lines-over, behind-rule, behind-when, behind-trigger-slot, behind-if, no-true-first, behind-true, behind-literal, literal-first, behind-not, behind-becomes, behind-has, behind-then, no-brace, behind-brace, behind-assignment, in-braces, behind-gets, Fault-at, slot-twice, value-twice, too-many-slots, too-many-values, too-many-rules, too-many-literals, too-many-nots, too-many-assignments, no-trigger-slot, no-tested-slot, no-assigned-slot, no-such-value, slot-assigned-twice}
 use Rattle.grammar.proofs.Steps.{never, put, expects-back, slot-back, value-back, target-back, new-name-back, if-next-back}
 use Rattle.grammar.proofs.Backward.{literal-back, literal-meaning, condition-back, assignment-back, room-for-one, rule-back, line-back}
 use Rattle.grammar.proofs.Stopping.{then-stops}
@@ -148,13 +148,13 @@ module _ (k : ℕ) (lo : 14 ≤ k) (all mid ts : List Token) (w : all ≡ mid ++
       here 17 k all mid ts (name (z .0)) rest (assigned-slot slots ps) w (z .1) b (slot-assigned-twice (z .2) (a .0)) (a .1))
 
 -- Values of a slot line, and the line.
-find-values : (room : ℕ) (k : ℕ) → 14 ≤ k → (all mid ts : List Token) → all ≡ mid ++ ts → (ns : List Name) → Before mid (new-value ns) → room + length ns ≡ value-limit → read-values room ns ts ≡ stop k → Found k all
+find-values : (room : ℕ) (k : ℕ) → 14 ≤ k → (all mid ts : List Token) → all ≡ mid ++ ts → (ns : List Name) → Before mid (fresh-value ns) → room + length ns ≡ value-limit → read-values room ns ts ≡ stop k → Found k all
 unfolding read-values read-list no-value
 find-values zero k lo all mid ts w ns b r e =
-    by-part (new-name ns ts) _ k e (find-new k lo all mid ts w ns (new-value ns) (λ n q. value-twice q) b)
-    (λ n rest x y. let z = new-name-back ns ts n rest x in here 15 k all mid ts (name n) rest (new-value ns) w (z .0) b (too-many-values (omega arith)) (stop-same 15 k y))
+    by-part (new-name ns ts) _ k e (find-new k lo all mid ts w ns (fresh-value ns) (λ n q. value-twice q) b)
+    (λ n rest x y. let z = new-name-back ns ts n rest x in here 15 k all mid ts (name n) rest (fresh-value ns) w (z .0) b (too-many-values (omega arith)) (stop-same 15 k y))
 find-values (suc room) k lo all mid ts w ns b r e =
-    by-part (new-name ns ts) _ k e (find-new k lo all mid ts w ns (new-value ns) (λ n q. value-twice q) b)
+    by-part (new-name ns ts) _ k e (find-new k lo all mid ts w ns (fresh-value ns) (λ n q. value-twice q) b)
     (λ n rest x y. let z = new-name-back ns ts n rest x in
     ⊎-elim (λ v. find-values room k lo all (mid ++ name n ∷ word COMMA ∷ []) (v .0) (on all mid (name n ∷ word COMMA ∷ []) (v .0) ts w (z .0 ∙ put (name n) (v .1))) (ns ++ n ∷ []) (behind-value n b (omega arith) (z .1))
     (let l = length-append ns (n ∷ []) in omega arith) (v .2))
@@ -165,7 +165,7 @@ unfolding read-line
 find-line k lo all mid ts w slots b few e =
     by-word SLOT ts _ k lo e (λ t1 q1 e1.
     by-part (new-name (slot-names slots) t1) _ k e1
-    (find-new k lo all (mid ++ word SLOT ∷ []) t1 (on all mid (word SLOT ∷ []) t1 ts w q1) (slot-names slots) (new-slot slots) (λ n q. slot-twice q) (behind-slot b few))
+    (find-new k lo all (mid ++ word SLOT ∷ []) t1 (on all mid (word SLOT ∷ []) t1 ts w q1) (slot-names slots) (fresh-slot slots) (λ n q. slot-twice q) (behind-slot b few))
     (λ n t2 x2 e2. let z = new-name-back (slot-names slots) t1 n t2 x2 in
     by-word OPEN t2 _ k lo e2 (λ t3 q3 e3.
     by-part (read-values value-limit [] t3) _ k e3
@@ -174,10 +174,10 @@ find-line k lo all mid ts w slots b few e =
     (λ vs t4 x4 e4. by-word SEMICOLON t4 _ k lo e4 (λ t5 q5 e5. not-took k _ t5 e5)))))
 
 -- Literals.
-find-plain : (k : ℕ) → 14 ≤ k → (all mid ts : List Token) → all ≡ mid ++ ts → (slots : List Slot) (ms : List Literal) (neg : Bool) → Before mid (tested-slot slots ms) → length ms < literal-limit → plain-literal slots neg ts ≡ stop k → Found k all
+find-plain : (k : ℕ) → 14 ≤ k → (all mid ts : List Token) → all ≡ mid ++ ts → (slots : List Slot) (ms : List Literal) (neg : Bool) → Before mid (literal-slot slots ms) → length ms < literal-limit → plain-literal slots neg ts ≡ stop k → Found k all
 unfolding plain-literal
 find-plain k lo all mid ts w slots ms neg b few e =
-    by-part (read-slot slots ts) _ k e (find-slot k lo all mid ts w slots (tested-slot slots ms) (λ n q. no-tested-slot q) b)
+    by-part (read-slot slots ts) _ k e (find-slot k lo all mid ts w slots (literal-slot slots ms) (λ n q. no-tested-slot q) b)
     (λ s rest x y. let z = slot-back slots ts s rest x in
     ⊎-elim (λ v. by-part (read-value slots s (v .0)) _ k (v .2)
     (find-value k lo all (mid ++ name (z .0) ∷ word BECOMES ∷ []) (v .0) (on all mid (name (z .0) ∷ word BECOMES ∷ []) (v .0) ts w (z .1 ∙ put (name (z .0)) (v .1))) slots s (behind-becomes (z .0) b few (z .2)))
@@ -187,12 +187,12 @@ find-plain k lo all mid ts w slots ms neg b few e =
     (λ i left p q. not-took k _ left q))
     (fork-stop BECOMES HAS _ _ rest k lo y))
 
-find-literal : (ts : List Token) (k : ℕ) → 14 ≤ k → (all mid : List Token) → all ≡ mid ++ ts → (slots : List Slot) (ms : List Literal) (neg : Bool) → Before mid (tested-slot slots ms) → length ms < literal-limit → read-literal ts slots neg ≡ stop k → Found k all
+find-literal : (ts : List Token) (k : ℕ) → 14 ≤ k → (all mid : List Token) → all ≡ mid ++ ts → (slots : List Slot) (ms : List Literal) (neg : Bool) → Before mid (literal-slot slots ms) → length ms < literal-limit → read-literal ts slots neg ≡ stop k → Found k all
 unfolding read-literal
 find-literal [] k lo all mid w slots ms neg b few e = low 12 k lo (omega arith) e
 find-literal (word v ∷ ts) k lo all mid w slots ms neg b few e = go (eqb v NOT) refl (find-literal ts k lo all (mid ++ word NOT ∷ [])) e
   where
-    go : (t : Bool) → eqb v NOT ≡ t → (all ≡ mid ++ word NOT ∷ [] ++ ts → (slots : List Slot) (ms : List Literal) (neg : Bool) → Before (mid ++ word NOT ∷ []) (tested-slot slots ms) → length ms < literal-limit → read-literal ts slots neg ≡ stop k → Found k all)
+    go : (t : Bool) → eqb v NOT ≡ t → (all ≡ mid ++ word NOT ∷ [] ++ ts → (slots : List Slot) (ms : List Literal) (neg : Bool) → Before (mid ++ word NOT ∷ []) (literal-slot slots ms) → length ms < literal-limit → read-literal ts slots neg ≡ stop k → Found k all)
         → cond t (read-literal ts slots (not neg)) (stop 12) ≡ stop k → Found k all
     go true q again x = again (on all mid (word NOT ∷ []) ts (word v ∷ ts) w (ap (λ (i : ℕ). word i ∷ ts) (eqb-true v NOT q))) slots ms (not neg) (behind-not b few) few x
     go false q again x = low 12 k lo (omega arith) x
@@ -206,9 +206,9 @@ find-surplus k lo all mid [] w slots ms b r e = low 12 k lo (omega arith) e
 find-surplus k lo all mid (word v ∷ ts) w slots ms b r e = go (eqb v NOT) refl e
   where
     go : (t : Bool) → eqb v NOT ≡ t → cond {A = Part (List Literal)} t (stop 15) (stop 12) ≡ stop k → Found k all
-    go true q x = here 15 k all mid (word v ∷ ts) (word NOT) ts (tested-slot slots ms) w (ap (λ (i : ℕ). word i ∷ ts) (eqb-true v NOT q)) (literal-first b) (too-many-nots (omega arith)) (stop-same 15 k x)
+    go true q x = here 15 k all mid (word v ∷ ts) (word NOT) ts (literal-slot slots ms) w (ap (λ (i : ℕ). word i ∷ ts) (eqb-true v NOT q)) (literal-first b) (too-many-nots (omega arith)) (stop-same 15 k x)
     go false q x = low 12 k lo (omega arith) x
-find-surplus k lo all mid (name n ∷ ts) w slots ms b r e = here 15 k all mid (name n ∷ ts) (name n) ts (tested-slot slots ms) w refl (literal-first b) (too-many-literals (omega arith)) (stop-same 15 k e)
+find-surplus k lo all mid (name n ∷ ts) w slots ms b r e = here 15 k all mid (name n ∷ ts) (name n) ts (literal-slot slots ms) w refl (literal-first b) (too-many-literals (omega arith)) (stop-same 15 k e)
 find-surplus k lo all mid (long ∷ ts) w slots ms b r e = low 13 k lo (omega arith) e
 find-surplus k lo all mid (bad ∷ ts) w slots ms b r e = low 11 k lo (omega arith) e
 

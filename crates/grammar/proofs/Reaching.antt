@@ -15,7 +15,7 @@ use Rattle.grammar.specs.Files.{Slot, place-in, slot-names}
 use Rattle.grammar.specs.Grammar.{RuleTree, rule, TriggerTree, trigger, ConditionTree, LiteralTree, AssignmentTree, gets-value, LineTree, spell-trigger, spell-literal, spell-condition, spell-assignment, spell-rule, spell-line}
 use Rattle.grammar.specs.Meaning.{Means-trigger, means-trigger, Means-literal, Means-condition, Means-assignment, Means-rule, Means-line}
 use Rattle.grammar.specs.Reading.{Part, took, stop, refused, _then_, fork, a-name, begins-with, if-next, new, new-name, known-slot, known-value, unassigned, read-slot, read-value, read-target, read-list, plain-literal, read-literal, no-literal, read-literals, read-condition, read-assignment, no-assignment, read-assignments, read-assign, read-rule, no-value, read-values, read-line, read-rules, read-lines, read-tokens}
-use Rattle.grammar.specs.Beginnings.{Position, next-line, new-slot, new-value, next-rule, next-trigger, next-condition, next-literal, tested-slot, next-assign, next-listed, assigned-slot, next-value, Before, start, behind-line, behind-slot, behind-open, behind-value, lines-over, behind-rule, behind-when, behind-trigger-slot, behind-if, no-true-first, behind-true, behind-literal, literal-first, behind-not, behind-becomes, behind-has, behind-then, no-brace, behind-brace, behind-assignment, in-braces, behind-gets, Fault-at, slot-twice, value-twice, too-many-slots, too-many-values, too-many-rules, too-many-literals, too-many-nots, too-many-assignments, no-trigger-slot, no-tested-slot, no-assigned-slot, no-such-value, slot-assigned-twice}
+use Rattle.grammar.specs.Beginnings.{Position, next-line, fresh-slot, fresh-value, next-rule, next-trigger, next-condition, next-literal, literal-slot, next-assign, next-listed, assigned-slot, next-value, Before, start, behind-line, behind-slot, behind-open, behind-value, lines-over, behind-rule, behind-when, behind-trigger-slot, behind-if, no-true-first, behind-true, behind-literal, literal-first, behind-not, behind-becomes, behind-has, behind-then, no-brace, behind-brace, behind-assignment, in-braces, behind-gets, Fault-at, slot-twice, value-twice, too-many-slots, too-many-values, too-many-rules, too-many-literals, too-many-nots, too-many-assignments, no-trigger-slot, no-tested-slot, no-assigned-slot, no-such-value, slot-assigned-twice}
 use Rattle.grammar.proofs.Forward.{took-then, expects-here, value-here, new-here, literals-step, and-here, then-here, no-true, condition-true, condition-read, assignments-step, rule-read, values-step, line-read, rules-begin}
 use Rattle.grammar.proofs.Backward.{room-for-one}
 use Rattle.grammar.proofs.Statements.{rules-take, lines-take}
@@ -27,13 +27,13 @@ use Rattle.grammar.proofs.Halting.{rule-refused, one-too-many, slot-too
 -- The reading from a position halts with `k` at these tokens.
 abbrev pub Halts : Position → List Token → ℕ → Type 0
 Halts (next-line slots) us k = (room : ℕ) → room + length slots ≡ slot-limit → (n : ℕ) × (read-lines room slots us ≡ refused k n)
-Halts (new-slot slots) us k = read-line slots (word SLOT ∷ us) ≡ stop k
-Halts (new-value ns) us k = (room : ℕ) → room + length ns ≡ value-limit → read-values room ns us ≡ stop k
+Halts (fresh-slot slots) us k = read-line slots (word SLOT ∷ us) ≡ stop k
+Halts (fresh-value ns) us k = (room : ℕ) → room + length ns ≡ value-limit → read-values room ns us ≡ stop k
 Halts (next-rule slots rs) us k = (begins-with SLOT us ≡ false) × ((room : ℕ) → room + length rs ≡ rule-limit → (n : ℕ) × (read-rules room slots rs us ≡ refused k n))
 Halts (next-trigger slots) us k = read-rule slots (word WHEN ∷ us) ≡ stop k
 Halts (next-condition slots) us k = (read-condition slots us then λ ms rest. read-assign slots rest) ≡ stop k
 Halts (next-literal slots ms) us k = (begins-with TRUE us ≡ false) × ((room : ℕ) → room + length ms ≡ literal-limit → read-literals slots room ms us ≡ stop k)
-Halts (tested-slot slots ms) us k =
+Halts (literal-slot slots ms) us k =
     (begins-with TRUE us ≡ false) × (length ms < literal-limit → (neg : Bool) → read-literal us slots neg ≡ stop k) × (length ms ≡ literal-limit → no-literal ms us ≡ stop k)
 Halts (next-assign slots) us k = read-assign slots us ≡ stop k
 Halts (next-listed slots ps) us k = (room : ℕ) → room + length ps ≡ assignment-limit → read-assignments slots room ps us ≡ stop k
@@ -53,16 +53,16 @@ line-step slots t s us k few m h (suc room) e =
     let x = h room (let l = length-append slots (s ∷ []) in omega arith) in
     (x .0, lines-take room slots (spell-line t us) s us (line-read slots t s us m) ∙ x .1)
 
-slot-step : (slots : List Slot) (us : List Token) (k : ℕ) → length slots < slot-limit → Halts (new-slot slots) us k → Halts (next-line slots) (word SLOT ∷ us) k
+slot-step : (slots : List Slot) (us : List Token) (k : ℕ) → length slots < slot-limit → Halts (fresh-slot slots) us k → Halts (next-line slots) (word SLOT ∷ us) k
 slot-step slots us k few h zero e = absurd (omega arith)
 slot-step slots us k few h (suc room) e = (0, line-next room slots (word SLOT ∷ us) refl ∙ go-on-stop 0 (read-line slots (word SLOT ∷ us)) _ k h)
 
-open-step : (slots : List Slot) (n : Name) (us : List Token) (k : ℕ) → place-in (slot-names slots) n ≡ 0 → Halts (new-value []) us k → Halts (new-slot slots) (name n ∷ word OPEN ∷ us) k
+open-step : (slots : List Slot) (n : Name) (us : List Token) (k : ℕ) → place-in (slot-names slots) n ≡ 0 → Halts (fresh-value []) us k → Halts (fresh-slot slots) (name n ∷ word OPEN ∷ us) k
 unfolding read-line
 open-step slots n us k fresh h =
     rw (expects-here SLOT _, took-then, new-here (slot-names slots) n _ fresh, took-then, expects-here OPEN _, took-then) (stop-then (read-values value-limit [] us) _ k (h value-limit (omega arith)))
 
-value-step : (ns : List Name) (n : Name) (us : List Token) (k : ℕ) → length ns < value-limit → place-in ns n ≡ 0 → Halts (new-value (ns ++ n ∷ [])) us k → Halts (new-value ns) (name n ∷ word COMMA ∷ us) k
+value-step : (ns : List Name) (n : Name) (us : List Token) (k : ℕ) → length ns < value-limit → place-in ns n ≡ 0 → Halts (fresh-value (ns ++ n ∷ [])) us k → Halts (fresh-value ns) (name n ∷ word COMMA ∷ us) k
 unfolding fork read-values
 value-step ns n us k few fresh h zero e = absurd (omega arith)
 value-step ns n us k few fresh h (suc room) e = values-step room ns n (word COMMA ∷ us) fresh ∙ h room (let l = length-append ns (n ∷ []) in omega arith)
@@ -121,7 +121,7 @@ literal-step slots ms t m us k few g h = (no-true t (word AND ∷ us), on)
     on zero e = absurd (omega arith)
     on (suc room) e = literals-step slots room ms t m (word AND ∷ us) g ∙ and-here slots room (ms ++ m ∷ []) us ∙ h .1 room (let l = length-append ms (m ∷ []) in omega arith)
 
-tested-step : (slots : List Slot) (ms : List Literal) (us : List Token) (k : ℕ) → Halts (tested-slot slots ms) us k → Halts (next-literal slots ms) us k
+tested-step : (slots : List Slot) (ms : List Literal) (us : List Token) (k : ℕ) → Halts (literal-slot slots ms) us k → Halts (next-literal slots ms) us k
 unfolding read-literals read-list
 tested-step slots ms us k h = (h .0, on)
   where
@@ -129,17 +129,17 @@ tested-step slots ms us k h = (h .0, on)
     on zero e = h .2 (omega arith)
     on (suc room) e = stop-then (read-literal us slots false) _ k (h .1 (omega arith) false)
 
-not-step : (slots : List Slot) (ms : List Literal) (us : List Token) (k : ℕ) → length ms < literal-limit → Halts (tested-slot slots ms) us k → Halts (tested-slot slots ms) (word NOT ∷ us) k
+not-step : (slots : List Slot) (ms : List Literal) (us : List Token) (k : ℕ) → length ms < literal-limit → Halts (literal-slot slots ms) us k → Halts (literal-slot slots ms) (word NOT ∷ us) k
 unfolding read-literal
 not-step slots ms us k few h = (refl, λ l neg. h .1 few (not neg), λ l. absurd (omega arith))
 
 becomes-step : (slots : List Slot) (ms : List Literal) (n : Name) (s : ℕ) (us : List Token) (k : ℕ) → length ms < literal-limit → place-in (slot-names slots) n ≡ suc s
-    → Halts (next-value slots s) us k → Halts (tested-slot slots ms) (name n ∷ word BECOMES ∷ us) k
+    → Halts (next-value slots s) us k → Halts (literal-slot slots ms) (name n ∷ word BECOMES ∷ us) k
 unfolding read-literal plain-literal fork
 becomes-step slots ms n s us k few e h = (refl, λ l neg. rw (slot-known slots n s _ e, took-then) (stop-then (read-value slots s us) _ k h), λ l. absurd (omega arith))
 
 has-step : (slots : List Slot) (ms : List Literal) (n : Name) (s : ℕ) (us : List Token) (k : ℕ) → length ms < literal-limit → place-in (slot-names slots) n ≡ suc s
-    → Halts (next-value slots s) us k → Halts (tested-slot slots ms) (name n ∷ word HAS ∷ us) k
+    → Halts (next-value slots s) us k → Halts (literal-slot slots ms) (name n ∷ word HAS ∷ us) k
 unfolding read-literal plain-literal fork
 has-step slots ms n s us k few e h = (refl, λ l neg. rw (slot-known slots n s _ e, took-then) (stop-then (read-value slots s us) _ k h), λ l. absurd (omega arith))
 
@@ -183,8 +183,8 @@ reaches ts P us k start h = h slot-limit (omega arith)
 reaches ts P us k (behind-line {ts = xs} {slots = slots} {t = t} {s = s} b few m) h =
     carried xs (spell-line t []) us k (reaches xs (next-line slots) (spell-line t [] ++ us) k b (subst (λ (l : List Token). Halts (next-line slots) l k) (line-append t [] us) (line-step slots t s us k few m h)))
 reaches ts P us k (behind-slot {ts = xs} {slots = slots} b few) h = carried xs (word SLOT ∷ []) us k (reaches xs (next-line slots) (word SLOT ∷ us) k b (slot-step slots us k few h))
-reaches ts P us k (behind-open {ts = xs} {slots = slots} n b fresh) h = carried xs (name n ∷ word OPEN ∷ []) us k (reaches xs (new-slot slots) (name n ∷ word OPEN ∷ us) k b (open-step slots n us k fresh h))
-reaches ts P us k (behind-value {ts = xs} {ns = ns} n b few fresh) h = carried xs (name n ∷ word COMMA ∷ []) us k (reaches xs (new-value ns) (name n ∷ word COMMA ∷ us) k b (value-step ns n us k few fresh h))
+reaches ts P us k (behind-open {ts = xs} {slots = slots} n b fresh) h = carried xs (name n ∷ word OPEN ∷ []) us k (reaches xs (fresh-slot slots) (name n ∷ word OPEN ∷ us) k b (open-step slots n us k fresh h))
+reaches ts P us k (behind-value {ts = xs} {ns = ns} n b few fresh) h = carried xs (name n ∷ word COMMA ∷ []) us k (reaches xs (fresh-value ns) (name n ∷ word COMMA ∷ us) k b (value-step ns n us k few fresh h))
 reaches ts P us k (lines-over {slots = slots} b) h = reaches ts (next-line slots) us k b (rules-step slots us k h)
 reaches ts P us k (behind-rule {ts = xs} {slots = slots} {rs = rs} {t = t} {r = r} b few m) h =
     carried xs (spell-rule t []) us k (reaches xs (next-rule slots rs) (spell-rule t [] ++ us) k b (subst (λ (l : List Token). Halts (next-rule slots rs) l k) (rule-append t [] us) (rule-step slots rs t r us k few m h)))
@@ -198,11 +198,11 @@ reaches ts P us k (behind-true {ts = xs} {slots = slots} b) h = carried xs (word
 reaches ts P us k (behind-literal {ts = xs} {slots = slots} {ms = ms} {t = t} {m = m} b few g) h =
     carried xs (spell-literal t (word AND ∷ [])) us k (reaches xs (next-literal slots ms) (spell-literal t (word AND ∷ []) ++ us) k b (subst (λ (l : List Token). Halts (next-literal slots ms) l k) (literal-append t (word AND ∷ []) us) (literal-step slots ms t m us k few g h)))
 reaches ts P us k (literal-first {slots = slots} {ms = ms} b) h = reaches ts (next-literal slots ms) us k b (tested-step slots ms us k h)
-reaches ts P us k (behind-not {ts = xs} {slots = slots} {ms = ms} b few) h = carried xs (word NOT ∷ []) us k (reaches xs (tested-slot slots ms) (word NOT ∷ us) k b (not-step slots ms us k few h))
+reaches ts P us k (behind-not {ts = xs} {slots = slots} {ms = ms} b few) h = carried xs (word NOT ∷ []) us k (reaches xs (literal-slot slots ms) (word NOT ∷ us) k b (not-step slots ms us k few h))
 reaches ts P us k (behind-becomes {ts = xs} {slots = slots} {ms = ms} {s = s} n b few e) h =
-    carried xs (name n ∷ word BECOMES ∷ []) us k (reaches xs (tested-slot slots ms) (name n ∷ word BECOMES ∷ us) k b (becomes-step slots ms n s us k few e h))
+    carried xs (name n ∷ word BECOMES ∷ []) us k (reaches xs (literal-slot slots ms) (name n ∷ word BECOMES ∷ us) k b (becomes-step slots ms n s us k few e h))
 reaches ts P us k (behind-has {ts = xs} {slots = slots} {ms = ms} {s = s} n b few e) h =
-    carried xs (name n ∷ word HAS ∷ []) us k (reaches xs (tested-slot slots ms) (name n ∷ word HAS ∷ us) k b (has-step slots ms n s us k few e h))
+    carried xs (name n ∷ word HAS ∷ []) us k (reaches xs (literal-slot slots ms) (name n ∷ word HAS ∷ us) k b (has-step slots ms n s us k few e h))
 reaches ts P us k (behind-then {ts = xs} {slots = slots} {c = c} {ms = ms} b m few) h =
     carried xs (spell-condition c (word THEN ∷ [])) us k (reaches xs (next-condition slots) (spell-condition c (word THEN ∷ []) ++ us) k b (subst (λ (l : List Token). Halts (next-condition slots) l k) (condition-append c (word THEN ∷ []) us) (then-step slots c ms us k m few h)))
 reaches ts P us k (no-brace {slots = slots} b) h = reaches ts (next-assign slots) us k b (alone-step slots us k h)

@@ -16,9 +16,9 @@ pub data Position : Type 0 where
   -- A slot line, after those of these slots.
   next-line : List Slot → Position
   -- The name of a slot to be declared, after these slots.
-  new-slot : List Slot → Position
+  fresh-slot : List Slot → Position
   -- The name of a value to be declared, after these of its slot.
-  new-value : List Name → Position
+  fresh-value : List Name → Position
   -- A rule over these slots, after these rules.
   next-rule : List Slot → List Rule → Position
   -- A trigger.
@@ -28,7 +28,7 @@ pub data Position : Type 0 where
   -- A literal, after these of its condition.
   next-literal : List Slot → List Literal → Position
   -- A slot's name in a literal, or a NOT before it, after these literals of its condition.
-  tested-slot : List Slot → List Literal → Position
+  literal-slot : List Slot → List Literal → Position
   -- What follows THEN.
   next-assign : List Slot → Position
   -- An assignment in braces, after these.
@@ -43,11 +43,11 @@ pub data Before : List Token → Position → Type 0 where
   start : Before [] (next-line [])
   behind-line : {ts : List Token} {slots : List Slot} {t : LineTree} {s : Slot}
       → Before ts (next-line slots) → length slots < slot-limit → Means-line slots t s → Before (ts ++ spell-line t []) (next-line (slots ++ s ∷ []))
-  behind-slot : {ts : List Token} {slots : List Slot} → Before ts (next-line slots) → length slots < slot-limit → Before (ts ++ word SLOT ∷ []) (new-slot slots)
+  behind-slot : {ts : List Token} {slots : List Slot} → Before ts (next-line slots) → length slots < slot-limit → Before (ts ++ word SLOT ∷ []) (fresh-slot slots)
   behind-open : {ts : List Token} {slots : List Slot} (n : Name)
-      → Before ts (new-slot slots) → place-in (slot-names slots) n ≡ 0 → Before (ts ++ name n ∷ word OPEN ∷ []) (new-value [])
+      → Before ts (fresh-slot slots) → place-in (slot-names slots) n ≡ 0 → Before (ts ++ name n ∷ word OPEN ∷ []) (fresh-value [])
   behind-value : {ts : List Token} {ns : List Name} (n : Name)
-      → Before ts (new-value ns) → length ns < value-limit → place-in ns n ≡ 0 → Before (ts ++ name n ∷ word COMMA ∷ []) (new-value (ns ++ n ∷ []))
+      → Before ts (fresh-value ns) → length ns < value-limit → place-in ns n ≡ 0 → Before (ts ++ name n ∷ word COMMA ∷ []) (fresh-value (ns ++ n ∷ []))
   lines-over : {ts : List Token} {slots : List Slot} → Before ts (next-line slots) → Before ts (next-rule slots [])
   behind-rule : {ts : List Token} {slots : List Slot} {rs : List Rule} {t : RuleTree} {r : Rule}
       → Before ts (next-rule slots rs) → length rs < rule-limit → Means-rule slots t r → Before (ts ++ spell-rule t []) (next-rule slots (rs ++ r ∷ []))
@@ -60,12 +60,12 @@ pub data Before : List Token → Position → Type 0 where
   behind-true : {ts : List Token} {slots : List Slot} → Before ts (next-condition slots) → Before (ts ++ word TRUE ∷ word AND ∷ []) (next-literal slots [])
   behind-literal : {ts : List Token} {slots : List Slot} {ms : List Literal} {t : LiteralTree} {m : Literal}
       → Before ts (next-literal slots ms) → length ms < literal-limit → Means-literal slots t m → Before (ts ++ spell-literal t (word AND ∷ [])) (next-literal slots (ms ++ m ∷ []))
-  literal-first : {ts : List Token} {slots : List Slot} {ms : List Literal} → Before ts (next-literal slots ms) → Before ts (tested-slot slots ms)
-  behind-not : {ts : List Token} {slots : List Slot} {ms : List Literal} → Before ts (tested-slot slots ms) → length ms < literal-limit → Before (ts ++ word NOT ∷ []) (tested-slot slots ms)
+  literal-first : {ts : List Token} {slots : List Slot} {ms : List Literal} → Before ts (next-literal slots ms) → Before ts (literal-slot slots ms)
+  behind-not : {ts : List Token} {slots : List Slot} {ms : List Literal} → Before ts (literal-slot slots ms) → length ms < literal-limit → Before (ts ++ word NOT ∷ []) (literal-slot slots ms)
   behind-becomes : {ts : List Token} {slots : List Slot} {ms : List Literal} {s : ℕ} (n : Name)
-      → Before ts (tested-slot slots ms) → length ms < literal-limit → place-in (slot-names slots) n ≡ suc s → Before (ts ++ name n ∷ word BECOMES ∷ []) (next-value slots s)
+      → Before ts (literal-slot slots ms) → length ms < literal-limit → place-in (slot-names slots) n ≡ suc s → Before (ts ++ name n ∷ word BECOMES ∷ []) (next-value slots s)
   behind-has : {ts : List Token} {slots : List Slot} {ms : List Literal} {s : ℕ} (n : Name)
-      → Before ts (tested-slot slots ms) → length ms < literal-limit → place-in (slot-names slots) n ≡ suc s → Before (ts ++ name n ∷ word HAS ∷ []) (next-value slots s)
+      → Before ts (literal-slot slots ms) → length ms < literal-limit → place-in (slot-names slots) n ≡ suc s → Before (ts ++ name n ∷ word HAS ∷ []) (next-value slots s)
   behind-then : {ts : List Token} {slots : List Slot} {c : ConditionTree} {ms : List Literal}
       → Before ts (next-condition slots) → Means-condition slots c ms → length ms ≤ literal-limit → Before (ts ++ spell-condition c (word THEN ∷ [])) (next-assign slots)
   no-brace : {ts : List Token} {slots : List Slot} → Before ts (next-assign slots) → Before ts (assigned-slot slots [])
@@ -81,18 +81,18 @@ pub data Before : List Token → Position → Type 0 where
 -- A token at a position has the fault of this number, whatever other faults it has.
 pub data Fault-at : ℕ → Position → Token → Type 0 where
   -- 14: a slot, or a value within one slot, declared twice.
-  slot-twice : {slots : List Slot} {n : Name} → 1 ≤ place-in (slot-names slots) n → Fault-at 14 (new-slot slots) (name n)
-  value-twice : {ns : List Name} {n : Name} → 1 ≤ place-in ns n → Fault-at 14 (new-value ns) (name n)
+  slot-twice : {slots : List Slot} {n : Name} → 1 ≤ place-in (slot-names slots) n → Fault-at 14 (fresh-slot slots) (name n)
+  value-twice : {ns : List Name} {n : Name} → 1 ≤ place-in ns n → Fault-at 14 (fresh-value ns) (name n)
   -- 15: one too many, at SLOT, at a new value's name, at WHEN, at a literal's first token (no NOT is passed where there is no room), at an assigned slot's name.
   too-many-slots : {slots : List Slot} → slot-limit ≤ length slots → Fault-at 15 (next-line slots) (word SLOT)
-  too-many-values : {ns : List Name} {n : Name} → value-limit ≤ length ns → Fault-at 15 (new-value ns) (name n)
+  too-many-values : {ns : List Name} {n : Name} → value-limit ≤ length ns → Fault-at 15 (fresh-value ns) (name n)
   too-many-rules : {slots : List Slot} {rs : List Rule} → rule-limit ≤ length rs → Fault-at 15 (next-rule slots rs) (word WHEN)
-  too-many-literals : {slots : List Slot} {ms : List Literal} {n : Name} → literal-limit ≤ length ms → Fault-at 15 (tested-slot slots ms) (name n)
-  too-many-nots : {slots : List Slot} {ms : List Literal} → literal-limit ≤ length ms → Fault-at 15 (tested-slot slots ms) (word NOT)
+  too-many-literals : {slots : List Slot} {ms : List Literal} {n : Name} → literal-limit ≤ length ms → Fault-at 15 (literal-slot slots ms) (name n)
+  too-many-nots : {slots : List Slot} {ms : List Literal} → literal-limit ≤ length ms → Fault-at 15 (literal-slot slots ms) (word NOT)
   too-many-assignments : {slots : List Slot} {ps : List Pair} {n : Name} → assignment-limit ≤ length ps → Fault-at 15 (assigned-slot slots ps) (name n)
   -- 16: a slot, or a value of that slot, not declared.
   no-trigger-slot : {slots : List Slot} {n : Name} → place-in (slot-names slots) n ≡ 0 → Fault-at 16 (next-trigger slots) (name n)
-  no-tested-slot : {slots : List Slot} {ms : List Literal} {n : Name} → place-in (slot-names slots) n ≡ 0 → Fault-at 16 (tested-slot slots ms) (name n)
+  no-tested-slot : {slots : List Slot} {ms : List Literal} {n : Name} → place-in (slot-names slots) n ≡ 0 → Fault-at 16 (literal-slot slots ms) (name n)
   no-assigned-slot : {slots : List Slot} {ps : List Pair} {n : Name} → place-in (slot-names slots) n ≡ 0 → Fault-at 16 (assigned-slot slots ps) (name n)
   no-such-value : {slots : List Slot} {s : ℕ} {n : Name} → place-in (values-of slots s) n ≡ 0 → Fault-at 16 (next-value slots s) (name n)
   -- 17: a slot assigned twice in one rule.

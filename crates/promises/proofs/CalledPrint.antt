@@ -9,8 +9,8 @@ use Rattle.reader.specs.Tables.{reading-refusal}
 use Rattle.printing.specs.Printing.{print-into, printing-of, printing-refusal, printing-length}
 use Rattle.promises.specs.HouseStyle.{InStyle}
 use Rattle.promises.specs.CalledPrint.{PrintGiven, CalledPrint}
-use Rattle.promises.proofs.Refusals.{OneOf, Only, of-print, one-of-other}
-use Rattle.promises.proofs.Outcomes.{is-whole, print-refused}
+use Rattle.promises.proofs.Refusals.{Other, only-e}
+use Rattle.promises.proofs.Outcomes.{is-whole, print-other-0}
 use Rattle.promises.proofs.HouseStyle.{house-style}
 
 -- THE HOUSE STYLE AS A CALLER SEES IT.
@@ -31,4 +31,4 @@ called-print text out = given (print-into text (length out)) refl
           accepted-again = ap reading-refusal (b .0);
           alike = b .1;
         }
-    given (refused k s) e z = absurd (one-of-other of-print 0 tt k (subst (λ (u : OrRefused (List ℕ)). Only (OneOf of-print) u) e (print-refused text (length out))) z)
+    given (refused k s) e z = absurd (only-e (Other 0) (print-into text (length out)) k s (print-other-0 text (length out)) e z)

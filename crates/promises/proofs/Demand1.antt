@@ -43,7 +43,7 @@ use Rattle.promises.proofs.Refusals.{Only, Other, only-e, by-table-othe
 use Rattle.promises.proofs.Judged.{Judged, card-judged, slip-judged, packed-card-judged, packed-slip-judged}
 use Rattle.promises.proofs.ResponseReasons.{AnyAnswer, sound-judged, table-judged}
 use Rattle.promises.proofs.Returned.{answers}
-use Rattle.promises.proofs.Outcomes.{text-comes, file-reason, Prints, own-refusal, over, short, all, prints}
+use Rattle.promises.proofs.Outcomes.{text-comes, file-reason, reason-file, Prints, own-refusal, over, short, all, prints}
 
 -- A rule file.
 file-back : (text : List ℕ) → Comes (FileReason text) (reading-refusal (reading text .outcome)) (reading-second (reading text .outcome)) ((f : File) × Is-file text f) (reading text .table ≡ empty-table)
@@ -136,6 +136,7 @@ pub demand-1 : Demand1
 unfolding unpacked-card unpacked-slip packed-card packed-slip response-to show-slot show-value
 demand-1 = record {
   rule-file = file-back;
+  file-exactly = λ text k n r. let o = reason-file text k n r in (ap reading-refusal o, ap reading-second o);
   file-printed = λ text out. print-back text out (print-into text (length out)) (prints text (length out));
   card-unpacked = λ t ys. card-back _ (Passes t (CardRight (value-counts t) ys)) (values-in ys) (unpacked-card t ys) (by-table t (CardReason (value-counts t) ys) _ (read-card (value-counts t) ys) _ (card-judged (value-counts t) ys));
   slip-unpacked = λ t ys. slip-back _ (Passes t (SlipRight (value-counts t) ys)) (changes-in ys) (unpacked-slip t ys) (by-table t (SlipReason (value-counts t) ys) _ (read-slip (value-counts t) ys) _ (slip-judged (value-counts t) ys));

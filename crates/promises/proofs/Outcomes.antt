@@ -2,7 +2,6 @@
 -- Assumes nothing.
 use Prim.Native.Nat.{ℕ, _≤_, _<_}
 use native.Mathlib.Omega.{arith}
-use native.Mathlib.Nat.{eq-or-lt-of-le}
 use mathlib.Core.Path.{_≡_, refl, sym, ap, ap₂, subst, _∙_}
 use mathlib.Core.Bool.{Bool, true, false, cond}
 use mathlib.Core.List.{List, [], _∷_}
@@ -11,7 +10,7 @@ use lib.Dec.{eqb}
 use lib.ListN.{length}
 use Rattle.laws.specs.Answers.{OrRefused, taken, refused}
 use Rattle.laws.proofs.Truth.{le-or-lt}
-use Rattle.text.specs.Tokens.{Token}
+use Rattle.text.specs.Tokens.{tokens}
 use Rattle.model.specs.Strata.{weak}
 use Rattle.model.specs.Circles.{circle-of}
 use Rattle.table.specs.Empty.{empty-table}
@@ -19,35 +18,26 @@ use Rattle.laws.specs.Limits.{text-limit}
 use Rattle.grammar.specs.Files.{File}
 use Rattle.grammar.specs.Reading as grammar
 use Rattle.grammar.specs.Reading.{Parsed, accepted, parse}
-use Rattle.grammar.specs.Refusals.{Fault, no-token, no-place, ends-inside, too-long, in-place}
-use Rattle.grammar.proofs.Faults.{from-fourteen}
-use Rattle.grammar.proofs.Refusals.{refusal-stands}
+use Rattle.grammar.specs.Refusals.{Earliest}
+use Rattle.grammar.proofs.Refusals.{text-refused-iff}
 use Rattle.strata.specs.Layered.{with-strata}
 use Rattle.grammar.specs.TableFor.{table-for}
 use Rattle.reader.specs.declared.Outcome.the-variants.{Accepted, Refused}
 use Rattle.reader.specs.declared.FileRead.{FileRead}
 use Rattle.rule_file.specs.Whole.{layered, answered-whole, reading}
-use Rattle.rule_file.proofs.Answers.{reading-18-iff}
+use Rattle.rule_file.proofs.Answers.{refused-range, reading-18-iff}
 use Rattle.printing.specs.Printing.{print-of, print-into}
 use Rattle.printing.proofs.Fitting.{fitted-34, fitted-33, fitted-all, refused-first, then-fitted}
 use Rattle.promises.specs.Reasons.{FileReason, over-long, at-token, no-strata}
-use Rattle.promises.proofs.Refusals.{OneOf, Only, of-file, of-print, one-of, one-of-more, one-of-other}
+use Rattle.promises.proofs.Refusals.{Only, Other}
 
--- 14 to 17 are refusals of a rule file.
-in-file : (k : ℕ) → 14 ≤ k → k ≤ 17 → OneOf of-file k
-in-file k low high = ⊎-elim (λ (e : k ≡ 17). rw e (one-of of-file 17 tt)) (λ l. ⊎-elim (λ (e : k ≡ 16). rw e (one-of of-file 16 tt)) (λ m. ⊎-elim (λ (e : k ≡ 15). rw e (one-of of-file 15 tt))
-    (λ n. let e : k ≡ 14 = omega arith in rw e (one-of of-file 14 tt)) (eq-or-lt-of-le (let w : k ≤ 15 = omega (arith, m) in w))) (eq-or-lt-of-le (let w : k ≤ 16 = omega (arith, l) in w))) (eq-or-lt-of-le high)
-
-fault-number : (k : ℕ) (before after : List Token) → Fault k before after → OneOf of-file k
-fault-number k before after no-token = one-of of-file 11 tt
-fault-number k before after (no-place u) = one-of of-file 12 tt
-fault-number k before after (ends-inside u) = one-of of-file 12 tt
-fault-number k before after (too-long u) = one-of of-file 13 tt
-fault-number k before after (in-place {t = t} {P = P} b f) = let r = from-fourteen k P t f in in-file k (r .0) (r .1)
+-- The numbers of a reading's refusals.
+abbrev pub OfFile : ℕ → Type 0
+OfFile k = (10 ≤ k) × (k ≤ 18)
 
 -- What a reading comes to.
 abbrev Reads : FileRead → Type 0
-Reads r = (r .outcome ≡ Accepted) ⊎ ((k : ℕ) × (n : ℕ) × OneOf of-file k × (r ≡ record { outcome = Refused k n; table = empty-table }))
+Reads r = (r .outcome ≡ Accepted) ⊎ ((k : ℕ) × (n : ℕ) × OfFile k × (r ≡ record { outcome = Refused k n; table = empty-table }))
 
 file-comes : (f : File) → Reads (layered f)
 unfolding layered
@@ -55,7 +45,7 @@ file-comes f = go (eqb (circle-of weak (f .rules)) 0)
   where
     go : (b : Bool) → Reads (cond b (record { outcome = Accepted; table = with-strata (table-for f) }) (record { outcome = Refused 18 (circle-of weak (f .rules)); table = empty-table }))
     go true = inl refl
-    go false = inr (18, circle-of weak (f .rules), one-of of-file 18 tt, refl)
+    go false = inr (18, circle-of weak (f .rules), (omega arith, omega arith), refl)
 
 pub text-comes : (text : List ℕ) → Reads (reading text)
 unfolding reading answered-whole
@@ -63,9 +53,13 @@ text-comes text = go (parse text) refl
   where
     go : (a : Parsed) → parse text ≡ a → Reads (answered-whole a)
     go (accepted f) e = file-comes f
-    go (grammar.refused k n) e = inr (k, n, ⊎-elim (λ h. rw (h .0) (one-of of-file 10 tt)) (λ h. fault-number k (h .1 .before) (h .1 .after) (h .1 .fault)) (refusal-stands text k n e), refl)
+    go (grammar.refused k n) e = let r = refused-range text k n e in inr (k, n, (r .0, omega (arith, r .1)), refl)
 
--- A refusal has its reason.
+grammar-refuses : (text : List ℕ) (k n : ℕ) → ((k ≡ 10) × (n ≡ 0) × (text-limit < length text)) ⊎ ((length text ≤ text-limit) × Earliest (tokens text) k n) → reading text .outcome ≡ Refused k n
+unfolding reading answered-whole
+grammar-refuses text k n h = ap (λ (a : Parsed). answered-whole a .outcome) (text-refused-iff text k n .1 h)
+
+-- A refusal has its reason,
 pub file-reason : (text : List ℕ) (k n : ℕ) → reading text .outcome ≡ Refused k n → FileReason text k n
 unfolding reading answered-whole layered
 file-reason text k n o = go (parse text) refl o
@@ -85,7 +79,13 @@ file-reason text k n o = go (parse text) refl o
         subst (λ (i : ℕ). FileReason text i n) y (subst (λ (i : ℕ). FileReason text j i) z (at text j m e))
       where
         at : (text : List ℕ) (j m : ℕ) → parse text ≡ grammar.refused j m → FileReason text j m
-        at text j m e = ⊎-elim (λ h. rw (h .0, h .1) (over-long (h .2))) (λ h. at-token (h .0) (h .1)) (refusal-stands text j m e)
+        at text j m e = ⊎-elim (λ h. rw (h .0, h .1) (over-long (h .2))) (λ h. at-token (h .0) (h .1)) (text-refused-iff text j m .0 e)
+
+-- and where a reason holds it is refused so.
+pub reason-file : (text : List ℕ) (k n : ℕ) → FileReason text k n → reading text .outcome ≡ Refused k n
+reason-file text k n (over-long l) = grammar-refuses text 10 0 (inl (refl, refl, l))
+reason-file text k n (at-token s l) = grammar-refuses text k n (inr (s, l))
+reason-file text k n (no-strata {f = f} i l) = reading-18-iff text n .1 (f, i, l)
 
 module _ (text : List ℕ) (room : ℕ) where
   -- The print of the text, whatever its length.
@@ -94,7 +94,7 @@ module _ (text : List ℕ) (room : ℕ) where
 
   -- What a print can come to, and where.
   pub data Prints : OrRefused (List ℕ) → Type 0 where
-    own-refusal : {k n : ℕ} → OneOf of-file k → reading text .outcome ≡ Refused k n → Prints (refused k n)
+    own-refusal : {k n : ℕ} → OfFile k → reading text .outcome ≡ Refused k n → Prints (refused k n)
     over : reading text .outcome ≡ Accepted → text-limit < length whole → Prints (refused 34 0)
     short : reading text .outcome ≡ Accepted → length whole ≤ text-limit → room < length whole → Prints (refused 33 0)
     all : reading text .outcome ≡ Accepted → length whole ≤ text-limit → length whole ≤ room → Prints (taken whole)
@@ -118,13 +118,13 @@ module _ (text : List ℕ) (room : ℕ) where
 
   -- Each answer tells what it comes from.
   from-34 : (u : OrRefused (List ℕ)) → Prints u → u ≡ refused 34 0 → (reading text .outcome ≡ Accepted) × (text-limit < length whole)
-  from-34 u (own-refusal {k = k} {n = n} h o) e = absurd (one-of-other of-file 34 tt k h (let z : k ≡ 34 = cc in z))
+  from-34 u (own-refusal {k = k} {n = n} h o) e = absurd (let z : k ≡ 34 = cc in omega (arith, z, h .1))
   from-34 u (over o l) e = (o, l)
   from-34 u (short o l s) e = absurd (let z : _≡_ {A = ℕ} 33 34 = cc in omega arith)
   from-34 u (all o l s) e = absurd (let z : _≡_ {A = ℕ} 0 1 = cc in omega arith)
 
   from-33 : (u : OrRefused (List ℕ)) → Prints u → u ≡ refused 33 0 → (reading text .outcome ≡ Accepted) × (length whole ≤ text-limit) × (room < length whole)
-  from-33 u (own-refusal {k = k} {n = n} h o) e = absurd (one-of-other of-file 33 tt k h (let z : k ≡ 33 = cc in z))
+  from-33 u (own-refusal {k = k} {n = n} h o) e = absurd (let z : k ≡ 33 = cc in omega (arith, z, h .1))
   from-33 u (over o l) e = absurd (let z : _≡_ {A = ℕ} 33 34 = cc in omega arith)
   from-33 u (short o l s) e = (o, l, s)
   from-33 u (all o l s) e = absurd (let z : _≡_ {A = ℕ} 0 1 = cc in omega arith)
@@ -144,12 +144,12 @@ module _ (text : List ℕ) (room : ℕ) where
   pub is-whole : (bytes : List ℕ) → print-into text room ≡ taken bytes → (reading text .outcome ≡ Accepted) × (bytes ≡ whole) × (length bytes ≤ text-limit) × (length bytes ≤ room)
   is-whole bytes e = from-taken (print-into text room) bytes prints e
 
-  only-prints : (u : OrRefused (List ℕ)) → Prints u → Only (OneOf of-print) u
-  only-prints u (own-refusal {k = k} h o) = one-of-more of-file of-print tt k h
-  only-prints u (over o l) = one-of of-print 34 tt
-  only-prints u (short o l s) = one-of of-print 33 tt
-  only-prints u (all o l s) = tt
+  never-0 : (u : OrRefused (List ℕ)) → Prints u → Only (Other 0) u
+  never-0 u (own-refusal h o) = λ e. omega (arith, h .0, e)
+  never-0 u (over o l) = λ e. omega (arith, e)
+  never-0 u (short o l s) = λ e. omega (arith, e)
+  never-0 u (all o l s) = tt
 
--- A print is its bytes or one refusal from the list.
-pub print-refused : (text : List ℕ) (room : ℕ) → Only (OneOf of-print) (print-into text room)
-print-refused text room = only-prints text room (print-into text room) (prints text room)
+  -- No refusal of a print has number 0.
+  pub print-other-0 : Only (Other 0) (print-into text room)
+  print-other-0 = never-0 (print-into text room) prints

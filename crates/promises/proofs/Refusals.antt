@@ -35,15 +35,7 @@ abbrev pub Only : {A : Type 0} → (ℕ → Type 0) → OrRefused A → Type 0
 Only P (taken a) = Unit
 Only P (refused k s) = P k
 
--- The refusals of a rule file.
-abbrev pub of-file : List ℕ
-of-file = 10 ∷ 11 ∷ 12 ∷ 13 ∷ 14 ∷ 15 ∷ 16 ∷ 17 ∷ 18 ∷ []
-
--- Those of a print: the rule file's, and then its own.
-abbrev pub of-print : List ℕ
-of-print = 34 ∷ 33 ∷ of-file
-
--- Those of a card's bytes, and of a slip's.
+-- The refusals of a card's bytes, and of a slip's.
 abbrev pub of-card : List ℕ
 of-card = 20 ∷ 21 ∷ 22 ∷ 23 ∷ []
 

@@ -47,6 +47,8 @@ pub record Demand1 : Type 0 where
   -- A rule file; after a refusal the table is the one without slots or rules.
   pub rule-file : (text : List ℕ) → Comes (FileReason text) (reading-refusal (reading text .outcome)) (reading-second (reading text .outcome))
       ((f : File) × Is-file text f) (reading text .table ≡ empty-table)
+  -- It is refused so exactly where the reason holds.
+  pub file-exactly : (text : List ℕ) (k n : ℕ) → FileReason text k n → (reading-refusal (reading text .outcome) ≡ k) × (reading-second (reading text .outcome) ≡ n)
   -- A rule file that is printed.
   pub file-printed : (text out : List ℕ) → Comes (PrintReason text (length out)) (printing-refusal (print-told text out)) (printing-second (print-told text out))
       ((printing-length (print-told text out) ≡ length (print-of (parse text))) × (print-left text out ≡ written (print-of (parse text)) out))

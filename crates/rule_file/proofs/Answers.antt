@@ -120,7 +120,7 @@ unfolding layered
 layered-circle f n = rw (ne-eqb (circle-of weak (f .rules)) 0 n) refl
 
 -- The grammar's reading gives 10 to 17.
-refused-range : (text : List ℕ) (k n : ℕ) → parse text ≡ refused k n → (10 ≤ k) × (k ≤ 17)
+pub refused-range : (text : List ℕ) (k n : ℕ) → parse text ≡ refused k n → (10 ≤ k) × (k ≤ 17)
 refused-range text k n e = ⊎-elim (λ w. (omega (arith, w .0), omega (arith, w .0))) (λ w. let r = fault-range k (w .1 .before) (w .1 .after) (w .1 .fault) in (omega (arith, r .0), r .1)) (refusal-stands text k n e)
 
 outcomes-differ : (k n : ℕ) → Accepted ≡ Refused k n → ⊥
