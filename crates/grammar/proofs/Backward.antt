@@ -84,8 +84,8 @@ literal-meaning ts slots m rest h = record { mark = h .mark; sign = h .sign; nam
 pub no-literal-back : (sofar : List Literal) (ts : List Token) (out : List Literal) (rest : List Token) → no-literal sofar ts ≡ took out rest → ⊥
 unfolding no-literal
 no-literal-back sofar [] out rest e = never 12 out rest e
-no-literal-back sofar (word w ∷ ts) out rest e = never 15 out rest (cond-back (eqb w NOT) (stop 15) 12 out rest e .1)
-no-literal-back sofar (name n ∷ ts) out rest e = never 15 out rest e
+no-literal-back sofar (word w ∷ ts) out rest e = never _ out rest (cond-back (eqb w NOT) _ 12 out rest e .1)
+no-literal-back sofar (name n ∷ ts) out rest e = never _ out rest e
 no-literal-back sofar (long ∷ ts) out rest e = never 13 out rest e
 no-literal-back sofar (bad ∷ ts) out rest e = never 11 out rest e
 
@@ -127,7 +127,7 @@ assignment-back slots ps ts p rest e =
 
 pub no-assignment-back : (sofar : List Pair) (ts : List Token) (out : List Pair) (rest : List Token) → no-assignment sofar ts ≡ took out rest → ⊥
 unfolding no-assignment
-no-assignment-back sofar ts out rest e = let a = then-back (a-name ts) _ out rest e in never 15 out rest (a .3)
+no-assignment-back sofar ts out rest e = let a = then-back (a-name ts) _ out rest e in never _ out rest (a .3)
 
 -- There is room for an assignment without braces.
 pub room-for-one : 1 ≤ assignment-limit
@@ -209,7 +209,7 @@ no-more slots sofar f most e = ([], [], refl, no-rules, sym (file-same _ f e) �
 rules-back : (room : ℕ) (slots : List Slot) (sofar : List Rule) (ts : List Token) (f : File) → read-rules room slots sofar ts ≡ accepted f → Rules-found slots sofar ts f room
 unfolding read-rules
 rules-back zero slots sofar [] f e = no-more slots sofar f zero e
-rules-back zero slots sofar (t ∷ ts) f e = let a = go-on-back (length sofar) (expects WHEN (t ∷ ts)) _ f e in refused-never 15 (length sofar) f (a .3)
+rules-back zero slots sofar (t ∷ ts) f e = let a = go-on-back (length sofar) (expects WHEN (t ∷ ts)) _ f e in refused-never _ (length sofar) f (a .3)
 rules-back (suc room) slots sofar [] f e = no-more slots sofar f (suc room) e
 rules-back (suc room) slots sofar (t ∷ ts) f e =
     let a = go-on-back (length sofar) (read-rule slots (t ∷ ts)) _ f e in
@@ -219,7 +219,7 @@ rules-back (suc room) slots sofar (t ∷ ts) f e =
 
 pub no-value-back : (sofar : List Name) (ts : List Token) (out : List Name) (rest : List Token) → no-value sofar ts ≡ took out rest → ⊥
 unfolding no-value
-no-value-back sofar ts out rest e = let a = then-back (new-name sofar ts) _ out rest e in never 15 out rest (a .3)
+no-value-back sofar ts out rest e = let a = then-back (new-name sofar ts) _ out rest e in never _ out rest (a .3)
 
 -- The values that were read, up to the `}`.
 values-back : (ts : List Token) (out : List Name) (rest : List Token) → read-values value-limit [] ts ≡ took out rest
@@ -278,7 +278,7 @@ rules-only before ts f most h e =
 lines-back : (room : ℕ) (before : List Slot) (ts : List Token) (f : File) (most : ℕ) → room + length before ≤ most → read-lines room before ts ≡ accepted f → File-found before ts f most
 unfolding read-lines
 lines-back zero before ts f most h e =
-    ⊎-elim (λ x. refused-never 15 0 f (x .2)) (λ x. rules-only before ts f most (omega arith) x) (if-next-back SLOT _ _ ts (accepted f) e)
+    ⊎-elim (λ x. refused-never _ 0 f (x .2)) (λ x. rules-only before ts f most (omega arith) x) (if-next-back SLOT _ _ ts (accepted f) e)
 lines-back (suc room) before ts f most h e =
     ⊎-elim (λ x. let a = go-on-back 0 (read-line before (word SLOT ∷ x .0)) _ f (x .2) in
     let b = line-back before (word SLOT ∷ x .0) (a .0) (a .1) (a .2) in

@@ -136,7 +136,7 @@ many-halt slots sofar ts = record {
     after = word WHEN ∷ ts;
     whole = refl;
     begun = ([], [], refl);
-    cause = later-fault {k = 15} (omega arith) (omega arith) (a-rule .some-tree ∷ [], drop 1 (spell-rules (a-rule .some-tree ∷ []) []), refl);
+    cause = later-fault {k = 15} (omega arith) (a-rule .some-tree ∷ [], drop 1 (spell-rules (a-rule .some-tree ∷ []) []), refl);
     ended = clean-end zero slots sofar;
     decided = follows-same (λ us. read-rules zero slots sofar us ≡ refused 15 (length sofar)) 15 (word WHEN) ts refl (one-too-many slots sofar);
   };
@@ -232,7 +232,7 @@ many-lines before ts = record {
     after = word SLOT ∷ ts;
     whole = refl;
     begun = ([], [], [], refl);
-    cause = later-fault {k = 15} (omega arith) (omega arith) (a-line .some-tree ∷ [], [], drop 1 (spell-lines (a-line .some-tree ∷ []) []), refl);
+    cause = later-fault {k = 15} (omega arith) (a-line .some-tree ∷ [], [], drop 1 (spell-lines (a-line .some-tree ∷ []) []), refl);
     ended = lines-at-rules zero before;
     decided = follows-same (λ us. read-lines zero before us ≡ refused 15 0) 15 (word SLOT) ts refl (slot-too-many before);
   };

@@ -21,4 +21,5 @@ pub mod Reaching
 pub mod Causes
 pub mod Faults
 pub mod Counted
+pub mod Placed
 pub mod Refusals

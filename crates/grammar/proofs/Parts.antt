@@ -19,55 +19,59 @@ use Rattle.grammar.proofs.Backward.{literal-back, no-literal-back}
 use Rattle.grammar.proofs.Stopping.{Written, Language, Begins, bad-token, wrong-token, the-end, long-name, later-fault, stop-behind, stop-where, nothing-next, Fits, Reader, nothing, reader-took, both, reader-then, Stops-at, stop-here, follows-same, follows-long, a-single-name, Name-reader, reader-name}
 use Rattle.grammar.proofs.Choosing.{either, reader-fork, list-of, reader-list}
 
+-- A reading that stops with a number from 14 on, whatever follows.
+stopped : {A : Type 0} (R : List Token → Part A) (k : ℕ) → ((ts : List Token) → R ts ≡ stop k) → 14 ≤ k → (k : ℕ) × (14 ≤ k) × ((ts : List Token) → R ts ≡ stop k)
+stopped R k e lo = (k, lo, e)
+
 -- The readers of one name.
 pub slot-name-read : (slots : List Slot) → Name-reader (read-slot slots)
 unfolding read-slot a-name _then_ known-slot
 slot-name-read slots = record { at-end = refl; at-word = λ w ts. refl; at-long = λ ts. refl; at-bad = λ ts. refl; at-name = λ n. go (place-in (slot-names slots) n) }
   where
-    go : (i : ℕ) → ((s : ℕ) × ((ts : List Token) → known-slot i ts ≡ took s ts)) ⊎ ((k : ℕ) × (14 ≤ k) × (k ≤ 17) × ((ts : List Token) → known-slot i ts ≡ stop k))
-    go zero = inr (16, omega arith, omega arith, λ ts. refl)
+    go : (i : ℕ) → ((s : ℕ) × ((ts : List Token) → known-slot i ts ≡ took s ts)) ⊎ ((k : ℕ) × (14 ≤ k) × ((ts : List Token) → known-slot i ts ≡ stop k))
+    go zero = inr (stopped (known-slot zero) _ (λ ts. refl) (omega arith))
     go (suc i) = inl (i, λ ts. refl)
 
 pub value-name-read : (slots : List Slot) (s : ℕ) → Name-reader (read-value slots s)
 unfolding read-value a-name _then_ known-value
 value-name-read slots s = record { at-end = refl; at-word = λ w ts. refl; at-long = λ ts. refl; at-bad = λ ts. refl; at-name = λ n. go (place-in (values-of slots s) n) }
   where
-    go : (i : ℕ) → ((v : ℕ) × ((ts : List Token) → known-value i ts ≡ took v ts)) ⊎ ((k : ℕ) × (14 ≤ k) × (k ≤ 17) × ((ts : List Token) → known-value i ts ≡ stop k))
-    go zero = inr (16, omega arith, omega arith, λ ts. refl)
+    go : (i : ℕ) → ((v : ℕ) × ((ts : List Token) → known-value i ts ≡ took v ts)) ⊎ ((k : ℕ) × (14 ≤ k) × ((ts : List Token) → known-value i ts ≡ stop k))
+    go zero = inr (stopped (known-value zero) _ (λ ts. refl) (omega arith))
     go (suc i) = inl (suc i, λ ts. refl)
 
 pub new-name-read : (ns : List Name) → Name-reader (new-name ns)
 unfolding new-name a-name _then_ new
 new-name-read ns = record { at-end = refl; at-word = λ w ts. refl; at-long = λ ts. refl; at-bad = λ ts. refl; at-name = λ n. go n (place-in ns n) }
   where
-    go : (n : Name) (i : ℕ) → ((m : Name) × ((ts : List Token) → new i n ts ≡ took m ts)) ⊎ ((k : ℕ) × (14 ≤ k) × (k ≤ 17) × ((ts : List Token) → new i n ts ≡ stop k))
+    go : (n : Name) (i : ℕ) → ((m : Name) × ((ts : List Token) → new i n ts ≡ took m ts)) ⊎ ((k : ℕ) × (14 ≤ k) × ((ts : List Token) → new i n ts ≡ stop k))
     go n zero = inl (n, λ ts. refl)
-    go n (suc i) = inr (14, omega arith, omega arith, λ ts. refl)
+    go n (suc i) = inr (stopped (new (suc i) n) _ (λ ts. refl) (omega arith))
 
 pub target-name-read : (slots : List Slot) (ps : List Pair) → Name-reader (read-target slots ps)
 unfolding read-target read-slot a-name _then_ known-slot unassigned
 target-name-read slots ps = record { at-end = refl; at-word = λ w ts. refl; at-long = λ ts. refl; at-bad = λ ts. refl; at-name = λ n. go (place-in (slot-names slots) n) }
   where
-    last : (s : ℕ) (t : Bool) → ((u : ℕ) × ((ts : List Token) → unassigned t s ts ≡ took u ts)) ⊎ ((k : ℕ) × (14 ≤ k) × (k ≤ 17) × ((ts : List Token) → unassigned t s ts ≡ stop k))
-    last s true = inr (17, omega arith, omega arith, λ ts. refl)
+    last : (s : ℕ) (t : Bool) → ((u : ℕ) × ((ts : List Token) → unassigned t s ts ≡ took u ts)) ⊎ ((k : ℕ) × (14 ≤ k) × ((ts : List Token) → unassigned t s ts ≡ stop k))
+    last s true = inr (stopped (unassigned true s) _ (λ ts. refl) (omega arith))
     last s false = inl (s, λ ts. refl)
 
     go : (i : ℕ) → ((u : ℕ) × ((ts : List Token) → (known-slot i ts then λ s rest. unassigned (assigns ps s) s rest) ≡ took u ts))
-        ⊎ ((k : ℕ) × (14 ≤ k) × (k ≤ 17) × ((ts : List Token) → (known-slot i ts then λ s rest. unassigned (assigns ps s) s rest) ≡ stop k))
-    go zero = inr (16, omega arith, omega arith, λ ts. refl)
+        ⊎ ((k : ℕ) × (14 ≤ k) × ((ts : List Token) → (known-slot i ts then λ s rest. unassigned (assigns ps s) s rest) ≡ stop k))
+    go zero = inr (stopped (λ ts. known-slot zero ts then λ s rest. unassigned (assigns ps s) s rest) _ (λ ts. refl) (omega arith))
     go (suc i) = last i (assigns ps i)
 
 pub full-assignment-read : (ps : List Pair) → Name-reader (no-assignment ps)
 unfolding no-assignment a-name _then_
-full-assignment-read ps = record { at-end = refl; at-word = λ w ts. refl; at-long = λ ts. refl; at-bad = λ ts. refl; at-name = λ n. inr (15, omega arith, omega arith, λ ts. refl) }
+full-assignment-read ps = record { at-end = refl; at-word = λ w ts. refl; at-long = λ ts. refl; at-bad = λ ts. refl; at-name = λ n. inr (stopped (λ ts. no-assignment ps (name n ∷ ts)) _ (λ ts. refl) (omega arith)) }
 
 pub full-value-read : (ns : List Name) → Name-reader (no-value ns)
 unfolding no-value new-name a-name _then_ new
 full-value-read ns = record { at-end = refl; at-word = λ w ts. refl; at-long = λ ts. refl; at-bad = λ ts. refl; at-name = λ n. go n (place-in ns n) }
   where
-    go : (n : Name) (i : ℕ) → ((out : List Name) × ((ts : List Token) → (new i n ts then λ m rest. stop 15) ≡ took out ts)) ⊎ ((k : ℕ) × (14 ≤ k) × (k ≤ 17) × ((ts : List Token) → _≡_ {A = Part (List Name)} (new i n ts then λ m rest. stop 15) (stop k)))
-    go n zero = inr (15, omega arith, omega arith, λ ts. refl)
-    go n (suc i) = inr (14, omega arith, omega arith, λ ts. refl)
+    go : (n : Name) (i : ℕ) → ((out : List Name) × ((ts : List Token) → (new i n ts then λ m rest. stop 15) ≡ took out ts)) ⊎ ((k : ℕ) × (14 ≤ k) × ((ts : List Token) → _≡_ {A = Part (List Name)} (new i n ts then λ m rest. stop 15) (stop k)))
+    go n zero = inr (15, omega arith, λ ts. refl)
+    go n (suc i) = inr (14, omega arith, λ ts. refl)
 
 -- Some name.
 abbrev pub x-name : Name
@@ -186,13 +190,13 @@ no-literal-stops sofar (word w ∷ ts) k e = go (eqb w NOT) refl
     go : (t : Bool) → eqb w NOT ≡ t → Stops-at literals (no-literal sofar) (word w ∷ ts) k
     go true q =
         stop-here literals (no-literal sofar) (word w ∷ ts) 15 k refl (at-word true q ts)
-        (later-fault (omega arith) (omega arith) (λ rest. ((not-literal (holds-value x-name x-name), []), name x-name ∷ word HAS ∷ name x-name ∷ word THEN ∷ rest, ap (λ (i : ℕ). word i ∷ name x-name ∷ word HAS ∷ name x-name ∷ word THEN ∷ rest) (sym (eqb-true w NOT q)))))
+        (later-fault (omega arith) (λ rest. ((not-literal (holds-value x-name x-name), []), name x-name ∷ word HAS ∷ name x-name ∷ word THEN ∷ rest, ap (λ (i : ℕ). word i ∷ name x-name ∷ word HAS ∷ name x-name ∷ word THEN ∷ rest) (sym (eqb-true w NOT q)))))
         (follows-same (λ us. no-literal sofar us ≡ stop 15) 15 (word w) ts refl (at-word true q)) e
     go false q =
         stop-here literals (no-literal sofar) (word w ∷ ts) 12 k refl (at-word false q ts) (wrong-token refl)
         (follows-same (λ us. no-literal sofar us ≡ stop 12) 12 (word w) ts refl (at-word false q)) e
 no-literal-stops sofar (name n ∷ ts) k e =
-    stop-here literals (no-literal sofar) (name n ∷ ts) 15 k refl refl (later-fault (omega arith) (omega arith) (name-begins-literals n))
+    stop-here literals (no-literal sofar) (name n ∷ ts) 15 k refl refl (later-fault (omega arith) (name-begins-literals n))
     (follows-same (λ us. no-literal sofar us ≡ stop 15) 15 (name n) ts refl (λ later. refl)) e
 no-literal-stops sofar (long ∷ ts) k e =
     stop-here literals (no-literal sofar) (long ∷ ts) 13 k refl refl (long-name name-begins-literals)

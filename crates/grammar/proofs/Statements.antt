@@ -59,7 +59,7 @@ rules-step : (room : ℕ) (slots : List Slot) (sofar : List Rule) (ts : List Tok
     ⊎ ((k : ℕ) × (r : Rule) × (left : List Token) × (room ≡ suc k) × (read-rule slots ts ≡ took r left) × (read-rules k slots (sofar ++ r ∷ []) left ≡ accepted f))
 unfolding read-rules
 rules-step zero slots sofar [] f e = inl (refl, sym (file-same _ f e))
-rules-step zero slots sofar (t ∷ ts) f e = refused-never 15 (length sofar) f (go-on-back (length sofar) (expects WHEN (t ∷ ts)) _ f e .3)
+rules-step zero slots sofar (t ∷ ts) f e = refused-never _ (length sofar) f (go-on-back (length sofar) (expects WHEN (t ∷ ts)) _ f e .3)
 rules-step (suc room) slots sofar [] f e = inl (refl, sym (file-same _ f e))
 rules-step (suc room) slots sofar (t ∷ ts) f e =
     let a = go-on-back (length sofar) (read-rule slots (t ∷ ts)) _ f e in inr (room, a .0, a .1, refl, a .2, a .3)
@@ -69,7 +69,7 @@ lines-step : (room : ℕ) (before : List Slot) (ts : List Token) (f : File) → 
     → (read-rules rule-limit before [] ts ≡ accepted f)
     ⊎ ((k : ℕ) × (s : Slot) × (left : List Token) × (room ≡ suc k) × (read-line before ts ≡ took s left) × (read-lines k (before ++ s ∷ []) left ≡ accepted f))
 unfolding read-lines
-lines-step zero before ts f e = ⊎-elim (λ x. refused-never 15 0 f (x .2)) (λ x. inl x) (if-next-back SLOT _ _ ts (accepted f) e)
+lines-step zero before ts f e = ⊎-elim (λ x. refused-never _ 0 f (x .2)) (λ x. inl x) (if-next-back SLOT _ _ ts (accepted f) e)
 lines-step (suc room) before ts f e =
     ⊎-elim (λ x. let a = go-on-back 0 (read-line before (word SLOT ∷ x .0)) _ f (x .2) in inr (room, a .0, a .1, refl, ap (read-line before) (x .1) ∙ a .2, a .3))
     (λ x. inl x) (if-next-back SLOT _ _ ts (accepted f) e)

@@ -59,23 +59,23 @@ name-back (bad ∷ ts) n rest e = never 11 n rest e
 
 pub known-slot-back : (k : ℕ) (ts : List Token) (s : ℕ) (rest : List Token) → known-slot k ts ≡ took s rest → (k ≡ suc s) × (ts ≡ rest)
 unfolding known-slot
-known-slot-back zero ts s rest e = never 16 s rest e
+known-slot-back zero ts s rest e = never _ s rest e
 known-slot-back (suc k) ts s rest e = let h = took-same k s ts rest e in (ap suc (h .0), h .1)
 
 pub known-value-back : (k : ℕ) (ts : List Token) (v : ℕ) (rest : List Token) → known-value k ts ≡ took v rest → (k ≡ v) × (1 ≤ v) × (ts ≡ rest)
 unfolding known-value
-known-value-back zero ts v rest e = never 16 v rest e
+known-value-back zero ts v rest e = never _ v rest e
 known-value-back (suc k) ts v rest e = let h = took-same (suc k) v ts rest e in (h .0, (let z = h .0 in omega arith), h .1)
 
 pub unassigned-back : (t : Bool) (s : ℕ) (ts : List Token) (u : ℕ) (rest : List Token) → unassigned t s ts ≡ took u rest → (t ≡ false) × (s ≡ u) × (ts ≡ rest)
 unfolding unassigned
-unassigned-back true s ts u rest e = never 17 u rest e
+unassigned-back true s ts u rest e = never _ u rest e
 unassigned-back false s ts u rest e = let h = took-same s u ts rest e in (refl, h .0, h .1)
 
 pub new-back : (k : ℕ) (m : Name) (ts : List Token) (n : Name) (rest : List Token) → new k m ts ≡ took n rest → (k ≡ 0) × (m ≡ n) × (ts ≡ rest)
 unfolding new
 new-back zero m ts n rest e = let h = took-same m n ts rest e in (refl, h .0, h .1)
-new-back (suc k) m ts n rest e = never 14 n rest e
+new-back (suc k) m ts n rest e = never _ n rest e
 
 pub slot-back : (slots : List Slot) (ts : List Token) (s : ℕ) (rest : List Token) → read-slot slots ts ≡ took s rest
     → (n : Name) × (ts ≡ name n ∷ rest) × (place-in (slot-names slots) n ≡ suc s)

@@ -51,7 +51,7 @@ pub data Cause (B : List Token → Type 0) : ℕ → List Token → List Token �
   wrong-token : {mid later : List Token} {t : Token} → is-bad t ≡ false → Cause B 12 mid (t ∷ later)
   the-end : {mid : List Token} → Cause B 12 mid []
   long-name : {mid later : List Token} → ((n : Name) → B (mid ++ name n ∷ [])) → Cause B 13 mid (long ∷ later)
-  later-fault : {k : ℕ} {mid later : List Token} {t : Token} → 14 ≤ k → k ≤ 17 → B (mid ++ t ∷ []) → Cause B k mid (t ∷ later)
+  later-fault : {k : ℕ} {mid later : List Token} {t : Token} → 14 ≤ k → B (mid ++ t ∷ []) → Cause B k mid (t ∷ later)
 
 -- `S` holds whatever follows the first of `after`.
 abbrev pub Whatever-follows : (List Token → Type 0) → ℕ → List Token → List Token → Type 0
@@ -73,7 +73,7 @@ cause-along B C k mid mid′ after h bad-token = bad-token
 cause-along B C k mid mid′ after h (wrong-token e) = wrong-token e
 cause-along B C k mid mid′ after h the-end = the-end
 cause-along B C k mid mid′ after h (long-name g) = long-name (λ n. h (name n ∷ []) (g n))
-cause-along B C k mid mid′ after h (later-fault {t = t} lo hi g) = later-fault lo hi (h (t ∷ []) g)
+cause-along B C k mid mid′ after h (later-fault {t = t} lo g) = later-fault lo (h (t ∷ []) g)
 
 pub follows-along : (S T : List Token → Type 0) (k : ℕ) (mid mid′ after : List Token) → ((u : Token) (later : List Token) → S (mid ++ u ∷ later) → T (mid′ ++ u ∷ later))
     → Whatever-follows S k mid after → Whatever-follows T k mid′ after
@@ -290,7 +290,7 @@ pub record Name-reader {A : Type 0} (R : List Token → Part A) : Type 0 where
   pub at-word : (w : ℕ) (ts : List Token) → R (word w ∷ ts) ≡ stop 12
   pub at-long : (ts : List Token) → R (long ∷ ts) ≡ stop 13
   pub at-bad : (ts : List Token) → R (bad ∷ ts) ≡ stop 11
-  pub at-name : (n : Name) → ((a : A) × ((ts : List Token) → R (name n ∷ ts) ≡ took a ts)) ⊎ ((k : ℕ) × (14 ≤ k) × (k ≤ 17) × ((ts : List Token) → R (name n ∷ ts) ≡ stop k))
+  pub at-name : (n : Name) → ((a : A) × ((ts : List Token) → R (name n ∷ ts) ≡ took a ts)) ⊎ ((k : ℕ) × (14 ≤ k) × ((ts : List Token) → R (name n ∷ ts) ≡ stop k))
 
 -- It stops where some tree of the language begins with a name.
 name-stops : {A : Type 0} (G : Language) (R : List Token → Part A) → Name-reader R → ((n : Name) → Begins G (name n ∷ [])) → (ts : List Token) (k : ℕ) → R ts ≡ stop k → Stops-at G R ts k
@@ -299,7 +299,7 @@ name-stops G R r begin (word w ∷ ts) k e =
     stop-here G R (word w ∷ ts) 12 k (r .at-end) (r .at-word w ts) (wrong-token refl) (follows-same (λ us. R us ≡ stop 12) 12 (word w) ts refl (r .at-word w)) e
 name-stops G R r begin (name n ∷ ts) k e =
     ⊎-elim (λ x. stop-took k (x .0) ts (sym (x .1 ts) ∙ e))
-    (λ x. stop-here G R (name n ∷ ts) (x .0) k (r .at-end) (x .3 ts) (later-fault (x .1) (x .2) (begin n)) (follows-same (λ us. R us ≡ stop (x .0)) (x .0) (name n) ts refl (x .3)) e)
+    (λ x. stop-here G R (name n ∷ ts) (x .0) k (r .at-end) (x .2 ts) (later-fault (x .1) (begin n)) (follows-same (λ us. R us ≡ stop (x .0)) (x .0) (name n) ts refl (x .2)) e)
     (r .at-name n)
 name-stops G R r begin (long ∷ ts) k e =
     stop-here G R (long ∷ ts) 13 k (r .at-end) (r .at-long ts) (long-name begin) (follows-long (λ us. R us ≡ stop 13) 13 ts (r .at-long) (λ z n later. absurd (omega arith))) e
@@ -309,7 +309,7 @@ name-stops G R r begin (bad ∷ ts) k e =
 name-fits : {A : Type 0} (R : List Token → Part A) → Name-reader R → (n : Name) (rest : List Token) → Fits (R (name n ∷ rest)) rest
 name-fits {A} R r n rest =
     ⊎-elim (λ x. subst (λ (m : Part A). Fits m rest) (sym (x .1 rest)) refl)
-    (λ x. subst (λ (m : Part A). Fits m rest) (sym (x .3 rest)) (x .1)) (r .at-name n)
+    (λ x. subst (λ (m : Part A). Fits m rest) (sym (x .2 rest)) (x .1)) (r .at-name n)
 
 pub reader-name : {A : Type 0} (R : List Token → Part A) → Name-reader R → Reader a-single-name R
 reader-name {A} R r = record { reads = reads; stops = name-stops a-single-name R r (λ n rest. (n, rest, refl)); fits = name-fits R r }
@@ -320,7 +320,7 @@ reader-name {A} R r = record { reads = reads; stops = name-stops a-single-name R
     reads (name n ∷ ts) a rest e =
         ⊎-elim (λ x. let h = took-same (x .0) a ts rest (sym (x .1 ts) ∙ e) in
         (n, ap (λ (y : List Token). name n ∷ y) (h .1), λ later. x .1 later ∙ ap (λ b. took b later) (h .0)))
-        (λ x. stop-took (x .0) a rest (sym e ∙ x .3 ts)) (r .at-name n)
+        (λ x. stop-took (x .0) a rest (sym e ∙ x .2 ts)) (r .at-name n)
     reads (long ∷ ts) a rest e = stop-took 13 a rest (sym e ∙ r .at-long ts)
     reads (bad ∷ ts) a rest e = stop-took 11 a rest (sym e ∙ r .at-bad ts)
 

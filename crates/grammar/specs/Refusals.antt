@@ -2,14 +2,12 @@
 use Prim.Native.Nat.{ℕ, _<_}
 use mathlib.Core.Path.{_≡_}
 use mathlib.Core.List.{List, [], _∷_, _++_}
-use mathlib.Core.Logic.{_⊎_}
 use lib.ListN.{length}
 use Rattle.text.specs.Tokens.{Name, Token, word, name, long, bad}
 use Rattle.text.specs.Cut.{Free}
-use Rattle.grammar.specs.Files.{File}
 use Rattle.grammar.specs.Grammar.{RuleTree, LineTree, FileTree, spell, spell-rules, spell-lines}
 use Rattle.grammar.specs.Beginnings.{Position, Before, Fault-at}
-use Rattle.grammar.specs.Reading.{accepted, refused, read-tokens}
+use Rattle.grammar.specs.Reading.{refused, read-tokens}
 
 -- A derivation goes on from these tokens: the tokens of some tree begin with them. (A tree knows neither limits nor declarations.)
 pub record Goes-on (ts : List Token) : Type 0 where
@@ -36,14 +34,9 @@ pub data Fault : ℕ → List Token → List Token → Type 0 where
   too-long : {before later : List Token} → ((n : Name) → Goes-on (before ++ name n ∷ [])) → Fault 13 before (long ∷ later)
   in-place : {k : ℕ} {before later : List Token} {t : Token} {P : Position} → Before before P → Fault-at k P t → Fault k before (t ∷ later)
 
--- Said of tokens from which a derivation goes on: none of them has a fault, and `n` rules are completed by them. They are read to their end, which is inside a statement (12) or accepted.
-abbrev pub No-fault : List Token → ℕ → Type 0
-No-fault before n = (read-tokens before ≡ refused 12 n) ⊎ ((f : File) × (read-tokens before ≡ accepted f) × (length (f .rules) ≡ n))
-
--- The refusal is the same whatever follows the faulty token.
-abbrev pub Decided : ℕ → ℕ → List Token → List Token → Type 0
-Decided k n before [] = Unit
-Decided k n before (t ∷ rest) = (later : List Token) → read-tokens (before ++ t ∷ later) ≡ refused k n
+-- None of these tokens has a fault.
+abbrev pub Faultless : List Token → Type 0
+Faultless ts = (before : List Token) (t : Token) (later : List Token) → ts ≡ before ++ t ∷ later → (k : ℕ) → ¬ Fault k before (t ∷ later)
 
 -- These tokens are slot lines, `n` rules, and the beginning of one more statement, without its `;`.
 pub record Completed (ts : List Token) (n : ℕ) : Type 0 where
@@ -54,24 +47,8 @@ pub record Completed (ts : List Token) (n : ℕ) : Type 0 where
   pub unended : Free part
   pub count : length rules ≡ n
 
--- The refusal `k` with second number `n` stands at the first of `after`, or at the end where there is none: no token before has a fault, this one has `k`, and none of a smaller number.
+-- The refusal `k` with second number `n` stands at the first of `after`, or at the end where there is none: no token before has a fault, this one has `k` and none of a smaller number, and `n` rules are completed before it. Nothing here is read.
 pub record Stands-at (ts : List Token) (k n : ℕ) : Type 0 where
-  pub before : List Token
-  pub after : List Token
-  pub whole : ts ≡ before ++ after
-  pub goes-on : Goes-on before
-  pub no-fault : No-fault before n
-  pub fault : Fault k before after
-  pub smallest : (j : ℕ) → j < k → ¬ Fault j before after
-  pub decided : Decided k n before after
-  pub completed : Completed before n
-
--- None of these tokens has a fault.
-abbrev pub Faultless : List Token → Type 0
-Faultless ts = (before : List Token) (t : Token) (later : List Token) → ts ≡ before ++ t ∷ later → (k : ℕ) → ¬ Fault k before (t ∷ later)
-
--- The earliest token with a fault, or the end, the smallest number `k` of its faults, and the number `n` of rules completed before it. Nothing here is read.
-pub record Earliest (ts : List Token) (k n : ℕ) : Type 0 where
   pub before : List Token
   pub after : List Token
   pub whole : ts ≡ before ++ after
@@ -80,16 +57,21 @@ pub record Earliest (ts : List Token) (k n : ℕ) : Type 0 where
   pub smallest : (j : ℕ) → j < k → ¬ Fault j before after
   pub completed : Completed before n
 
+-- The refusal is the same whatever follows the faulty token.
+abbrev pub Decided : ℕ → ℕ → List Token → List Token → Type 0
+Decided k n before [] = Unit
+Decided k n before (t ∷ rest) = (later : List Token) → read-tokens (before ++ t ∷ later) ≡ refused k n
+
 -- No derivation goes on with the first of `after`, or, where there is none, none is whole.
 abbrev pub Stuck : List Token → List Token → Type 0
 Stuck before [] = Underived before
 Stuck before (t ∷ later) = Out-of-place before t
 
--- The first token with which no derivation goes on, or the end of an unfinished one, and no fault of another kind before it.
+-- The first token with which no derivation goes on, or the end of an unfinished one, no fault before it, and the rules completed before it.
 pub record Stuck-first (ts : List Token) (n : ℕ) : Type 0 where
   pub before : List Token
   pub after : List Token
   pub whole : ts ≡ before ++ after
-  pub goes-on : Goes-on before
-  pub no-fault : No-fault before n
+  pub faultless : Faultless before
   pub stuck : Stuck before after
+  pub completed : Completed before n

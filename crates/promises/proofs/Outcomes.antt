@@ -18,7 +18,7 @@ use Rattle.laws.specs.Limits.{text-limit}
 use Rattle.grammar.specs.Files.{File}
 use Rattle.grammar.specs.Reading as grammar
 use Rattle.grammar.specs.Reading.{Parsed, accepted, parse}
-use Rattle.grammar.specs.Refusals.{Earliest}
+use Rattle.grammar.specs.Refusals.{Stands-at}
 use Rattle.grammar.proofs.Refusals.{text-refused-iff}
 use Rattle.strata.specs.Layered.{with-strata}
 use Rattle.grammar.specs.TableFor.{table-for}
@@ -55,7 +55,7 @@ text-comes text = go (parse text) refl
     go (accepted f) e = file-comes f
     go (grammar.refused k n) e = let r = refused-range text k n e in inr (k, n, (r .0, omega (arith, r .1)), refl)
 
-grammar-refuses : (text : List ℕ) (k n : ℕ) → ((k ≡ 10) × (n ≡ 0) × (text-limit < length text)) ⊎ ((length text ≤ text-limit) × Earliest (tokens text) k n) → reading text .outcome ≡ Refused k n
+grammar-refuses : (text : List ℕ) (k n : ℕ) → ((k ≡ 10) × (n ≡ 0) × (text-limit < length text)) ⊎ ((length text ≤ text-limit) × Stands-at (tokens text) k n) → reading text .outcome ≡ Refused k n
 unfolding reading answered-whole
 grammar-refuses text k n h = ap (λ (a : Parsed). answered-whole a .outcome) (text-refused-iff text k n .1 h)
 

@@ -20,7 +20,7 @@ use Rattle.laws.specs.Limits.{text-limit}
 use Rattle.grammar.specs.Files.{File}
 use Rattle.grammar.specs.Meaning.{Is-file}
 use Rattle.grammar.specs.Reading.{parse}
-use Rattle.grammar.specs.Refusals.{Earliest}
+use Rattle.grammar.specs.Refusals.{Stands-at}
 use Rattle.printing.specs.Printing.{print-of}
 use Rattle.soundness.specs.Sound.{sound}
 use Rattle.cards.specs.Forms.{card-bits, slip-bits, count-in, values-in, changes-in, padding}
@@ -33,7 +33,7 @@ use Rattle.promises.specs.Agreement.{LowestConflict}
 -- A rule file. 10: its length. 11 to 17: the smallest fault of the earliest faulty token, or of the end, after so many completed rules. 18: the lowest rule on a circle through a NOT.
 pub data FileReason (text : List ℕ) : ℕ → ℕ → Type 0 where
   over-long : text-limit < length text → FileReason text 10 0
-  at-token : {k n : ℕ} → length text ≤ text-limit → Earliest (tokens text) k n → FileReason text k n
+  at-token : {k n : ℕ} → length text ≤ text-limit → Stands-at (tokens text) k n → FileReason text k n
   no-strata : {f : File} {n : ℕ} → Is-file text f → LowestThroughNot (f .rules) n → FileReason text 18 n
 
 -- A print: the reading's own; then 34, its length; 33, an output that is shorter.
