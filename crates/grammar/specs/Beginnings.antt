@@ -40,6 +40,7 @@ pub data Position : Type 0 where
 
 -- These tokens stand before a position: slot lines, rules, and the beginning of one more statement, all declared and within the limits.
 pub data Before : List Token → Position → Type 0 where
+  -- Slot lines, and in one its name and the values so far, each with a comma.
   start : Before [] (next-line [])
   behind-line : {ts : List Token} {slots : List Slot} {t : LineTree} {s : Slot}
       → Before ts (next-line slots) → length slots < slot-limit → Means-line slots t s → Before (ts ++ spell-line t []) (next-line (slots ++ s ∷ []))
@@ -48,6 +49,7 @@ pub data Before : List Token → Position → Type 0 where
       → Before ts (fresh-slot slots) → place-in (slot-names slots) n ≡ 0 → Before (ts ++ name n ∷ word OPEN ∷ []) (fresh-value [])
   behind-value : {ts : List Token} {ns : List Name} (n : Name)
       → Before ts (fresh-value ns) → length ns < value-limit → place-in ns n ≡ 0 → Before (ts ++ name n ∷ word COMMA ∷ []) (fresh-value (ns ++ n ∷ []))
+  -- Rules, and in one its trigger.
   lines-over : {ts : List Token} {slots : List Slot} → Before ts (next-line slots) → Before ts (next-rule slots [])
   behind-rule : {ts : List Token} {slots : List Slot} {rs : List Rule} {t : RuleTree} {r : Rule}
       → Before ts (next-rule slots rs) → length rs < rule-limit → Means-rule slots t r → Before (ts ++ spell-rule t []) (next-rule slots (rs ++ r ∷ []))
@@ -56,6 +58,7 @@ pub data Before : List Token → Position → Type 0 where
       → Before ts (next-trigger slots) → place-in (slot-names slots) n ≡ suc s → Before (ts ++ name n ∷ word BECOMES ∷ []) (next-value slots s)
   behind-if : {ts : List Token} {slots : List Slot} {t : TriggerTree} {p : Pair}
       → Before ts (next-trigger slots) → Means-trigger slots t p → Before (ts ++ spell-trigger t (word IF ∷ [])) (next-condition slots)
+  -- A condition: TRUE AND or not, and literals so far, each with AND; in one its NOTs, its slot and its mark.
   no-true-first : {ts : List Token} {slots : List Slot} → Before ts (next-condition slots) → Before ts (next-literal slots [])
   behind-true : {ts : List Token} {slots : List Slot} → Before ts (next-condition slots) → Before (ts ++ word TRUE ∷ word AND ∷ []) (next-literal slots [])
   behind-literal : {ts : List Token} {slots : List Slot} {ms : List Literal} {t : LiteralTree} {m : Literal}
@@ -66,6 +69,7 @@ pub data Before : List Token → Position → Type 0 where
       → Before ts (literal-slot slots ms) → length ms < literal-limit → place-in (slot-names slots) n ≡ suc s → Before (ts ++ name n ∷ word BECOMES ∷ []) (next-value slots s)
   behind-has : {ts : List Token} {slots : List Slot} {ms : List Literal} {s : ℕ} (n : Name)
       → Before ts (literal-slot slots ms) → length ms < literal-limit → place-in (slot-names slots) n ≡ suc s → Before (ts ++ name n ∷ word HAS ∷ []) (next-value slots s)
+  -- What follows THEN: one assignment, or in braces those so far, each with a comma; in one its slot and its mark.
   behind-then : {ts : List Token} {slots : List Slot} {c : ConditionTree} {ms : List Literal}
       → Before ts (next-condition slots) → Means-condition slots c ms → length ms ≤ literal-limit → Before (ts ++ spell-condition c (word THEN ∷ [])) (next-assign slots)
   no-brace : {ts : List Token} {slots : List Slot} → Before ts (next-assign slots) → Before ts (assigned-slot slots [])
