@@ -50,7 +50,7 @@ separated-le {A} sep m part (x ∷ xs) h =
     omega arith
 
 module _ (slots : List Slot) (formed : Each Well-named slots) where
-  pair-le : (mark : List ℕ) (p : Pair) → Declared-pair slots p → length (pair-bytes slots mark p) ≤ 48 + length mark
+  pair-le : (mark : List ℕ) (p : Pair) → Declared-pair slots p → length (pair-bytes slots mark p) ≤ name-limit + length mark + name-limit
   unfolding pair-bytes
   pair-le mark p d =
       let s = slot-formed slots formed p d .0 .short in
