@@ -14,11 +14,11 @@ use table::PAIRS;
 use table::Rule;
 use table::Table;
 
-// The words of 64 bits to a row of 512, one bit for each pair.
-const WORDS: usize = 8;
+// The words of 64 bits to a row, one bit for each pair.
+const WORDS: usize = PAIRS / 64;
 
 // The words of all rows, one row for each pair.
-const LINKS: usize = 4096;
+const LINKS: usize = PAIRS * WORDS;
 
 // Whether a link leads from the pair at p to the pair at q.
 fn linked(links: &[u64; LINKS], p: usize, q: usize) -> bool

@@ -1,5 +1,5 @@
 -- Document 01, 'Rule text': the limits, each said once.
-use Prim.Native.Nat.{ℕ}
+use Prim.Native.Nat.{ℕ, _+_}
 
 -- Bytes in a text.
 abbrev pub text-limit : ℕ
@@ -31,4 +31,4 @@ assignment-limit = 4
 
 -- The values of a slot and 0, which stands for none: the places of one slot in an array indexed by pair.
 abbrev pub row : ℕ
-row = 16
+row = value-limit + 1

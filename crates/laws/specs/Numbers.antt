@@ -1,4 +1,4 @@
--- Tests over the numbers 1 to k: one that passes, the lowest that passes, how many pass; and sums.
+-- Tests over the numbers 1 to k: one that passes, the lowest that passes, how many pass.
 use Prim.Native.Nat.{ℕ, zero, suc, _+_, _≤_}
 use mathlib.Core.Bool.{Bool, false, cond}
 use Rattle.laws.specs.Truth.{_∨ᵇ_}

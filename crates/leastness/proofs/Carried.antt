@@ -19,7 +19,7 @@ use Rattle.laws.proofs.Filled.{replicate-at}
 use Rattle.model.specs.Rules.{Pair, among}
 use Rattle.model.specs.Orders.{rule-at}
 use Rattle.model.specs.Strata.{weak, needed, barred, depends-plainly, depends-under-not, may-stay-level, must-fall, Strata}
-use Rattle.model.specs.Justified.{Justified}
+use Rattle.model.specs.inner.Justified.{Justified}
 use Rattle.model.specs.Circles.{circle-of}
 use Rattle.model.specs.Least.{LeastStrata, strata-of}
 use Rattle.model.proofs.Pairs.{needed-tested, barred-tested, meet-e}

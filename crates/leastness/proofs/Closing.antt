@@ -17,7 +17,7 @@ use Rattle.model.specs.Rules.{Pair, Literal, among}
 use Rattle.model.specs.Rules as model
 use Rattle.model.specs.Orders.{rule-at}
 use Rattle.model.specs.Strata.{weak, pairs-where, is-plain, tested, needed, barred, depends-under-not, must-fall}
-use Rattle.model.specs.Justified.{Justified, at-first, one-above}
+use Rattle.model.specs.inner.Justified.{Justified, at-first, one-above}
 use Rattle.model.proofs.Pairs.{needed-tested, barred-tested, meet-i}
 use Rattle.table.specs.declared.Rule.{Rule}
 use Rattle.table.specs.declared.Table.{Table}

@@ -17,7 +17,7 @@ use Rattle.model.specs.Rules.{Pair, among}
 use Rattle.model.specs.Rules as model
 use Rattle.model.specs.Orders.{rule-at}
 use Rattle.model.specs.Strata.{weak, needed, barred, depends-plainly, depends-under-not, may-stay-level, must-fall}
-use Rattle.model.specs.Justified.{Justified, level-with}
+use Rattle.model.specs.inner.Justified.{Justified, level-with}
 use Rattle.model.proofs.Pairs.{needed-tested, meet-i, meet-e}
 use Rattle.model.proofs.Justified.{all-justified}
 use Rattle.table.specs.declared.Table.{Table}

@@ -13,15 +13,16 @@ ghost use Rattle.strata.specs.inner.Heights.{Small};
 ghost use Rattle.leastness.specs.inner.OneBelow.{one-below};
 ghost use Rattle.leastness.specs.inner.Chains.{needs-places, head-at, nexts-at, heads-with, nexts-with};
 ghost use Rattle.leastness.specs.inner.Flagging.{flagging, Room, flag-all};
+use table::LITERALS;
 use table::PAIRS;
 use table::RULES;
 use table::Rule;
 
-// The places where a rule can need a pair: its trigger and eight literals.
-pub const EACH: usize = 9;
+// The places where a rule can need a pair: its trigger and its literals.
+pub const EACH: usize = LITERALS + 1;
 
 // The places of all rules.
-pub const NEEDS: usize = 2295;
+pub const NEEDS: usize = RULES * EACH;
 
 // Whether a pair that a rule tests under NOT has a number one below s.
 pub fn one_below(r: Rule, s: usize, high: &[usize; PAIRS]) -> bool

@@ -18,7 +18,7 @@ use Rattle.model.specs.Rules.{Rule}
 use Rattle.model.specs.Strata.{Grading, may-stay-level, must-fall, Strata}
 use Rattle.model.specs.Circles.{reach, Walk, here, on}
 use Rattle.model.specs.Least.{strata-of}
-use Rattle.model.specs.Justified.{Justified, at-first, one-above, level-with}
+use Rattle.model.specs.inner.Justified.{Justified, at-first, one-above, level-with}
 use Rattle.model.proofs.Reach.{reach-refl, reach-step, reach-trans, reach-walk}
 use Rattle.model.proofs.Strata.{least-least, least-e}
 

@@ -4,7 +4,7 @@ pub mod Strata
 pub mod Causes
 pub mod Circles
 pub mod Least
-pub mod Justified
 pub mod Response
 pub mod Result
 pub mod Paper
+pub mod inner

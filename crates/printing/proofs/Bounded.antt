@@ -18,7 +18,7 @@ use Rattle.laws.specs.Listed.{Each}
 use Rattle.laws.proofs.Listed.{each-map, each-imply}
 use Rattle.style.specs.Printed.{print}
 use Rattle.style.specs.inner.Named.{Named, Well-named}
-use Rattle.writing.specs.inner.Puts.{slot-line-most, rule-line-most, longest}
+use Rattle.writing.specs.inner.Puts.{pair-most, slot-line-most, rule-line-most, longest}
 use Rattle.writing.specs.inner.Written.{followed, separated, test-bytes, literal-bytes, condition-bytes, assign-bytes, rule-bytes, line-bytes, lines-joined}
 use Rattle.printing.specs.inner.Lines.{pair-bytes, slot-bytes, file-bytes}
 use Rattle.style.proofs.Formed.{file-formed}
@@ -50,7 +50,7 @@ separated-le {A} sep m part (x ∷ xs) h =
     omega arith
 
 module _ (slots : List Slot) (formed : Each Well-named slots) where
-  pair-le : (mark : List ℕ) (p : Pair) → Declared-pair slots p → length (pair-bytes slots mark p) ≤ 48 + length mark
+  pair-le : (mark : List ℕ) (p : Pair) → Declared-pair slots p → length (pair-bytes slots mark p) ≤ name-limit + length mark + name-limit
   unfolding pair-bytes
   pair-le mark p d =
       let s = slot-formed slots formed p d .0 .short in
@@ -59,32 +59,32 @@ module _ (slots : List Slot) (formed : Each Well-named slots) where
       let b = length-append mark (value-named slots p .letters) in
       omega arith
 
-  literal-le : (m : Literal) → Declared-pair slots (m .pair) → length (literal-bytes (pair-bytes slots) m) ≤ 56
+  literal-le : (m : Literal) → Declared-pair slots (m .pair) → length (literal-bytes (pair-bytes slots) m) ≤ pair-most + 4
   unfolding literal-bytes test-bytes bytes bytes-from
   literal-le m d = go (m .becomes) (m .negated)
     where
-      go : (b n : Bool) → length (literal-bytes (pair-bytes slots) (record { becomes = b; negated = n; pair = m .pair })) ≤ 56
+      go : (b n : Bool) → length (literal-bytes (pair-bytes slots) (record { becomes = b; negated = n; pair = m .pair })) ≤ pair-most + 4
       go true true = let h = pair-le (bytes " *= ") (m .pair) d in omega arith
       go true false = let h = pair-le (bytes " *= ") (m .pair) d in omega arith
       go false true = let h = pair-le (bytes " |= ") (m .pair) d in omega arith
       go false false = let h = pair-le (bytes " |= ") (m .pair) d in omega arith
 
-  condition-le : (ms : List Literal) → Each (λ (m : Literal). Declared-pair slots (m .pair)) ms → length (condition-bytes (pair-bytes slots) ms) ≤ 4 + length ms * 61
+  condition-le : (ms : List Literal) → Each (λ (m : Literal). Declared-pair slots (m .pair)) ms → length (condition-bytes (pair-bytes slots) ms) ≤ 4 + length ms * (pair-most + 9)
   unfolding condition-bytes bytes bytes-from
   condition-le [] d = omega arith
   condition-le (m ∷ ms) d =
-      let r : length (separated (bytes " AND ") (map (literal-bytes (pair-bytes slots)) (m ∷ ms))) ≤ length (m ∷ ms) * 61 =
-      separated-le (bytes " AND ") 56 (literal-bytes (pair-bytes slots)) (m ∷ ms) (each-imply (λ (x : Literal). Declared-pair slots (x .pair)) (λ (x : Literal). length (literal-bytes (pair-bytes slots) x) ≤ 56) (m ∷ ms) literal-le d) in
+      let r : length (separated (bytes " AND ") (map (literal-bytes (pair-bytes slots)) (m ∷ ms))) ≤ length (m ∷ ms) * (pair-most + 9) =
+      separated-le (bytes " AND ") (pair-most + 4) (literal-bytes (pair-bytes slots)) (m ∷ ms) (each-imply (λ (x : Literal). Declared-pair slots (x .pair)) (λ (x : Literal). length (literal-bytes (pair-bytes slots) x) ≤ pair-most + 4) (m ∷ ms) literal-le d) in
       omega arith
 
-  assign-le : (ps : List Pair) → Each (Declared-pair slots) ps → length (assign-bytes (pair-bytes slots) ps) ≤ 4 + length ps * 54
+  assign-le : (ps : List Pair) → Each (Declared-pair slots) ps → length (assign-bytes (pair-bytes slots) ps) ≤ 4 + length ps * (pair-most + 2)
   unfolding assign-bytes bytes bytes-from
   assign-le [] d = omega arith
   assign-le (p ∷ []) d = let h = pair-le (bytes " := ") p (d .0) in omega arith
   assign-le (p ∷ q ∷ qs) d =
       let list = separated (bytes ", ") (map (pair-bytes slots (bytes " := ")) (p ∷ q ∷ qs)) in
-      let r : length list ≤ length (p ∷ q ∷ qs) * 54 =
-      separated-le (bytes ", ") 52 (pair-bytes slots (bytes " := ")) (p ∷ q ∷ qs) (each-imply (Declared-pair slots) (λ (x : Pair). length (pair-bytes slots (bytes " := ") x) ≤ 52) (p ∷ q ∷ qs) (pair-le (bytes " := ")) d) in
+      let r : length list ≤ length (p ∷ q ∷ qs) * (pair-most + 2) =
+      separated-le (bytes ", ") pair-most (pair-bytes slots (bytes " := ")) (p ∷ q ∷ qs) (each-imply (Declared-pair slots) (λ (x : Pair). length (pair-bytes slots (bytes " := ") x) ≤ pair-most) (p ∷ q ∷ qs) (pair-le (bytes " := ")) d) in
       let a = length-append list (bytes " }") in
       omega arith
 
@@ -103,7 +103,7 @@ slot-le : (s : Slot) → Well-named s → Valued s → length (slot-bytes s) ≤
 unfolding line-bytes bytes bytes-from
 slot-le s n v =
     let list = separated (bytes ", ") (spellings (s .values)) in
-    let r : length list ≤ length (s .values) * 26 =
+    let r : length list ≤ length (s .values) * (name-limit + 2) =
     separated-le (bytes ", ") name-limit (λ (m : Name). m .letters) (s .values) (each-imply Named (λ (m : Name). length (m .letters) ≤ name-limit) (s .values) (λ m h. h .short) (n .1)) in
     let i = length-append (s .name .letters) (bytes " { " ++ (list ++ bytes " };\n")) in
     let j = length-append list (bytes " };\n") in

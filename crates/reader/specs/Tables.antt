@@ -1,4 +1,4 @@
--- The table that a reading gives: document 01, 'Rule text'. Unused places are zero, a refused reading gives a table without slots or rules.
+-- What a reading gives: document 01, 'Rule text'. A refused reading gives a table without slots or rules.
 use Prim.Native.Nat.{ℕ}
 use Rattle.table.specs.Empty.{empty-table}
 use Rattle.grammar.specs.Reading.{Parsed, accepted, refused}

@@ -4,13 +4,14 @@ use mathlib.Core.Bool.{cond}
 use mathlib.Core.List.{List}
 use lib.Dec.{ltb}
 use lib.ListN.{length}
+use Rattle.laws.specs.Limits.{slot-limit}
 use Rattle.laws.specs.Packed.{byte-count}
 use Rattle.model.specs.Rules.{Rule}
 use Rattle.table.specs.declared.Table.{Table}
 use Rattle.table.specs.Link.{rules-of, value-counts}
 use Rattle.laws.specs.Answers.{OrRefused, taken, refused, written}
 use Rattle.cards.specs.Cards.{if-sound}
-use Rattle.cards.specs.Forms.{card-bits, read-card, read-slip}
+use Rattle.cards.specs.Forms.{card-bits, slip-bits, read-card, read-slip}
 use Rattle.tally.specs.declared.Tally.{Tally}
 use Rattle.tally.specs.Counting.{is-full, one-answered, one-refused}
 use Rattle.response.specs.declared.Outcome.{Outcome}
@@ -31,9 +32,9 @@ pub record Rooms : Type 0 where
   pub for-changes : ℕ
   pub for-fired : ℕ
 
--- The most that changes take: 32 of them.
+-- The most that changes take: one for each slot that a file may have.
 abbrev pub changes-room : ℕ
-changes-room = 37
+changes-room = byte-count (slip-bits slot-limit)
 
 -- 30: an output too short for so many slots and rules, 1 the card, 2 the changes, 3 the fired record; the first short one is named.
 unfoldable pub if-room : {A : Type 0} → ℕ → ℕ → Rooms → OrRefused A → OrRefused A

@@ -17,6 +17,7 @@ use results::ending::conflict_slot;
 use results::ending::new_values;
 use results::records::count_fired;
 use results::records::record_of;
+use table::SLOTS;
 use table::Table;
 
 // Fires the rules and writes the answer; a conflict writes nothing.
@@ -56,8 +57,8 @@ fn settle(
     Outcome::Answered(length, total)
 }
 
-// The bytes that 32 changes take.
-const CHANGES: usize = 37;
+// The bytes that a change for every slot takes.
+const CHANGES: usize = (6 + 9 * SLOTS + 7) / 8;
 
 // 30 with the first output that is too short, 1 the card, 2 the changes, 3 the fired record; else the answer.
 pub fn finish(

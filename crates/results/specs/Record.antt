@@ -1,4 +1,4 @@
--- Document 01, 'Preconditions and response': the fired record, one bit for each rule, rule 1 first, padded to bytes, and its count of one bits.
+-- Document 01, 'Preconditions and response': how many rules fired is the fired record's count of one bits.
 use mathlib.Core.List.{List, [], _∷_}
 use Prim.Native.Nat.{ℕ, _+_}
 use lib.Count.{ones}

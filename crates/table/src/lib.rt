@@ -17,9 +17,9 @@ pub const LITERALS: usize = 8;
 pub const ASSIGNMENTS: usize = 4;
 
 // The places of one slot in an array indexed by pair (its values from 1, and 0), and of all slots.
-pub const ROW: usize = 16;
+pub const ROW: usize = VALUES + 1;
 
-pub const PAIRS: usize = 512;
+pub const PAIRS: usize = SLOTS * ROW;
 
 // A rule's number, from 1.
 pub type RuleNumber = u8;

@@ -15,11 +15,11 @@ use Rattle.table.specs.inner.Flat.{place-of, pair-places}
 
 -- Words to a row.
 abbrev pub row-words : ℕ
-row-words = 8
+row-words = pair-places / 64
 
 -- Words in all rows.
 abbrev pub all-words : ℕ
-all-words = 4096
+all-words = pair-places * row-words
 
 -- The word that holds bit q of row p.
 abbrev pub word-at : ℕ → ℕ → ℕ

@@ -2,15 +2,16 @@
 -- A reader need not believe what stands here: `carries-least` says what is tested.
 use mathlib.Core.Bool.{cond}
 use mathlib.Core.List.{List, [], _∷_}
-use Prim.Native.Nat.{ℕ, _+_}
+use Prim.Native.Nat.{ℕ, _+_, _*_}
 use lib.Dec.{eqb}
 use lib.ListN.{getD, set}
+use Rattle.laws.specs.Limits.{rule-limit, literal-limit}
 use Rattle.model.specs.Rules.{Pair}
 use Rattle.table.specs.inner.Flat.{place-of}
 
--- The places of all rules where pairs are needed: nine for each rule, its trigger and eight literals.
+-- The places of all rules where pairs are needed: for each rule its trigger and its literals.
 abbrev pub needs-places : ℕ
-needs-places = 2295
+needs-places = rule-limit * (literal-limit + 1)
 
 -- The chains with the place o at the pair of place k, if that has the number s. A chain is followed by numbers one above the place; 0 ends it.
 unfoldable pub head-at : List ℕ → ℕ → ℕ → ℕ → List ℕ → List ℕ

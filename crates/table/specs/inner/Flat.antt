@@ -13,7 +13,7 @@ use Rattle.laws.specs.Limits.{slot-limit, row}
 
 -- The places of all slots.
 abbrev pub pair-places : ℕ
-pair-places = 512
+pair-places = slot-limit * row
 
 -- The array has a place for a pair: the slot is one of 32, the value at most 15.
 pub record Placed (slot value : ℕ) : Type 0 where

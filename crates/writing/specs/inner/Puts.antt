@@ -3,14 +3,17 @@ use Prim.Native.Nat.{ℕ, _+_, _*_, _≤_}
 use mathlib.Core.Path.{_≡_}
 use mathlib.Core.List.{List, _++_}
 use lib.ListN.{length, take, drop}
-use Rattle.laws.specs.Limits.{slot-limit, rule-limit}
+use Rattle.laws.specs.Limits.{name-limit, slot-limit, value-limit, rule-limit, literal-limit, assignment-limit}
 
--- No line of a slot and no line of a rule has more bytes, and so no print of an accepted text has more than `longest` (`print-bounded`, crate `printing`).
+-- No pair with its mark, no line of a slot and no line of a rule has more bytes, and so no print of an accepted text has more than `longest` (`print-bounded`, crate `printing`).
+abbrev pub pair-most : ℕ
+pair-most = name-limit + 4 + name-limit
+
 abbrev pub slot-line-most : ℕ
-slot-line-most = 426
+slot-line-most = 5 + name-limit + 3 + value-limit * (name-limit + 2) + 4
 
 abbrev pub rule-line-most : ℕ
-rule-line-most = 781
+rule-line-most = 5 + pair-most + 4 + (4 + literal-limit * (pair-most + 9)) + 6 + (4 + assignment-limit * (pair-most + 2)) + 2
 
 abbrev pub longest : ℕ
 longest = slot-limit * slot-line-most + rule-limit * rule-line-most
