@@ -17,6 +17,7 @@ ENTRY_POINTS = {
     'unpacking': ['unpack_card', 'unpack_slip'],
     'packing': ['pack_card', 'pack_slip'],
     'response': ['respond'],
+    'listing': ['list'],
     'library': ['rl_read', 'rl_print', 'rl_is_sound', 'rl_slot_name', 'rl_value_name', 'rl_unpack_card', 'rl_unpack_slip', 'rl_pack_card', 'rl_pack_slip', 'rl_respond'],
 }
 

@@ -9,7 +9,7 @@ use table::Table;
 use table::VALUES;
 
 // The part of the text where a name stands; `code` gets 0, or 31 with an empty part where the name stands outside the text.
-fn stretch<'a>(text: &'a [u8], name: Name, code: &mut u8) -> &'a [u8]
+pub fn stretch<'a>(text: &'a [u8], name: Name, code: &mut u8) -> &'a [u8]
     ensures { λ r. ⌜ (now (code .exit) ≡ show-name (now (text .entry)) name .code) × (now r ≡ show-name (now (text .entry)) name .part) × (ptr r ≡ part-place (ptr (text .entry)) (show-name (now (text .entry)) name)) ⌝ }
 {
     let start = name.start;
@@ -64,7 +64,7 @@ pub fn slot_name<'a>(text: &'a [u8], t: Table, slot: usize, code: &mut u8) -> &'
 }
 
 // The name of a value of this slot, values counted from 1; `code` gets 0, or 31 with an empty part.
-fn value_of<'a>(text: &'a [u8], s: Slot, value: usize, code: &mut u8) -> &'a [u8]
+pub fn value_of<'a>(text: &'a [u8], s: Slot, value: usize, code: &mut u8) -> &'a [u8]
     ensures { λ r. ⌜ (now (code .exit) ≡ show-value-of (now (text .entry)) s value .code) × (now r ≡ show-value-of (now (text .entry)) s value .part) × (ptr r ≡ part-place (ptr (text .entry)) (show-value-of (now (text .entry)) s value)) ⌝ }
 {
     let count = s.count;

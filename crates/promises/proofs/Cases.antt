@@ -1,4 +1,4 @@
--- The lettered cases A to L of document 01 as one checked list, by evaluation: from the bytes of the text, the card and the slip to what is listed.
+-- The lettered cases A to L of document 01 as one checked list, by evaluation: from the bytes of the text, the card and the slip to what is listed and to the bytes that the program prints.
 -- Assumes nothing.
 use Prim.Native.Nat.{ℕ}
 use Prim.Native.String.{String}
@@ -6,7 +6,7 @@ use mathlib.Core.Path.{_≡_, refl}
 use mathlib.Core.Bool.{true, false}
 use mathlib.Core.List.{List, [], _∷_, _++_, map}
 use lib.Count.{ones}
-use Rattle.laws.specs.Quoted.{bytes}
+use Rattle.laws.specs.Quoted.{bytes-from, bytes}
 use Rattle.laws.specs.Listed.{all-of}
 use Rattle.laws.specs.Words.{bit}
 use Rattle.laws.specs.Packed.{bits, number-of, field-bits, byte-bits, byte-at, pack, pack-fields, field-at}
@@ -21,13 +21,12 @@ use Rattle.rule_file.proofs.Cases.{runs}
 use Rattle.cards.specs.Cards.{if-sound}
 use Rattle.laws.specs.Answers.{taken, refused, after}
 use Rattle.cards.specs.Forms.{card-fields, change-fields, slip-fields, card-bytes, slip-bytes, values-in, changes-in, values-test, card-test, change-fault, changes-test, read-card, read-slip}
-use Rattle.results.specs.Record.{ones-in}
+use Rattle.results.specs.Record.{bit-of, ones-in}
 use Rattle.response.specs.Ending.{fired-record, answer-of, unless-conflict, answer-by-firing}
 use Rattle.response.specs.Respond.{_and-then_, if-room, answer-by-rules, answer-by-table, answer-to, counted, tally-after}
-use Rattle.tally.specs.Counting.{is-full}
-use Rattle.promises.specs.Agreement.{bit-of}
-use Rattle.promises.specs.Day.{fresh}
-use Rattle.promises.specs.Listing.{RuleLine, ChangeLine, Listing, listed, refusal, program-rooms, list-response, list-reading, listing}
+use Rattle.tally.specs.Counting.{fresh, is-full}
+use Rattle.listing.specs.Listing.{RuleLine, ChangeLine, Listing, listed, refusal, program-rooms, list-response, list-reading, listing}
+use Rattle.listing.specs.Printed.{digits, decimal, hexadecimal, fired-word, rule-text, rules-text, change-text, changes-text, card-text, tally-text, refusal-text, printed}
 
 -- What 31 runs.
 unfoldable runs-sound : Unit {0}
@@ -104,38 +103,49 @@ change s v = record { slot = bytes s; value = bytes v }
 abbrev shows-answer : List RuleLine → List ChangeLine → List ℕ → Listing
 shows-answer rs cs card = listed rs cs card (record { answered = 1; refused = 0 })
 
--- A case: a text, a card and a slip, and what is listed of them.
+-- A case: a text, a card and a slip, what is listed of them, and what the program prints.
 pub record Case : Type 0 where
   pub text : List ℕ
   pub card : List ℕ
   pub slip : List ℕ
   pub comes-to : Listing
+  pub prints : String
 
-abbrev case : List ℕ → List ℕ → List ℕ → Listing → Case
-case text card slip u = record { text = text; card = card; slip = slip; comes-to = u }
+abbrev case : List ℕ → List ℕ → List ℕ → Listing → String → Case
+case text card slip u s = record { text = text; card = card; slip = slip; comes-to = u; prints = s }
 
 -- A: a alone, x to 1: changes x, z. B: b alone: change x only. C: a, b: as the program lists it. D: a, c, y to 1: strata 1, 1; neither fires. E: d, e, y to 1: strata 2, 1; changes x, y; only rule 2 fired.
 -- F: a, b, card 0C 00 00: only x changes. G: a, slip x to 0: no rule fires. H: 40, slot 0. I: TRUE AND y |= 0 reads. J: y |= 0 AND TRUE is 12. K: card 0C 44 C0 is 22, slot 2. L: 0C 44 41 is 23.
 abbrev pub lettered : List Case
 lettered =
-    case (after-slots rule-a) all-0 x-to-1 (shows-answer (fired 1 ∷ []) (change "x" "1" ∷ change "z" "1" ∷ []) (0x0C ∷ 0x84 ∷ 0x80 ∷ []))
-    ∷ case (after-slots rule-b) all-0 x-to-1 (shows-answer (idle 1 ∷ []) (change "x" "1" ∷ []) (0x0C ∷ 0x84 ∷ 0x40 ∷ []))
-    ∷ case text-C all-0 x-to-1 (shows-answer (fired 1 ∷ fired 1 ∷ []) (change "x" "1" ∷ change "y" "1" ∷ change "z" "1" ∷ []) (0x0C ∷ 0x88 ∷ 0x80 ∷ []))
-    ∷ case (after-slots rule-a ++ bytes rule-c) all-0 y-to-1 (shows-answer (idle 1 ∷ idle 1 ∷ []) (change "y" "1" ∷ []) (0x0C ∷ 0x48 ∷ 0x40 ∷ []))
-    ∷ case (after-slots rule-d ++ bytes rule-e) all-0 y-to-1 (shows-answer (idle 2 ∷ fired 1 ∷ []) (change "x" "1" ∷ change "y" "1" ∷ []) (0x0C ∷ 0x88 ∷ 0x40 ∷ []))
-    ∷ case text-C no-values x-to-1 (shows-answer (idle 1 ∷ idle 1 ∷ []) (change "x" "1" ∷ []) (0x0C ∷ 0x80 ∷ 0x00 ∷ []))
-    ∷ case (after-slots rule-a) all-0 x-to-0 (shows-answer (idle 1 ∷ []) (change "x" "0" ∷ []) all-0)
-    ∷ case (after-slots "WHEN x *= 1 IF TRUE THEN x := 0;") all-0 x-to-1 (refusal 40 0)
-    ∷ case (after-slots "WHEN x *= 1 IF TRUE AND y |= 0 THEN z := 1;") all-0 x-to-1 (shows-answer (fired 1 ∷ []) (change "x" "1" ∷ change "z" "1" ∷ []) (0x0C ∷ 0x84 ∷ 0x80 ∷ []))
-    ∷ case (after-slots "WHEN x *= 1 IF y |= 0 AND TRUE THEN z := 1;") all-0 x-to-1 (refusal 12 0)
-    ∷ case text-C (0x0C ∷ 0x44 ∷ 0xC0 ∷ []) x-to-1 (refusal 22 2)
-    ∷ case text-C (0x0C ∷ 0x44 ∷ 0x41 ∷ []) x-to-1 (refusal 23 0)
+    case (after-slots rule-a) all-0 x-to-1 (shows-answer (fired 1 ∷ []) (change "x" "1" ∷ change "z" "1" ∷ []) (0x0C ∷ 0x84 ∷ 0x80 ∷ [])) "rule 1 stratum 1 fired\nchange x 1\nchange z 1\ncard 0C8480\ntally 1 0\n"
+    ∷ case (after-slots rule-b) all-0 x-to-1 (shows-answer (idle 1 ∷ []) (change "x" "1" ∷ []) (0x0C ∷ 0x84 ∷ 0x40 ∷ [])) "rule 1 stratum 1 idle\nchange x 1\ncard 0C8440\ntally 1 0\n"
+    ∷ case text-C all-0 x-to-1 (shows-answer (fired 1 ∷ fired 1 ∷ []) (change "x" "1" ∷ change "y" "1" ∷ change "z" "1" ∷ []) (0x0C ∷ 0x88 ∷ 0x80 ∷ [])) "rule 1 stratum 1 fired\nrule 2 stratum 1 fired\nchange x 1\nchange y 1\nchange z 1\ncard 0C8880\ntally 1 0\n"
+    ∷ case (after-slots rule-a ++ bytes rule-c) all-0 y-to-1 (shows-answer (idle 1 ∷ idle 1 ∷ []) (change "y" "1" ∷ []) (0x0C ∷ 0x48 ∷ 0x40 ∷ [])) "rule 1 stratum 1 idle\nrule 2 stratum 1 idle\nchange y 1\ncard 0C4840\ntally 1 0\n"
+    ∷ case (after-slots rule-d ++ bytes rule-e) all-0 y-to-1 (shows-answer (idle 2 ∷ fired 1 ∷ []) (change "x" "1" ∷ change "y" "1" ∷ []) (0x0C ∷ 0x88 ∷ 0x40 ∷ [])) "rule 1 stratum 2 idle\nrule 2 stratum 1 fired\nchange x 1\nchange y 1\ncard 0C8840\ntally 1 0\n"
+    ∷ case text-C no-values x-to-1 (shows-answer (idle 1 ∷ idle 1 ∷ []) (change "x" "1" ∷ []) (0x0C ∷ 0x80 ∷ 0x00 ∷ [])) "rule 1 stratum 1 idle\nrule 2 stratum 1 idle\nchange x 1\ncard 0C8000\ntally 1 0\n"
+    ∷ case (after-slots rule-a) all-0 x-to-0 (shows-answer (idle 1 ∷ []) (change "x" "0" ∷ []) all-0) "rule 1 stratum 1 idle\nchange x 0\ncard 0C4440\ntally 1 0\n"
+    ∷ case (after-slots "WHEN x *= 1 IF TRUE THEN x := 0;") all-0 x-to-1 (refusal 40 0) "refused 40 0\n"
+    ∷ case (after-slots "WHEN x *= 1 IF TRUE AND y |= 0 THEN z := 1;") all-0 x-to-1 (shows-answer (fired 1 ∷ []) (change "x" "1" ∷ change "z" "1" ∷ []) (0x0C ∷ 0x84 ∷ 0x80 ∷ [])) "rule 1 stratum 1 fired\nchange x 1\nchange z 1\ncard 0C8480\ntally 1 0\n"
+    ∷ case (after-slots "WHEN x *= 1 IF y |= 0 AND TRUE THEN z := 1;") all-0 x-to-1 (refusal 12 0) "refused 12 0\n"
+    ∷ case text-C (0x0C ∷ 0x44 ∷ 0xC0 ∷ []) x-to-1 (refusal 22 2) "refused 22 2\n"
+    ∷ case text-C (0x0C ∷ 0x44 ∷ 0x41 ∷ []) x-to-1 (refusal 23 0) "refused 23 0\n"
     ∷ []
 
 -- The lettered cases, A to L.
 pub cases : map (λ (q : Case). listing (q .text) (q .card) (q .slip)) lettered ≡ map (λ (q : Case). q .comes-to) lettered
 unfolding lists
 cases = refl
+
+-- `unfolding runs-prints` opens all that a listing's bytes run.
+unfoldable runs-prints : Unit {0}
+unfolding lists digits decimal hexadecimal fired-word rule-text rules-text change-text changes-text card-text tally-text refusal-text printed bytes bytes-from
+runs-prints = tt
+
+-- What the program prints of each of them, byte for byte.
+pub cases-printed : map (λ (q : Case). printed (listing (q .text) (q .card) (q .slip))) lettered ≡ map (λ (q : Case). bytes (q .prints)) lettered
+unfolding runs-prints
+cases-printed = refl
 
 -- The bytes of case C: the new card, the changes and the fired record; two rules fired, and the tally counts one answered.
 pub case-C-bytes : answer-to (reading text-C .table) fresh all-0 x-to-1 program-rooms

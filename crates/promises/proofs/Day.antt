@@ -15,8 +15,8 @@ use Rattle.laws.specs.Answers.{OrRefused, taken, refused}
 use Rattle.tally.specs.declared.Tally.{Tally}
 use Rattle.response.specs.Ending.{Answer}
 use Rattle.response.specs.Respond.{answer-by-table, answer-to, counted, tally-after, response-to}
-use Rattle.tally.specs.Counting.{is-full}
-use Rattle.promises.specs.Day.{Call, fresh, answer-at, next-tally, tally-over, answers-over, answered-in, refused-in, answer-after}
+use Rattle.tally.specs.Counting.{fresh, is-full}
+use Rattle.promises.specs.Day.{Call, answer-at, next-tally, tally-over, answers-over, answered-in, refused-in, answer-after}
 use Rattle.promises.proofs.Refusals.{Only, Other, by-table-other}
 
 -- What comes of a call whose tally is full or not, and the tally after it.

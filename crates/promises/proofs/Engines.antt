@@ -24,9 +24,9 @@ use Rattle.cards.specs.Forms.{read-card, read-slip}
 use Rattle.tally.specs.declared.Tally.{Tally}
 use Rattle.response.specs.Ending.{Answer}
 use Rattle.response.specs.Respond.{Rooms, answer-by-rules, answer-by-table, answer-to, response-to}
-use Rattle.tally.specs.Counting.{is-full}
-use Rattle.promises.specs.Day.{Call, fresh, tally-over, answers-over, answer-after}
-use Rattle.promises.specs.Listing.{program-rooms}
+use Rattle.tally.specs.Counting.{fresh, is-full}
+use Rattle.promises.specs.Day.{Call, tally-over, answers-over, answer-after}
+use Rattle.listing.specs.Listing.{program-rooms}
 use Rattle.promises.proofs.Cases.{lists, text-C, all-0, x-to-1, case-C-bytes}
 use Rattle.promises.proofs.Refusals.{OneOf, Only, of-rules, Other, only-e, only-more, only-cond, one-of-other, rules-refused, by-table-other}
 

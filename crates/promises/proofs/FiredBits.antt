@@ -16,11 +16,10 @@ use Rattle.laws.proofs.Numbers.{is-false}
 use Rattle.laws.proofs.Tabulated.{tabulate-length, tabulate-at, is-tabulate}
 use Rattle.laws.proofs.Packed.{pack-bit}
 use Rattle.model.specs.Orders.{names}
-use Rattle.results.specs.Record.{ones-in}
+use Rattle.results.specs.Record.{bit-of, ones-in}
 use Rattle.results.specs.inner.Record.{fired-bits, flag-record}
 use Rattle.results.proofs.Bits as bits
 use Rattle.response.specs.Ending.{fired-record}
-use Rattle.promises.specs.Agreement.{bit-of}
 
 -- Where only numbers from 1 to `count` are named, the bit of each number says whether it is named.
 pub record-bit : (count : ℕ) (ns : List ℕ) → ((n : ℕ) → T (names ns n) → Numbered count n) → (n : ℕ) → names ns n ≡ bit-of (fired-record count ns) n

@@ -38,11 +38,11 @@ use Rattle.cards.specs.Forms.{card-bits, read-card, read-slip}
 use Rattle.tally.specs.declared.Tally.{Tally}
 use Rattle.response.specs.declared.Outcome.{Outcome}
 use Rattle.response.specs.declared.Outcome.the-variants.{Answered}
-use Rattle.results.specs.Record.{ones-in}
+use Rattle.results.specs.Record.{bit-of, ones-in}
 use Rattle.response.specs.Ending.{Answer, fired-record, answer-of, unless-conflict, answer-by-firing}
 use Rattle.response.specs.Respond.{_and-then_, Rooms, changes-room, if-room, answer-by-rules, outcome-of, counted, tally-after, response-to}
 use Rattle.tally.specs.Counting.{is-full}
-use Rattle.promises.specs.Agreement.{bit-of, responds, SameResponse, same-refusal, same-answer, Unmoved}
+use Rattle.promises.specs.Agreement.{responds, SameResponse, same-refusal, same-answer, Unmoved}
 use Rattle.promises.proofs.FiredBits.{record-bit, record-ones}
 use Rattle.promises.proofs.Ends.{file-response, file-no-circle}
 

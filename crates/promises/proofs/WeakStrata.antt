@@ -30,7 +30,8 @@ use Rattle.cards.specs.Forms.{read-card, read-slip}
 use Rattle.tally.specs.declared.Tally.{Tally}
 use Rattle.response.specs.Ending.{Answer}
 use Rattle.response.specs.Respond.{Rooms}
-use Rattle.promises.specs.Agreement.{bit-of, responds}
+use Rattle.results.specs.Record.{bit-of}
+use Rattle.promises.specs.Agreement.{responds}
 use Rattle.promises.specs.WeakStrata.{WeakStrata}
 use Rattle.promises.proofs.Demand3.{demand-3}
 use Rattle.promises.proofs.Engines.{exactly-31}

@@ -2,13 +2,12 @@
 -- They know the rules of the file as the grammar reads it, the card S and the slip I, and no strata.
 use Prim.Native.Nat.{ℕ, _<_}
 use mathlib.Core.Path.{_≡_}
-use mathlib.Core.Bool.{Bool, false}
-use mathlib.Core.List.{List, _∷_}
+use mathlib.Core.List.{List}
 use lib.Dec.{T}
 use lib.ListN.{length, getD}
 use Rattle.laws.specs.Numbers.{how-many}
 use Rattle.laws.specs.Rearranged.{under, goes}
-use Rattle.laws.specs.Packed.{byte-bits, byte-count}
+use Rattle.laws.specs.Packed.{byte-count}
 use Rattle.model.specs.Rules.{Pair, Pairs, among}
 use Rattle.model.specs.Orders.{rule-at, names, changes, whole-order}
 use Rattle.model.specs.Result.{pair}
@@ -22,13 +21,9 @@ use Rattle.rule_file.specs.Whole.{reading}
 use Rattle.laws.specs.Answers.{OrRefused, taken, refused}
 use Rattle.cards.specs.Forms.{read-card, read-slip}
 use Rattle.tally.specs.declared.Tally.{Tally}
-use Rattle.results.specs.Record.{ones-in}
+use Rattle.results.specs.Record.{bit-of, ones-in}
 use Rattle.response.specs.Ending.{Answer}
 use Rattle.response.specs.Respond.{Rooms, answer-to, response-to}
-
--- The bit of rule n in the bytes of a fired record, rule 1 first.
-unfoldable pub bit-of : List ℕ → ℕ → Bool
-bit-of ys n = getD (false ∷ byte-bits ys) n false
 
 -- The response by the table that a text is read to: the bytes of an answer, or a refusal with both its numbers.
 abbrev pub responds : List ℕ → Tally → List ℕ → List ℕ → Rooms → OrRefused Answer

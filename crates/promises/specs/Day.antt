@@ -6,6 +6,7 @@ use lib.Dec.{eqb}
 use Rattle.table.specs.declared.Table.{Table}
 use Rattle.laws.specs.Answers.{OrRefused, taken, refused}
 use Rattle.tally.specs.declared.Tally.{Tally}
+use Rattle.tally.specs.Counting.{fresh}
 use Rattle.response.specs.Ending.{Answer}
 use Rattle.response.specs.Respond.{Rooms, answer-to, response-to}
 
@@ -15,10 +16,6 @@ pub record Call : Type 0 where
   pub card : List ℕ
   pub slip : List ℕ
   pub rooms : Rooms
-
--- The tally at which a day begins.
-abbrev pub fresh : Tally
-fresh = record { answered = 0; refused = 0 }
 
 -- What comes of a call at a tally, and the tally after it.
 abbrev pub answer-at : Tally → Call → OrRefused Answer

@@ -6,7 +6,6 @@ pub mod Paper
 pub mod Shown
 pub mod Day
 pub mod WeakStrata
-pub mod Listing
 pub mod Called
 pub mod HouseStyle
 pub mod CalledPrint

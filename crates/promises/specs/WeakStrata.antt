@@ -25,7 +25,8 @@ use Rattle.tally.specs.declared.Tally.{Tally}
 use Rattle.response.specs.Ending.{Answer}
 use Rattle.response.specs.Respond.{Rooms, answer-to}
 use Rattle.tally.specs.Counting.{is-full}
-use Rattle.promises.specs.Agreement.{bit-of, responds}
+use Rattle.results.specs.Record.{bit-of}
+use Rattle.promises.specs.Agreement.{responds}
 
 pub record WeakStrata : Type 0 where
   -- 31 passes a table that is otherwise in order exactly where it carries the least.

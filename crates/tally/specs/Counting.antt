@@ -5,6 +5,10 @@ use lib.Dec.{leb}
 use Rattle.laws.specs.Truth.{_∨ᵇ_}
 use Rattle.tally.specs.declared.Tally.{Tally}
 
+-- The tally at which a day begins.
+abbrev pub fresh : Tally
+fresh = record { answered = 0; refused = 0 }
+
 -- 32: either tally at 9,999 or above.
 unfoldable pub is-full : Tally → Bool
 is-full y = leb 9999 (y .answered) ∨ᵇ leb 9999 (y .refused)

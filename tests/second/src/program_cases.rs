@@ -1,4 +1,4 @@
-//! The stored cases of the project's program: three files for each, one of which may be missing, and what the program prints.
+//! The stored cases of the project's program: three files for each, some of which may be missing or be folders, and what the program prints.
 
 use crate::cards::{card_bytes, slip_bytes};
 use crate::listing::listing;
@@ -22,9 +22,17 @@ pub const X_TO_1: [u8; 2] = [0x04, 0x04];
 pub const Y_TO_1: [u8; 2] = [0x04, 0x24];
 pub const Z_TO_1: [u8; 2] = [0x04, 0x44];
 
-/// The files of a case, in the order in which the program opens them; none for a file that is not there.
+/// What stands under the name of a file: its bytes, nothing, or a folder, which opens but cannot be read.
+#[derive(Clone)]
+pub enum Kept {
+    Bytes(Vec<u8>),
+    Nothing,
+    Folder,
+}
+
+/// The files of a case, in the order in which the program opens them.
 pub struct Case {
-    pub files: [Option<Vec<u8>>; 3],
+    pub files: [Kept; 3],
 }
 
 /// The names of the files.
@@ -32,7 +40,7 @@ const NAMES: [&str; 3] = ["rules.txt", "card.bin", "slip.bin"];
 
 /// A case with all its files.
 fn case(text: &str, card: &[u8], slip: &[u8]) -> Case {
-    Case { files: [Some(text.as_bytes().to_vec()), Some(card.to_vec()), Some(slip.to_vec())] }
+    Case { files: [Kept::Bytes(text.as_bytes().to_vec()), Kept::Bytes(card.to_vec()), Kept::Bytes(slip.to_vec())] }
 }
 
 /// A case over the slots x, y and z.
@@ -87,20 +95,29 @@ fn entries() -> Vec<Case> {
     by_card.chain(by_slip).chain(by_changes).chain(ends).collect()
 }
 
+/// Case C with files that are not there, and with folders in the place of files.
+fn without(gone: &[usize], folders: &[usize]) -> Case {
+    let mut case = rules(&[A, B], &ZEROS, &X_TO_1);
+    gone.iter().for_each(|at| case.files[*at] = Kept::Nothing);
+    folders.iter().for_each(|at| case.files[*at] = Kept::Folder);
+    case
+}
+
 /// Files that are not there: the first of them in the order of opening is named.
 fn missing() -> Vec<Case> {
-    let without = |gone: &[usize]| {
-        let mut case = rules(&[A, B], &ZEROS, &X_TO_1);
-        gone.iter().for_each(|at| case.files[*at] = None);
-        case
-    };
-    vec![without(&[0]), without(&[1]), without(&[2]), without(&[1, 2]), without(&[0, 1, 2])]
+    [&[0][..], &[1], &[2], &[1, 2], &[0, 1, 2]].map(|gone| without(gone, &[])).into()
+}
+
+/// Folders in the place of files: the first of them is named, unless a file is not there, which shows before any is read.
+fn folders() -> Vec<Case> {
+    let alone = [&[0][..], &[1], &[2], &[1, 2], &[0, 1, 2]].map(|folders| without(&[], folders));
+    alone.into_iter().chain([without(&[2], &[0])]).collect()
 }
 
 /// The example of a dialect dictionary: an undated slot stays undated, and a word last heard before 1800 is labelled.
 fn dialect() -> Case {
     let folder = std::path::Path::new(env!("CARGO_MANIFEST_DIR")).join("../../examples/dialect");
-    Case { files: NAMES.map(|name| std::fs::read(folder.join(name)).ok()) }
+    Case { files: NAMES.map(|name| std::fs::read(folder.join(name)).map_or(Kept::Nothing, Kept::Bytes)) }
 }
 
 /// Circles: case D with a cause, from the slip or from a rule; a rule that tests what it assigns, plainly and under NOT, with a cause and without; circles through a NOT, one of which meets a rule twice; a plain circle above a NOT and one kept plain by cancelled NOTs.
@@ -133,6 +150,7 @@ pub fn cases() -> Vec<Case> {
     cases.extend(missing());
     cases.push(dialect());
     cases.extend(circles());
+    cases.extend(folders());
     cases
 }
 
@@ -143,16 +161,17 @@ pub fn folder(at: usize) -> String {
 
 /// What the program prints in the folder of a case.
 fn printed(case: &Case) -> String {
-    let absent = case.files.iter().zip(NAMES).find(|(file, _)| file.is_none());
-    match (absent, &case.files) {
-        (Some((_, name)), _) => format!("unread {name}\n"),
-        (None, [Some(text), Some(card), Some(slip)]) => listing(text, card, slip),
-        (None, _) => unreachable!("no file is absent"),
+    let first = |is: fn(&Kept) -> bool| case.files.iter().zip(NAMES).find(|(file, _)| is(file)).map(|(_, name)| name);
+    let unopened = first(|file| matches!(file, Kept::Nothing));
+    match (unopened.or(first(|file| matches!(file, Kept::Folder))), &case.files) {
+        (Some(name), _) => format!("unread {name}\n"),
+        (None, [Kept::Bytes(text), Kept::Bytes(card), Kept::Bytes(slip)]) => listing(text, card, slip),
+        (None, _) => unreachable!("every file has its bytes"),
     }
 }
 
 /// What stands in the folder of a case: each file by its name, and what the program prints as `expected`.
-pub fn files(case: &Case) -> Vec<(&'static str, Option<Vec<u8>>)> {
-    let expected = ("expected", Some(printed(case).into_bytes()));
+pub fn files(case: &Case) -> Vec<(&'static str, Kept)> {
+    let expected = ("expected", Kept::Bytes(printed(case).into_bytes()));
     NAMES.into_iter().zip(case.files.clone()).chain([expected]).collect()
 }

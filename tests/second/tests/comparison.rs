@@ -164,7 +164,7 @@ fn broken_responses_are_not_what_the_firing_orders_come_to() {
 }
 
 #[test]
-fn the_first_file_that_cannot_be_opened_is_named() {
+fn the_first_file_that_cannot_be_opened_or_read_is_named() {
     let program = env!("CARGO_BIN_EXE_second");
     let printed =
         |names: [&str; 3]| String::from_utf8(Command::new(program).args(names).output().unwrap().stdout).unwrap();
@@ -172,4 +172,7 @@ fn the_first_file_that_cannot_be_opened_is_named() {
     assert_eq!(printed(["/dev/null", "/nowhere/c", "/nowhere/s"]), "unread /nowhere/c\n");
     assert_eq!(printed(["/dev/null", "/dev/null", "/nowhere/s"]), "unread /nowhere/s\n");
     assert_eq!(printed(["/dev/null", "/dev/null", "/dev/null"]), "refused 20 0\n");
+    assert_eq!(printed(["/", "/dev/null", "/"]), "unread /\n");
+    assert_eq!(printed(["/dev/null", "/dev", "/"]), "unread /dev\n");
+    assert_eq!(printed(["/", "/", "/nowhere/s"]), "unread /nowhere/s\n");
 }

@@ -4,6 +4,7 @@ use std::fs;
 use std::path::{Path, PathBuf};
 
 use second::engine::Second;
+use second::program_cases::Kept;
 use second::{print_lines, program_cases, read_lines, table_lines};
 
 /// A path of the repository.
@@ -52,9 +53,14 @@ fn stored_cases_of_the_program_are_as_stored() {
     let cases = program_cases::cases();
     assert_eq!(fs::read_dir(&stored).unwrap().count(), cases.len());
     for (at, case) in cases.iter().enumerate() {
-        for (name, bytes) in program_cases::files(case) {
-            let kept = fs::read(stored.join(program_cases::folder(at)).join(name)).ok();
-            assert_eq!(bytes, kept, "case {at}, {name}");
+        for (name, kept) in program_cases::files(case) {
+            let place = stored.join(program_cases::folder(at)).join(name);
+            let same = match kept {
+                Kept::Bytes(bytes) => fs::read(place).is_ok_and(|found| found == bytes),
+                Kept::Nothing => !place.exists(),
+                Kept::Folder => place.is_dir(),
+            };
+            assert!(same, "case {at}, {name}");
         }
     }
 }

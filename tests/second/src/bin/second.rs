@@ -3,14 +3,7 @@
 use std::fs::File;
 use std::io::{Read, Write};
 
-/// The bytes of an open file, as far as they can be read.
-fn contents(mut file: File) -> Vec<u8> {
-    let mut bytes = Vec::new();
-    let _ = file.read_to_end(&mut bytes);
-    bytes
-}
-
-/// What is printed for three file names: all are opened before any is read.
+/// What is printed for three file names: all are opened before any is read, and one that opens but cannot be read is named as one that does not open.
 fn printed(names: &[String]) -> String {
     let mut files = Vec::new();
     for name in names {
@@ -19,7 +12,12 @@ fn printed(names: &[String]) -> String {
             Err(_) => return format!("unread {name}\n"),
         }
     }
-    let read: Vec<Vec<u8>> = files.into_iter().map(contents).collect();
+    let mut read = [Vec::new(), Vec::new(), Vec::new()];
+    for (at, mut file) in files.into_iter().enumerate() {
+        if file.read_to_end(&mut read[at]).is_err() {
+            return format!("unread {}\n", names[at]);
+        }
+    }
     second::listing::listing(&read[0], &read[1], &read[2])
 }
 

@@ -3,7 +3,7 @@
 use std::fs;
 use std::path::Path;
 
-use second::program_cases::{cases, files, folder};
+use second::program_cases::{cases, files, folder, Kept};
 
 fn main() -> std::io::Result<()> {
     let stored = Path::new(env!("CARGO_MANIFEST_DIR")).join("../stored/rl");
@@ -11,9 +11,14 @@ fn main() -> std::io::Result<()> {
     for (at, case) in cases().iter().enumerate() {
         let room = stored.join(folder(at));
         fs::create_dir_all(&room)?;
-        for (name, bytes) in files(case) {
-            if let Some(bytes) = bytes {
-                fs::write(room.join(name), bytes)?;
+        for (name, kept) in files(case) {
+            match kept {
+                Kept::Bytes(bytes) => fs::write(room.join(name), bytes)?,
+                Kept::Nothing => {}
+                Kept::Folder => {
+                    fs::create_dir(room.join(name))?;
+                    fs::write(room.join(name).join("kept"), "")?;
+                }
             }
         }
     }

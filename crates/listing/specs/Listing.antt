@@ -13,10 +13,10 @@ use Rattle.rule_file.specs.Whole.{reading}
 use Rattle.laws.specs.Answers.{OrRefused, taken, refused}
 use Rattle.cards.specs.Forms.{changes-in}
 use Rattle.tally.specs.declared.Tally.{Tally}
+use Rattle.tally.specs.Counting.{fresh}
+use Rattle.results.specs.Record.{bit-of}
 use Rattle.response.specs.Ending.{Answer}
 use Rattle.response.specs.Respond.{Rooms, answer-to, tally-after}
-use Rattle.promises.specs.Agreement.{bit-of}
-use Rattle.promises.specs.Day.{fresh}
 
 -- The line of a rule: its stratum, and whether it fired.
 pub record RuleLine : Type 0 where

@@ -1,0 +1,9 @@
+pub mod Digits
+pub mod RuleLines
+pub mod ChangeLines
+pub mod Placed
+pub mod Accepted
+pub mod Answered
+pub mod Small
+pub mod Bounded
+pub mod Told

@@ -1,0 +1,121 @@
+// What the program prints of a rule text, a card and a slip: document 01, 'The program'.
+ghost use mathlib.Core.Path.{_≡_};
+ghost use Prim.Native.Nat.{_≤_};
+ghost use lib.ListN.{length};
+ghost use Rattle.laws.specs.Limits.{rule-limit};
+ghost use Rattle.tally.specs.Counting.{fresh};
+ghost use Rattle.response.specs.Respond.{answer-to};
+ghost use Rattle.reader.specs.declared.Outcome.the-variants.{Accepted};
+ghost use Rattle.rule_file.specs.Whole.{reading};
+ghost use Rattle.writing.specs.inner.Puts.{longest};
+ghost use Rattle.listing.specs.Listing.{refusal, program-rooms, list-response, listing};
+ghost use Rattle.listing.specs.Printed.{printed, placed};
+ghost use Rattle.listing.specs.inner.AnswerLines.{answer-bytes, list-answer, ChangesWhole};
+use answers::put_answer;
+use answers::put_refusal;
+use cards::fields::bytes_for;
+use table::Table;
+use tally::Tally;
+
+pub mod answers;
+pub mod changes;
+pub mod numbers;
+pub mod rules;
+
+// The most bytes that the program prints of any rule text, card and slip.
+pub const PAGE: usize = 8759;
+
+// Room for every new card, for all changes and for every fired record: 32 slots, 32 changes, 255 rules.
+const CARD: usize = 17;
+
+const CHANGES: usize = 37;
+
+const RECORD: usize = 32;
+
+// Lists a refusal: counted first, with no room to write, then written where the output has room.
+fn list_refusal(number: u8, second: usize, out: &mut [u8]) -> usize
+    ensures { λ r. ⌜ (r ≡ length (printed (refusal number second))) × (now (out .exit) ≡ placed (printed (refusal number second)) (now (out .entry))) ⌝ }
+{
+    let mut nowhere: [u8; 1] = [0; 1];
+    let size = put_refusal(&mut nowhere, number, second);
+    if out.len() < size {
+        return size;
+    }
+    put_refusal(out, number, second)
+}
+
+// Lists an answer in the same way.
+fn list_answer(
+    text: &[u8],
+    t: Table,
+    card: &[u8],
+    changes: &[u8],
+    bits: &[u8],
+    tally: Tally,
+    out: &mut [u8],
+) -> usize
+    requires { ⌜ (t .count ≤ rule-limit) × ChangesWhole (t .width) (now changes) × (length (printed (list-answer (now text) t (answer-bytes (now card) (now changes) (now bits)) tally)) ≤ longest) ⌝ }
+    ensures { λ r. ⌜ (r ≡ length (printed (list-answer (now (text .entry)) t (answer-bytes (now (card .entry)) (now (changes .entry)) (now (bits .entry))) tally)))
+        × (now (out .exit) ≡ placed (printed (list-answer (now (text .entry)) t (answer-bytes (now (card .entry)) (now (changes .entry)) (now (bits .entry))) tally)) (now (out .entry))) ⌝ }
+{
+    let mut nowhere: [u8; 1] = [0; 1];
+    let size = put_answer(&mut nowhere, text, t, card, changes, bits, tally);
+    if out.len() < size {
+        return size;
+    }
+    put_answer(out, text, t, card, changes, bits, tally)
+}
+
+// Lists the response by an accepted text's table, from a tally of 0 and 0.
+fn list_response(text: &[u8], t: Table, card: &[u8], slip: &[u8], out: &mut [u8]) -> usize
+    requires { ⌜ (reading (now text) .outcome ≡ Accepted) × (t ≡ reading (now text) .table) ⌝ }
+    ensures { λ r. ⌜ (r ≡ length (printed (list-response (now (text .entry)) t (answer-to t fresh (now (card .entry)) (now (slip .entry)) program-rooms))))
+        × (now (out .exit) ≡ placed (printed (list-response (now (text .entry)) t (answer-to t fresh (now (card .entry)) (now (slip .entry)) program-rooms))) (now (out .entry))) ⌝ }
+{
+    let tally = Tally {
+        answered: 0,
+        refused: 0,
+    };
+    let mut renewed: [u8; CARD] = [0; CARD];
+    let mut changes: [u8; CHANGES] = [0; CHANGES];
+    let mut bits: [u8; RECORD] = [0; RECORD];
+    let response = response::respond(t, tally, card, slip, &mut renewed, &mut changes, &mut bits);
+    let outcome = response.outcome;
+    let after = response.tally;
+    match outcome {
+        response::Outcome::Answered(length, count) => {
+            let n = bytes_for(6 + 4 * t.width);
+            let m = bytes_for(t.count);
+            return list_answer(
+                text,
+                t,
+                &renewed[..n],
+                &changes[..length],
+                &bits[..m],
+                after,
+                out,
+            );
+        }
+        response::Outcome::Refused(number, second) => {
+            return list_refusal(number, second, out);
+        }
+    }
+}
+
+// Lists any rule text, card and slip of any length: says how many bytes the program prints, and puts them at the front of the output where it has room for them, else leaves it.
+pub fn list(text: &[u8], card: &[u8], slip: &[u8], out: &mut [u8]) -> usize
+    ensures { λ r. ⌜ (r ≡ length (printed (listing (now (text .entry)) (now (card .entry)) (now (slip .entry)))))
+        × (now (out .exit) ≡ placed (printed (listing (now (text .entry)) (now (card .entry)) (now (slip .entry)))) (now (out .entry))) ⌝ }
+{
+    let read = rule_file::read(text);
+    let outcome = read.outcome;
+    let t = read.table;
+    match outcome {
+        reader::Outcome::Accepted => {
+            return list_response(text, t, card, slip, out);
+        }
+        reader::Outcome::Refused(number, second) => {
+            return list_refusal(number, second, out);
+        }
+    }
+}
