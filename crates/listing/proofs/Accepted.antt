@@ -8,19 +8,17 @@ use mathlib.Core.List.{List}
 use lib.ListN.{length, getD, length-map}
 use Rattle.laws.specs.Numbers.{Numbered}
 use Rattle.laws.proofs.Listed.{each-at}
-use Rattle.model.specs.Rules.{Rule}
 use Rattle.model.specs.Strata.{weak}
 use Rattle.model.proofs.Strata.{least-top}
 use Rattle.laws.specs.Limits.{slot-limit, rule-limit}
 use Rattle.grammar.specs.Files.{Slot, File, no-slot, values-of}
-use Rattle.grammar.specs.Meaning.{Is-file}
 use Rattle.grammar.proofs.Accepts.{accepts-iff, one-meaning}
 use Rattle.grammar.proofs.Declared.{Declared-file, file-declared}
 use Rattle.style.specs.inner.Named.{Named, Well-named}
 use Rattle.style.proofs.Formed.{file-formed}
 use Rattle.table.specs.declared.Table.{Table}
 use Rattle.table.specs.Link.{rules-of, stratum-at, value-counts}
-use Rattle.names.specs.Names.{Showing, not-shown, has-slot, has-value, show-slot, show-value}
+use Rattle.names.specs.Names.{not-shown, has-slot, has-value, show-slot, show-value}
 use Rattle.names.proofs.Names.{slot-inside, value-inside}
 use Rattle.strata.specs.Layered.{with-strata}
 use Rattle.grammar.specs.TableFor.{table-for}

@@ -1,13 +1,13 @@
 -- The parts of an answer: how long its bytes are, and that its changes are as many as they count.
 -- Assumes nothing.
-use Prim.Native.Nat.{ℕ, suc, _+_, _*_, _≤_, _<_}
+use Prim.Native.Nat.{ℕ, suc, _≤_, _<_}
 use native.Mathlib.Omega.{arith}
-use mathlib.Core.Path.{_≡_, refl, sym, ap, _∙_}
+use mathlib.Core.Path.{_≡_, sym, ap, _∙_}
 use mathlib.Core.Bool.{Bool, true, false, cond}
 use mathlib.Core.List.{List, head-eq-of-cons-eq}
 use lib.Dec.{ltb}
 use lib.ListN.{length, getD}
-use Rattle.laws.specs.Packed.{Field, byte-count, field-at, fields-at}
+use Rattle.laws.specs.Packed.{Field, byte-count, fields-at}
 use Rattle.laws.specs.Answers.{OrRefused, taken, refused}
 use Rattle.laws.proofs.Packed.{pack-length}
 use Rattle.laws.proofs.Tabulated.{tabulate-length}
@@ -23,8 +23,8 @@ use Rattle.table.specs.declared.Table.{Table}
 use Rattle.laws.specs.Limits.{slot-limit, row}
 use Rattle.table.specs.Link.{rules-of, value-counts}
 use Rattle.soundness.specs.Sound.{sound}
-use Rattle.cards.specs.Forms.{card-bits, slip-bits, slip-fields, slip-bytes, count-in, changes-in, read-card, read-slip}
-use Rattle.cards.specs.Cards.{no-change, pair-of, slip-of, changes-of, if-sound}
+use Rattle.cards.specs.Forms.{card-bits, slip-fields, slip-bytes, count-in, changes-in, read-card, read-slip}
+use Rattle.cards.specs.Cards.{no-change, pair-of, slip-of, if-sound}
 use Rattle.cards.proofs.Tested.{no-pair}
 use Rattle.cards.proofs.Formed as formed
 use Rattle.cards.proofs.Taken.{change-at}

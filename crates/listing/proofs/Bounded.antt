@@ -3,7 +3,7 @@
 use Prim.Native.Nat.{ℕ, zero, suc, _+_, _*_, _≤_, _<_}
 use native.Mathlib.Omega.{arith}
 use native.Mathlib.Nat.{suc-mul}
-use mathlib.Core.Path.{_≡_, refl, sym, ap, _∙_}
+use mathlib.Core.Path.{_≡_, refl}
 use mathlib.Core.Bool.{Bool, true, false}
 use mathlib.Core.List.{List, [], _∷_, _++_, map}
 use lib.ListN.{length, length-append}
@@ -13,7 +13,6 @@ use Rattle.laws.specs.Tabulated.{tabulate}
 use Rattle.laws.specs.Answers.{OrRefused, taken, refused}
 use Rattle.model.specs.Rules.{Pair}
 use Rattle.table.specs.declared.Table.{Table}
-use Rattle.table.specs.Link.{rules-of, value-counts}
 use Rattle.names.specs.Names.{show-slot, show-value}
 use Rattle.reader.specs.declared.Outcome.{Outcome}
 use Rattle.reader.specs.declared.Outcome.the-variants.{Accepted, Refused}

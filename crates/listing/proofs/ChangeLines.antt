@@ -13,11 +13,10 @@ use Rattle.laws.specs.Truth.{_∧ᵇ_}
 use Rattle.laws.specs.Packed.{field-at}
 use Rattle.model.specs.Rules.{Pair}
 use Rattle.model.specs.Result.{pair}
-use Rattle.table.specs.declared.Slot.{Slot}
 use Rattle.table.specs.declared.Table.{Table}
 use Rattle.table.specs.Zero.{zero-slot}
 use Rattle.laws.specs.Limits.{slot-limit}
-use Rattle.names.specs.Names.{Showing, has-slot, show-slot, show-value}
+use Rattle.names.specs.Names.{Showing, has-slot}
 use Rattle.names.proofs.Names.{slot-shown, value-shown}
 use Rattle.cards.specs.Forms.{count-in, changes-in}
 use Rattle.cards.proofs.Tested.{no-pair}

@@ -1,11 +1,10 @@
 -- The two numbers of a refusal have at most three digits: no number is above 99, no second number above 255.
 -- Assumes nothing.
-use Prim.Native.Nat.{ℕ, zero, suc, _+_, _^_, _≤_, _<_, min}
+use Prim.Native.Nat.{ℕ, zero, suc, _+_, _^_, _≤_, _<_}
 use native.Mathlib.Omega.{arith}
 use mathlib.Core.Path.{_≡_, refl}
 use mathlib.Core.Bool.{Bool, true, false, cond}
 use mathlib.Core.List.{List, [], _∷_, _++_}
-use mathlib.Core.Logic.{⊎-elim}
 use lib.Dec.{eqb, leb, ltb}
 use lib.ListN.{length, getD, take, drop, length-append, length-take}
 use borrow.Author.Tests.{eqb-false, ltb-true}
@@ -22,7 +21,7 @@ use Rattle.text.specs.Tokens.{Token, WHEN, SLOT, tokens}
 use Rattle.table.specs.declared.Table.{Table}
 use Rattle.laws.specs.Limits.{slot-limit, row, text-limit, rule-limit}
 use Rattle.table.specs.Link.{rules-of, value-counts}
-use Rattle.grammar.specs.Files.{Slot, File}
+use Rattle.grammar.specs.Files.{Slot}
 use Rattle.grammar.specs.Reading as grammar
 use Rattle.grammar.specs.Reading.{Part, took, stop, expects, begins-with, if-next, read-rule, read-line, go-on, read-rules, read-lines, read-tokens, parse}
 use Rattle.grammar.proofs.Accepts.{accepts-iff}

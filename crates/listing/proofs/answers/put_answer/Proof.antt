@@ -1,9 +1,8 @@
 -- `answers::put_answer` meets its contract.
 -- Assumes nothing.
-use Prim.Native.Nat.{ℕ, _+_}
+use Prim.Native.Nat.{ℕ}
 use native.Mathlib.Omega.{arith}
 use mathlib.Core.List.{List, _++_, map}
-use borrow.Author.Needs.{needs}
 use Rattle.cards.specs.Forms.{changes-in}
 use Rattle.listing.specs.Listing.{change-line}
 use Rattle.listing.specs.Printed.{rules-text, changes-text, card-text, tally-text, printed}

@@ -5,10 +5,7 @@ use native.Mathlib.Omega.{arith}
 use mathlib.Core.Path.{_≡_, ap₂}
 use mathlib.Core.Bool.{Bool}
 use mathlib.Core.List.{List, _++_}
-use lib.ListN.{getD}
 use borrow.Author.Needs.{needs}
-use Rattle.table.specs.Zero.{zero-rule}
-use Rattle.results.specs.Record.{bit-of}
 use Rattle.writing.proofs.Putting.{puts-as, Left, left-start, left-on, left-room, left-as, left-end}
 use Rattle.listing.specs.Printed.{rule-text, rules-text}
 use Rattle.listing.specs.inner.AnswerLines.{fired-line, fired-lines}
