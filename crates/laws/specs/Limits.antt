@@ -29,6 +29,10 @@ literal-limit = 8
 abbrev pub assignment-limit : ℕ
 assignment-limit = 4
 
+-- Slips answered, and slips refused, at which a tally is full.
+abbrev pub tally-limit : ℕ
+tally-limit = 9999
+
 -- The values of a slot and 0, which stands for none: the places of one slot in an array indexed by pair.
 abbrev pub row : ℕ
 row = value-limit + 1

@@ -10,7 +10,7 @@ use Rattle.laws.specs.Numbers.{Numbered}
 use Rattle.laws.proofs.Listed.{each-at}
 use Rattle.model.specs.Strata.{weak}
 use Rattle.model.proofs.Strata.{least-top}
-use Rattle.laws.specs.Limits.{slot-limit, rule-limit}
+use Rattle.laws.specs.Limits.{name-limit, slot-limit, rule-limit}
 use Rattle.grammar.specs.Files.{Slot, File, no-slot, values-of}
 use Rattle.grammar.proofs.Accepts.{accepts-iff, one-meaning}
 use Rattle.grammar.proofs.Declared.{Declared-file, file-declared}
@@ -24,22 +24,22 @@ use Rattle.strata.specs.Layered.{with-strata}
 use Rattle.grammar.specs.TableFor.{table-for}
 use Rattle.reader.specs.declared.Outcome.the-variants.{Accepted}
 use Rattle.rule_file.specs.Whole.{reading}
-use Rattle.rule_file.specs.Carries.{Carries, declared-slot, declared-value}
+use Rattle.rule_file.specs.Carries.{Carries, declared, declared-slot, declared-value}
 use Rattle.rule_file.proofs.Answers.{accepted-table, reading-carries}
 
 -- A name that a file declares has at most 24 bytes, and there is none beyond those.
-slot-le : (slots : List Slot) (s : ℕ) → ((i : ℕ) → i < length slots → Well-named (getD slots i no-slot)) → length (declared-slot slots s .part) ≤ 24
+slot-le : (slots : List Slot) (s : ℕ) → ((i : ℕ) → i < length slots → Well-named (getD slots i no-slot)) → length (declared-slot slots s .part) ≤ name-limit
 slot-le slots s named = go (has-slot (length slots) s) refl
   where
-    go : (b : Bool) → has-slot (length slots) s ≡ b → length ((cond b (record { code = 0; part = getD slots s no-slot .name .letters }) not-shown) .part) ≤ 24
+    go : (b : Bool) → has-slot (length slots) s ≡ b → length ((cond b (declared (getD slots s no-slot .name)) not-shown) .part) ≤ name-limit
     go true e = named s (slot-inside (length slots) s e .1) .0 .short
     go false e = omega arith
 
-value-le : (slots : List Slot) (s v : ℕ) → ((i : ℕ) → i < length slots → Well-named (getD slots i no-slot)) → length (declared-value slots s v .part) ≤ 24
+value-le : (slots : List Slot) (s v : ℕ) → ((i : ℕ) → i < length slots → Well-named (getD slots i no-slot)) → length (declared-value slots s v .part) ≤ name-limit
 value-le slots s v named = go (has-slot (length slots) s) refl (has-value (length (values-of slots s)) v) refl
   where
     go : (b : Bool) → has-slot (length slots) s ≡ b → (c : Bool) → has-value (length (values-of slots s)) v ≡ c
-        → length ((cond b (cond c (record { code = 0; part = getD (values-of slots s) (v - 1) (no-slot .name) .letters }) not-shown) not-shown) .part) ≤ 24
+        → length ((cond b (cond c (declared (getD (values-of slots s) (v - 1) (no-slot .name))) not-shown) not-shown) .part) ≤ name-limit
     go true e true h =
         let w = value-inside (length (values-of slots s)) v h in
         each-at Named (values-of slots s) (v - 1) (no-slot .name) (named s (slot-inside (length slots) s e .1) .1) (omega (arith, w .0, w .1 .1)) .short
@@ -59,8 +59,8 @@ module _ (text : List ℕ) (o : reading text .outcome ≡ Accepted) where
   same-file : accepted-table text o .0 ≡ file
   same-file = one-meaning text (accepted-table text o .0) file (accepts-iff text (accepted-table text o .0) .0 (accepted-table text o .1)) (carries .is-file)
 
-  declared : Declared-file file
-  declared = file-declared text file (carries .is-file)
+  file-is : Declared-file file
+  file-is = file-declared text file (carries .is-file)
 
   -- The table counts the slots and rules of its file.
   width-is : read-table .width ≡ length (file .slots)
@@ -78,10 +78,10 @@ module _ (text : List ℕ) (o : reading text .outcome ≡ Accepted) where
   rules-counted = ap length (carries .rules-are) ∙ sym count-is
 
   pub few-slots : read-table .width ≤ slot-limit
-  few-slots = omega (arith, width-is, declared .few-slots)
+  few-slots = omega (arith, width-is, file-is .few-slots)
 
   pub few-rules : read-table .count ≤ rule-limit
-  few-rules = omega (arith, count-is, declared .few-rules)
+  few-rules = omega (arith, count-is, file-is .few-rules)
 
   -- No stratum is above the number of rules.
   pub strata-low : (i : ℕ) → i < read-table .count → stratum-at read-table (suc i) ≤ rule-limit
@@ -93,8 +93,8 @@ module _ (text : List ℕ) (o : reading text .outcome ≡ Accepted) where
   named : (i : ℕ) → i < length (file .slots) → Well-named (getD (file .slots) i no-slot)
   named i h = each-at Well-named (file .slots) i no-slot (file-formed text file (carries .is-file)) h
 
-  pub slot-short : (s : ℕ) → length (show-slot text read-table s .part) ≤ 24
+  pub slot-short : (s : ℕ) → length (show-slot text read-table s .part) ≤ name-limit
   slot-short s = rw (carries .slots-shown s) (slot-le (file .slots) s named)
 
-  pub value-short : (s v : ℕ) → length (show-value text read-table s v .part) ≤ 24
+  pub value-short : (s v : ℕ) → length (show-value text read-table s v .part) ≤ name-limit
   value-short s v = rw (carries .values-shown s v) (value-le (file .slots) s v named)

@@ -6,4 +6,4 @@ pub mod Accepted
 pub mod Answered
 pub mod Small
 pub mod Bounded
-pub mod Told
+pub mod Delivered

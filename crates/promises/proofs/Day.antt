@@ -11,11 +11,13 @@ use lib.ListN.{length}
 use borrow.Author.Tests.{ne-eqb, lt-leb}
 use Rattle.laws.specs.Truth.{_∨ᵇ_}
 use Rattle.laws.proofs.Truth.{le-or-lt, or-l, or-r}
+use Rattle.laws.specs.Limits.{tally-limit}
 use Rattle.laws.specs.Answers.{OrRefused, taken, refused}
 use Rattle.tally.specs.declared.Tally.{Tally}
 use Rattle.response.specs.Ending.{Answer}
 use Rattle.response.specs.Respond.{answer-by-table, answer-to, counted, tally-after, response-to}
 use Rattle.tally.specs.Counting.{fresh, is-full}
+use Rattle.tally.proofs.TallyLaws.{room-left}
 use Rattle.promises.specs.Day.{Call, answer-at, next-tally, tally-over, answers-over, answered-in, refused-in, answer-after}
 use Rattle.promises.proofs.Refusals.{Only, Other, by-table-other}
 
@@ -90,32 +92,25 @@ refused-few (refused k s ∷ us) = go (eqb k 32) (refused-few us)
     go false h = omega arith
 
 -- No tally is full before 9,999 calls.
-pub day-room : (before : List Call) → length before < 9999 → is-full (tally-over fresh before) ≡ false
+pub day-room : (before : List Call) → length before < tally-limit → is-full (tally-over fresh before) ≡ false
 unfolding is-full _∨ᵇ_
 day-room before h =
     let w = tally-counts fresh before in
     let n = day-length fresh before in
     rw (
-      lt-leb 9999 (tally-over fresh before .answered) (omega (arith, w .0, answered-few (answers-over fresh before), n, h)),
-      lt-leb 9999 (tally-over fresh before .refused) (omega (arith, w .1, refused-few (answers-over fresh before), n, h)),
+      lt-leb tally-limit (tally-over fresh before .answered) (omega (arith, w .0, answered-few (answers-over fresh before), n, h)),
+      lt-leb tally-limit (tally-over fresh before .refused) (omega (arith, w .1, refused-few (answers-over fresh before), n, h)),
     )
 
-not-full : (y : Tally) → is-full y ≡ false → (y .answered < 9999) × (y .refused < 9999)
-unfolding is-full
-not-full y e = (
-  ⊎-elim (λ (l : 9999 ≤ y .answered). absurd (rw e at (or-l (leb 9999 (y .answered)) (leb 9999 (y .refused)) (le→leb 9999 (y .answered) l)))) (λ l. l) (le-or-lt 9999 (y .answered)),
-  ⊎-elim (λ (l : 9999 ≤ y .refused). absurd (rw e at (or-r (leb 9999 (y .answered)) (leb 9999 (y .refused)) (le→leb 9999 (y .refused) l)))) (λ l. l) (le-or-lt 9999 (y .refused)),
-)
-
-top-next : (y : Tally) (u : OrRefused Answer) (full : Bool) → is-full y ≡ full → (y .answered ≤ 9999) × (y .refused ≤ 9999)
-    → (cond full y (counted y u) .answered ≤ 9999) × (cond full y (counted y u) .refused ≤ 9999)
+top-next : (y : Tally) (u : OrRefused Answer) (full : Bool) → is-full y ≡ full → (y .answered ≤ tally-limit) × (y .refused ≤ tally-limit)
+    → (cond full y (counted y u) .answered ≤ tally-limit) × (cond full y (counted y u) .refused ≤ tally-limit)
 unfolding counted
 top-next y u true e h = h
-top-next y (taken a) false e h = (omega (arith, not-full y e .0), h .1)
-top-next y (refused k s) false e h = (h .0, omega (arith, not-full y e .1))
+top-next y (taken a) false e h = (omega (arith, room-left y e .0), h .1)
+top-next y (refused k s) false e h = (h .0, omega (arith, room-left y e .1))
 
 -- The tally stays within 0 to 9,999 each.
-pub tally-top : (y : Tally) (cs : List Call) → (y .answered ≤ 9999) × (y .refused ≤ 9999) → (tally-over y cs .answered ≤ 9999) × (tally-over y cs .refused ≤ 9999)
+pub tally-top : (y : Tally) (cs : List Call) → (y .answered ≤ tally-limit) × (y .refused ≤ tally-limit) → (tally-over y cs .answered ≤ tally-limit) × (tally-over y cs .refused ≤ tally-limit)
 unfolding tally-over response-to tally-after
 tally-top y [] h = h
 tally-top y (c ∷ cs) h = tally-top (next-tally y c) cs (top-next y (answer-at y c) (is-full y) refl h)

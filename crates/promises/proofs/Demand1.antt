@@ -6,10 +6,12 @@ use mathlib.Core.Path.{_≡_, refl, sym, ap, subst, _∙_}
 use mathlib.Core.Bool.{Bool, true, false, cond}
 use mathlib.Core.List.{List}
 use mathlib.Core.Logic.{_⊎_, inl, inr, ⊎-elim}
-use lib.Dec.{T, leb}
+use lib.Dec.{T, leb, leb→le}
 use lib.ListN.{length, getD, take, drop}
 use Rattle.laws.specs.Answers.{OrRefused, taken, refused, written, output-of}
+use Rattle.laws.specs.Limits.{tally-limit}
 use Rattle.laws.proofs.Equations.{from-true}
+use Rattle.laws.proofs.Truth.{or-e}
 use Rattle.model.specs.Rules.{Pair}
 use Rattle.table.specs.declared.Name.{Name}
 use Rattle.table.specs.declared.Slot.{Slot}
@@ -34,14 +36,15 @@ use Rattle.cards.specs.Forms.{values-in, changes-in, card-bytes, slip-bytes, re
 use Rattle.cards.specs.Cards.{card-values, changes-of, card-of, slip-of, no-card, no-slip, if-sound, unpacked-card, unpacked-slip, packed-card, packed-slip, card-read, slip-read, packing-of, unpacking-refusal, unpacking-second, packing-refusal, packing-second, packing-length}
 use Rattle.tally.specs.declared.Tally.{Tally}
 use Rattle.tally.specs.Counting.{is-full, one-answered, one-refused}
+use Rattle.tally.proofs.TallyLaws.{room-left}
 use Rattle.response.specs.Ending.{Answer}
 use Rattle.response.specs.Respond.{Rooms, Outputs, rooms-of, response-refusal, response-second, outcome-of, answer-by-table, answer-to, counted, tally-after, response-to, outputs-after}
 use Rattle.promises.specs.Returned.{print-told, print-left, response-told, response-left, Answers}
-use Rattle.promises.specs.Reasons.{FileReason, PrintReason, own, print-over, print-room, ValuesRight, CardReason, CardRight, PackedCardReason, ChangesRight, SlipReason, SlipRight, PackedSlipReason, TableReason, ResponseReason, full-tally, of-table}
+use Rattle.promises.specs.Reasons.{FileReason, PrintReason, own, print-over, print-room, CardReason, CardRight, PackedCardReason, PackedCardRight, SlipReason, SlipRight, PackedSlipReason, PackedSlipRight, TableReason, RulesReason, RulesRight, Full, NotFull, ResponseReason, full-tally, of-table}
 use Rattle.promises.specs.Refusals.{Comes, Passes, TallyRefused, Demand1}
 use Rattle.promises.proofs.Refusals.{Only, Other, only-e, by-table-other}
 use Rattle.promises.proofs.Judged.{Judged, card-judged, slip-judged, packed-card-judged, packed-slip-judged}
-use Rattle.promises.proofs.ResponseReasons.{AnyAnswer, sound-judged, table-judged}
+use Rattle.promises.proofs.ResponseReasons.{sound-judged, table-judged}
 use Rattle.promises.proofs.Returned.{answers}
 use Rattle.promises.proofs.Outcomes.{text-comes, file-reason, reason-file, Prints, own-refusal, over, short, all, prints}
 
@@ -94,18 +97,23 @@ module _ (t : Table) (y : Tally) (card slip : List ℕ) (o : Outputs) where
   -- What is told, counted and left of what a response comes to.
   abbrev Back : OrRefused Answer → Type 0
   Back u =
-      Comes (ResponseReason t y card slip rooms) (response-refusal (outcome-of u)) (response-second (outcome-of u)) ((a : Answer) × Answers t y card slip o a × (tally-after y u ≡ one-answered y))
+      Comes (ResponseReason t y card slip rooms) (response-refusal (outcome-of u)) (response-second (outcome-of u)) ((a : Answer) × NotFull y × Passes t (RulesRight (value-counts t) (rules-of t) card slip rooms a) × Answers t y card slip o a × (tally-after y u ≡ one-answered y))
       ((outputs-after u o ≡ o) × TallyRefused (response-refusal (outcome-of u)) y (tally-after y u))
+
+  full-by : is-full y ≡ true → Full y
+  unfolding is-full
+  full-by e = ⊎-elim (λ l. inl (leb→le tally-limit (y .answered) l)) (λ l. inr (leb→le tally-limit (y .refused) l)) (or-e (leb tally-limit (y .answered)) (leb tally-limit (y .refused)) (from-true (is-full y) e))
 
   full : is-full y ≡ true → Back (refused 32 0)
   unfolding outcome-of outputs-after tally-after
-  full e = inr (full-tally (from-true (is-full y) e), (refl, record { counted = λ n. absurd (n refl); not-counted = λ z. rw e refl }))
+  full e = inr (full-tally (full-by e), (refl, record { counted = λ n. absurd (n refl); not-counted = λ z. rw e refl }))
 
-  not-full : is-full y ≡ false → (u : OrRefused Answer) → answer-by-table t card slip rooms ≡ u → answer-to t y card slip rooms ≡ u → Back u
+  not-full : is-full y ≡ false → (u : OrRefused Answer) → answer-by-table t card slip rooms ≡ u → answer-to t y card slip rooms ≡ u
+      → Judged (TableReason t (RulesReason (value-counts t) (rules-of t) card slip rooms)) (λ a. Passes t (RulesRight (value-counts t) (rules-of t) card slip rooms a)) u → Back u
   unfolding outcome-of outputs-after tally-after counted
-  not-full e (taken a) b c = inl (refl, refl, (a, answers t y card slip o a c, rw e refl))
-  not-full e (refused k s) b c =
-      inr (of-table e (subst (Judged (TableReason t _) AnyAnswer) b (table-judged t card slip rooms)), (refl, record { counted = λ n. rw e refl; not-counted = λ z. absurd (only-e (Other 32) _ k s (by-table-other t card slip rooms) b z) }))
+  not-full e (taken a) b c j = inl (refl, refl, (a, room-left y e, j, answers t y card slip o a c, rw e refl))
+  not-full e (refused k s) b c j =
+      inr (of-table (room-left y e) j, (refl, record { counted = λ n. rw e refl; not-counted = λ z. absurd (only-e (Other 32) _ k s (by-table-other t card slip rooms) b z) }))
 
   response-back : Back (answer-to t y card slip rooms)
   unfolding answer-to
@@ -113,7 +121,7 @@ module _ (t : Table) (y : Tally) (card slip : List ℕ) (o : Outputs) where
     where
       go : (b : Bool) → is-full y ≡ b → Back (cond b (refused 32 0) (answer-by-table t card slip rooms))
       go true e = full e
-      go false e = not-full e (answer-by-table t card slip rooms) refl (rw e refl)
+      go false e = not-full e (answer-by-table t card slip rooms) refl (rw e refl) (table-judged t card slip rooms)
 
 -- A name shown is 0 or 31.
 abbrev ZeroOr31 : Showing → Type 0
@@ -140,9 +148,9 @@ demand-1 = record {
   file-printed = λ text out. print-back text out (print-into text (length out)) (prints text (length out));
   card-unpacked = λ t ys. card-back _ (Passes t (CardRight (value-counts t) ys)) (values-in ys) (unpacked-card t ys) (by-table t (CardReason (value-counts t) ys) _ (read-card (value-counts t) ys) _ (card-judged (value-counts t) ys));
   slip-unpacked = λ t ys. slip-back _ (Passes t (SlipRight (value-counts t) ys)) (changes-in ys) (unpacked-slip t ys) (by-table t (SlipReason (value-counts t) ys) _ (read-slip (value-counts t) ys) _ (slip-judged (value-counts t) ys));
-  card-packed = λ t c out. packed-back _ (Passes t (ValuesRight (value-counts t) (card-values c))) (card-bytes (card-values c)) out (packed-card t c (length out))
+  card-packed = λ t c out. packed-back _ (Passes t (PackedCardRight (value-counts t) (card-values c) (length out))) (card-bytes (card-values c)) out (packed-card t c (length out))
       (by-table t (PackedCardReason (value-counts t) (card-values c) (length out)) _ (write-card (value-counts t) (card-values c) (length out)) _ (packed-card-judged (value-counts t) (card-values c) (length out)));
-  slip-packed = λ t c out. packed-back _ (Passes t (ChangesRight (value-counts t) (changes-of c))) (slip-bytes (changes-of c)) out (packed-slip t c (length out))
+  slip-packed = λ t c out. packed-back _ (Passes t (PackedSlipRight (value-counts t) (changes-of c) (length out))) (slip-bytes (changes-of c)) out (packed-slip t c (length out))
       (by-table t (PackedSlipReason (value-counts t) (changes-of c) (length out)) _ (write-slip (value-counts t) (changes-of c) (length out)) _ (packed-slip-judged (value-counts t) (changes-of c) (length out)));
   responded = response-back;
   slot-shown = λ text t slot. shown-if (has-slot (t .width) slot) (show-name text (getD (t .slots) slot zero-slot .name)) (name-shown text _);

@@ -2,7 +2,7 @@
 -- Assumes nothing.
 use Prim.Native.Nat.{ℕ, _≤_, _<_}
 use native.Mathlib.Omega.{arith}
-use mathlib.Core.Path.{_≡_, refl, ap, ap₂}
+use mathlib.Core.Path.{_≡_, refl, ap, ap₂, _∙_}
 use mathlib.Core.List.{List}
 use mathlib.Core.Logic.{⊎-elim}
 use lib.ListN.{length}
@@ -18,8 +18,8 @@ use Rattle.model.specs.Paper.{SlotConsistent, firing-of}
 use Rattle.model.proofs.Strata.{least-i}
 use Rattle.model.proofs.Paper.{response-declarative, response-rule-consistent, response-correct}
 use Rattle.table.specs.declared.Table.{Table}
-use Rattle.table.specs.Link.{stratum-at, value-counts}
-use Rattle.grammar.specs.Files.{File}
+use Rattle.table.specs.Link.{rules-of, stratum-at, value-counts}
+use Rattle.grammar.specs.Files.{File, slot-counts}
 use Rattle.grammar.specs.Meaning.{Is-file}
 use Rattle.grammar.proofs.Accepts.{one-meaning}
 use Rattle.soundness.specs.Sound.{sound}
@@ -75,12 +75,16 @@ module _ (text : List ℕ) (f : File) (h : Is-file text f) (o : reading text .ou
   conflict : (s : ℕ) → Agreed f card slip (λ S I ns. LowestConflict (changes (f .rules) I ns) s) → PaperConflict f card slip s
   conflict s A = record { S = A .S; I = A .I; fired = ours A; response = declared A; lowest = A .each-order (ours A) (A .ours) }
 
--- The table of an accepted text carries the least strata.
-carried-least : (text : List ℕ) (f : File) → Is-file text f → reading text .outcome ≡ Accepted → LeastStrata weak (f .rules) (stratum-at (reading text .table))
+-- The table of an accepted text has the file's rules, as many values for each slot, and the least strata.
+carried-least : (text : List ℕ) (f : File) → Is-file text f → reading text .outcome ≡ Accepted
+    → (rules-of (reading text .table) ≡ f .rules) × (value-counts (reading text .table) ≡ slot-counts (f .slots)) × LeastStrata weak (f .rules) (stratum-at (reading text .table))
 carried-least text f h o =
     let c = reading-carries text o in
-    let e : c .file ≡ f = one-meaning text (c .file) f (c .is-file) h in
-    rw e at (least-i weak (c .file .rules) (stratum-at (reading text .table)) (c .no-circle) (c .strata-are))
+    let e : c .file ≡ f = one-meaning text (c .file) f (c .is-file) h in (
+      c .rules-are ∙ ap (λ (g : File). g .rules) e,
+      c .counts-are ∙ ap (λ (g : File). slot-counts (g .slots)) e,
+      rw e at (least-i weak (c .file .rules) (stratum-at (reading text .table)) (c .no-circle) (c .strata-are)),
+    )
 
 -- 18 by its numbers.
 numbers-18 : (x : Outcome) (n : ℕ) → reading-refusal x ≡ 18 → reading-second x ≡ n → x ≡ Refused 18 n

@@ -10,12 +10,13 @@ use lib.Dec.{eqb, ltb}
 use lib.ListN.{length, getD}
 use borrow.Author.Tests.{eqb-true, eqb-false, ltb-true, ltb-false}
 use Rattle.laws.specs.Answers.{Verdict, passed, fault, OrRefused, taken, refused, after}
+use Rattle.laws.specs.Limits.{slot-limit}
 use Rattle.laws.specs.Packed.{byte-count}
 use Rattle.laws.proofs.Truth.{le-or-lt}
 use Rattle.model.specs.Rules.{Pair}
 use Rattle.cards.specs.Forms.{card-bits, slip-bits, count-in, values-in, changes-in, padding, values-test, card-test, change-fault, slip-test, card-bytes, slip-bytes, read-card, read-slip, write-card, write-slip}
 use Rattle.cards.proofs.Tested.{ValuesLeft, values-start, values-next, values-fault, values-end, other-count, same-count, no-pair, ChangesLeft, changes-start, changes-next, changes-fault, changes-end, fault-25, fault-26, fault-27, fault-high, no-fault}
-use Rattle.promises.specs.Reasons.{FirstAbove, ValuesReason, another-count, value-above, ValuesRight, CardReason, card-length, values-refused, card-padding, CardRight, PackedCardReason, packed-values, packed-card-room, slot-of, value-of, Rises, slot-lacking, not-rising, value-lacking, ChangeFault, ChangeRight, FirstFaulty, ChangesRight, SlipReason, slip-length, slip-change, slip-padding, SlipRight, PackedSlipReason, too-many, packed-change, packed-slip-room}
+use Rattle.promises.specs.Reasons.{FirstAbove, ValuesReason, another-count, value-above, ValuesRight, CardReason, card-length, values-refused, card-padding, CardRight, PackedCardReason, packed-values, packed-card-room, PackedCardRight, slot-of, value-of, Rises, slot-lacking, not-rising, value-lacking, ChangeFault, ChangeRight, FirstFaulty, ChangesRight, SlipReason, slip-length, slip-change, slip-padding, SlipRight, PackedSlipReason, too-many, packed-change, packed-slip-room, PackedSlipRight}
 
 -- What is taken has a property, and what is refused a reason.
 abbrev pub Judged : {A : Type 0} → (ℕ → ℕ → Type 0) → (A → Type 0) → OrRefused A → Type 0
@@ -75,12 +76,12 @@ card-judged counts ys =
     (λ b. card-length (eqb-false (length ys) _ b))
 
 -- and a card that is packed.
-pub packed-card-judged : (counts vs : List ℕ) (room : ℕ) → Judged (PackedCardReason counts vs room) (λ ys. (ys ≡ card-bytes vs) × ValuesRight counts vs) (write-card counts vs room)
+pub packed-card-judged : (counts vs : List ℕ) (room : ℕ) → Judged (PackedCardReason counts vs room) (λ ys. (ys ≡ card-bytes vs) × PackedCardRight counts vs room) (write-card counts vs room)
 unfolding write-card
 packed-card-judged counts vs room =
     judged-after (PackedCardReason counts vs room) (ValuesReason counts vs) (ValuesRight counts vs) _ (card-test counts vs) _ (values-judged counts vs) (λ k s r. packed-values r)
     (λ v. judged-if (PackedCardReason counts vs room) _ (ltb room (byte-count (card-bits (length vs)))) (refused 30 1) (taken (card-bytes vs))
-    (λ b. packed-card-room v (ltb-true room _ b)) (λ b. (refl, v)))
+    (λ b. packed-card-room v (ltb-true room _ b)) (λ b. (refl, record { values-right = v; enough = ltb-false room _ b })))
 
 -- `low` is 0 at the first change, and else one above the slot of the change before.
 Low : List Pair → ℕ → ℕ → Type 0
@@ -147,12 +148,12 @@ slip-judged counts ys =
     (λ b. slip-length (eqb-false (length ys) _ b))
 
 -- and a slip that is packed.
-pub packed-slip-judged : (counts : List ℕ) (ps : List Pair) (room : ℕ) → Judged (PackedSlipReason counts ps room) (λ ys. (ys ≡ slip-bytes ps) × ChangesRight counts ps) (write-slip counts ps room)
+pub packed-slip-judged : (counts : List ℕ) (ps : List Pair) (room : ℕ) → Judged (PackedSlipReason counts ps room) (λ ys. (ys ≡ slip-bytes ps) × PackedSlipRight counts ps room) (write-slip counts ps room)
 unfolding write-slip
 packed-slip-judged counts ps room =
-    judged-if (PackedSlipReason counts ps room) (λ ys. (ys ≡ slip-bytes ps) × ChangesRight counts ps) (ltb 32 (length ps)) (refused 24 0) _
-    (λ b. too-many (ltb-true 32 (length ps) b))
-    (λ b. let f = ltb-false 32 (length ps) b in
+    judged-if (PackedSlipReason counts ps room) (λ ys. (ys ≡ slip-bytes ps) × PackedSlipRight counts ps room) (ltb slot-limit (length ps)) (refused 24 0) _
+    (λ b. too-many (ltb-true slot-limit (length ps) b))
+    (λ b. let f = ltb-false slot-limit (length ps) b in
     judged-after (PackedSlipReason counts ps room) (FirstFaulty counts ps) (ChangesRight counts ps) _ (slip-test counts ps) _ (changes-judged counts ps) (λ k s r. packed-change f r)
     (λ v. judged-if (PackedSlipReason counts ps room) _ (ltb room (byte-count (slip-bits (length ps)))) (refused 30 2) (taken (slip-bytes ps))
-    (λ r. packed-slip-room f v (ltb-true room _ r)) (λ r. (refl, v))))
+    (λ r. packed-slip-room f v (ltb-true room _ r)) (λ r. (refl, record { few = f; changes-right = v; enough = ltb-false room _ r }))))

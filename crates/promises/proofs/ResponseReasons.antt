@@ -19,11 +19,10 @@ use Rattle.laws.proofs.Listed.{all-append}
 use Rattle.model.specs.Rules.{Pair, Pairs, same, among}
 use Rattle.model.specs.Rules as model
 use Rattle.model.specs.Orders.{no-rule, rule-at, changes}
-use Rattle.model.specs.Strata.{weak}
-use Rattle.model.specs.Response.{response}
 use Rattle.model.specs.Result.{pair, conflict-slot}
 use Rattle.model.proofs.Pairs.{same-eq}
 use Rattle.model.proofs.Changes.{cause}
+use Rattle.model.proofs.Results.{conflict-i, conflict-slot-lowest}
 use Rattle.table.specs.declared.Rule.{Rule}
 use Rattle.table.specs.declared.Slot.{Slot}
 use Rattle.table.specs.declared.Table.{Table}
@@ -36,9 +35,11 @@ use Rattle.soundness.proofs.WellFormed.{sound-parts}
 use Rattle.cards.specs.Forms.{card-bits, values-in, changes-in, read-card, read-slip}
 use Rattle.cards.specs.Cards.{if-sound}
 use Rattle.cards.proofs.Having.{tested-has, slip-tested}
-use Rattle.response.specs.Ending.{Answer, answer-of, unless-conflict, answer-by-firing}
+use Rattle.response.specs.Ending.{Answer, unless-conflict, answer-by-firing}
 use Rattle.response.specs.Respond.{_and-then_, Rooms, changes-room, if-room, answer-by-rules, answer-by-table}
-use Rattle.promises.specs.Reasons.{CardReason, CardRight, SlipReason, SlipRight, TableReason, not-sound, of-others, RoomReason, card-short, changes-short, fired-short, RoomRight, RulesReason, of-card, of-slip, of-room, conflict}
+use Rattle.promises.specs.Reasons.{CardReason, CardRight, SlipReason, SlipRight, TableReason, not-sound, of-others, RoomReason, card-short, changes-short, fired-short, RoomRight, RulesReason, of-card, of-slip, of-room, conflict, fired-by, ends-with, RulesRight}
+use Rattle.promises.specs.Refusals.{Passes}
+use Rattle.promises.specs.Agreement.{InConflict}
 use Rattle.promises.proofs.Ends.{lowest-of}
 use Rattle.promises.proofs.Judged.{Judged, judged-if, card-judged, slip-judged}
 
@@ -123,10 +124,6 @@ room-judged R Q width count rooms u r j =
     (λ c. judged-if R Q (ltb (rooms .for-fired) (byte-count count)) (refused 30 3) u (λ b. r 3 (fired-short (ltb-false _ _ a) (ltb-false _ _ c) (ltb-true _ _ b)))
     (λ d. j (record { for-card = ltb-false _ _ a; for-changes = ltb-false _ _ c; for-fired = ltb-false _ _ d }))))
 
--- What is taken is an answer, of which nothing else is said here.
-abbrev pub AnyAnswer : Answer → Type 0
-AnyAnswer a = Unit
-
 -- By the rules of a sound table.
 module _ (t : Table) (passes : T (sound t)) (card slip : List ℕ) (rooms : Rooms) where
   abbrev counts : List ℕ
@@ -135,31 +132,46 @@ module _ (t : Table) (passes : T (sound t)) (card slip : List ℕ) (rooms : Room
   abbrev rs : List model.Rule
   rs = rules-of t
 
+  abbrev C : Pairs
+  C = ends-with rs card slip
+
   abbrev Reason : ℕ → ℕ → Type 0
   Reason = RulesReason counts rs card slip rooms
 
+  abbrev Right : Answer → Type 0
+  Right = RulesRight counts rs card slip rooms
+
+  -- No slot is in conflict where the lowest such slot is none.
+  no-two : ((p : Pair) → T (C p) → p .value < row) → length counts ≤ conflict-slot (length counts) row C → (s : ℕ) → s < length counts → ¬ InConflict C s
+  unfolding InConflict
+  no-two small none s h w = conflict-slot-lowest row C (length counts) s (omega (arith, none, h)) (conflict-i row C s (w .0) (w .1) (w .2) (small (pair s (w .1)) (w .4)) (w .3) (w .4))
+
   -- The rules have fired.
   fired-judged : RoomRight (length counts) (length rs) rooms → CardRight counts card → SlipRight counts slip → read-slip counts slip ≡ taken (changes-in slip)
-      → Judged Reason AnyAnswer (answer-by-firing rs (length counts) (values-in card) (changes-in slip))
+      → Judged Reason Right (answer-by-firing rs (length counts) (values-in card) (changes-in slip))
   unfolding answer-by-firing unless-conflict
   fired-judged room c i e =
-      judged-if Reason AnyAnswer (ltb (conflict-slot (length counts) row C) (length counts)) (refused 40 (conflict-slot (length counts) row C)) (taken _)
-      (λ b. conflict c i room (lowest-of C (length counts) (value-small t passes slip (changes-in slip) ours e) (ltb-true _ _ b))) (λ b. tt)
-    where
-      ours : List ℕ
-      ours = response weak rs (values-in card) (changes-in slip)
+      let small = value-small t passes slip (changes-in slip) (fired-by rs card slip) e in
+      judged-if Reason Right (ltb (conflict-slot (length counts) row C) (length counts)) (refused 40 (conflict-slot (length counts) row C)) (taken _)
+      (λ b. conflict c i room (lowest-of C (length counts) small (ltb-true _ _ b)))
+      (λ b. record { card-right = c; slip-right = i; room-right = room; no-conflict = no-two small (ltb-false _ _ b); answer-is = refl })
 
-      C : Pairs
-      C = changes rs (changes-in slip) ours
-
-  rules-judged : Judged Reason AnyAnswer (answer-by-rules counts rs card slip rooms)
+  rules-judged : Judged Reason Right (answer-by-rules counts rs card slip rooms)
   unfolding answer-by-rules
   rules-judged =
-      judged-then Reason (CardReason counts card) (λ S. (S ≡ values-in card) × CardRight counts card) AnyAnswer (read-card counts card) _ (card-judged counts card) (λ k s r. of-card r)
-      (λ S d c. judged-then Reason (SlipReason counts slip) (λ I. (I ≡ changes-in slip) × SlipRight counts slip) AnyAnswer (read-slip counts slip) _ (slip-judged counts slip) (λ k s r. of-slip (c .1) r)
-      (λ I e i. room-judged Reason AnyAnswer (length counts) (length rs) rooms _ (λ s r. of-room (c .1) (i .1) r) (λ room. rw (c .0, i .0) (fired-judged room (c .1) (i .1) (e ∙ ap taken (i .0))))))
+      judged-then Reason (CardReason counts card) (λ S. (S ≡ values-in card) × CardRight counts card) Right (read-card counts card) _ (card-judged counts card) (λ k s r. of-card r)
+      (λ S d c. judged-then Reason (SlipReason counts slip) (λ I. (I ≡ changes-in slip) × SlipRight counts slip) Right (read-slip counts slip) _ (slip-judged counts slip) (λ k s r. of-slip (c .1) r)
+      (λ I e i. room-judged Reason Right (length counts) (length rs) rooms _ (λ s r. of-room (c .1) (i .1) r) (λ room. rw (c .0, i .0) (fired-judged room (c .1) (i .1) (e ∙ ap taken (i .0))))))
 
 -- By any table.
-pub table-judged : (t : Table) (card slip : List ℕ) (rooms : Rooms) → Judged (TableReason t (RulesReason (value-counts t) (rules-of t) card slip rooms)) AnyAnswer (answer-by-table t card slip rooms)
+pub table-judged : (t : Table) (card slip : List ℕ) (rooms : Rooms)
+    → Judged (TableReason t (RulesReason (value-counts t) (rules-of t) card slip rooms)) (λ a. Passes t (RulesRight (value-counts t) (rules-of t) card slip rooms a)) (answer-by-table t card slip rooms)
 unfolding answer-by-table
-table-judged t card slip rooms = sound-judged t (RulesReason (value-counts t) (rules-of t) card slip rooms) AnyAnswer (answer-by-rules (value-counts t) (rules-of t) card slip rooms) (λ p. rules-judged t p card slip rooms)
+table-judged t card slip rooms =
+    sound-judged t (RulesReason (value-counts t) (rules-of t) card slip rooms) (λ a. Passes t (RulesRight (value-counts t) (rules-of t) card slip rooms a)) (answer-by-rules (value-counts t) (rules-of t) card slip rooms)
+    (λ p. also p (answer-by-rules (value-counts t) (rules-of t) card slip rooms) (rules-judged t p card slip rooms))
+  where
+    also : T (sound t) → (u : OrRefused Answer) → Judged (RulesReason (value-counts t) (rules-of t) card slip rooms) (RulesRight (value-counts t) (rules-of t) card slip rooms) u
+        → Judged (RulesReason (value-counts t) (rules-of t) card slip rooms) (λ a. Passes t (RulesRight (value-counts t) (rules-of t) card slip rooms a)) u
+    also p (taken a) h = record { passes = p; right = h }
+    also p (refused k s) h = h

@@ -14,7 +14,7 @@ use Rattle.model.specs.Least.{LeastStrata}
 use Rattle.model.specs.Circles.{LowestThroughNot}
 use Rattle.model.specs.Paper.{NoneFireable, RuleConsistent, DeclarativeResponse, Correct, firing-of, firings}
 use Rattle.table.specs.declared.Table.{Table}
-use Rattle.table.specs.Link.{stratum-at}
+use Rattle.table.specs.Link.{rules-of, stratum-at, value-counts}
 use Rattle.grammar.specs.Files.{File, slot-counts}
 use Rattle.grammar.specs.Meaning.{Is-file}
 use Rattle.reader.specs.Tables.{reading-refusal, reading-second}
@@ -54,9 +54,10 @@ pub record PaperConflict (f : File) (card slip : List ℕ) (s : ℕ) : Type 0 wh
   pub lowest : LowestConflict (changes (f .rules) I fired) s
 
 pub record Demand2 : Type 0 where
-  -- Accepted: exactly the texts of files whose rules have strata; the table carries the least of them.
+  -- Accepted: exactly the texts of files whose rules have strata; the table has the file's rules, as many values for each slot, and the least strata.
   pub accepted : (text : List ℕ) → ((f : File) × Is-file text f × ((u : ℕ → ℕ) × Strata weak (f .rules) u)) ↔ IsAccepted text
-  pub carried : (text : List ℕ) (f : File) → Is-file text f → IsAccepted text → LeastStrata weak (f .rules) (stratum-at (reading text .table))
+  pub carried : (text : List ℕ) (f : File) → Is-file text f → IsAccepted text
+      → (rules-of (reading text .table) ≡ f .rules) × (value-counts (reading text .table) ≡ slot-counts (f .slots)) × LeastStrata weak (f .rules) (stratum-at (reading text .table))
   -- 18: exactly the texts of files whose rules have none;
   pub no-strata : (text : List ℕ) → (reading-refusal (reading text .outcome) ≡ 18) ↔ ((f : File) × Is-file text f × ((u : ℕ → ℕ) → ¬ Strata weak (f .rules) u))
   -- and these are exactly the texts of files with a circle through a NOT, of which it names the lowest rule.

@@ -1,14 +1,13 @@
 -- Why something is refused, by its number and its second number: document 01, 'Refusals by who can cause them'. A reason holds only where none that comes before it does.
 use Prim.Native.Nat.{ℕ, suc, _≤_, _<_}
 use mathlib.Core.Path.{_≡_}
-use mathlib.Core.Bool.{false}
 use mathlib.Core.List.{List}
 use mathlib.Core.Logic.{_⊎_}
 use lib.Dec.{T}
 use lib.ListN.{length, getD}
 use Rattle.laws.specs.Packed.{byte-count}
 use Rattle.text.specs.Tokens.{tokens}
-use Rattle.model.specs.Rules.{Pair, Rule}
+use Rattle.model.specs.Rules.{Pair, Pairs, Rule}
 use Rattle.model.specs.Orders.{changes}
 use Rattle.model.specs.Result.{pair}
 use Rattle.model.specs.Strata.{weak}
@@ -16,7 +15,7 @@ use Rattle.model.specs.Circles.{LowestThroughNot}
 use Rattle.model.specs.Response.{response}
 use Rattle.table.specs.declared.Table.{Table}
 use Rattle.table.specs.Link.{rules-of, value-counts}
-use Rattle.laws.specs.Limits.{text-limit}
+use Rattle.laws.specs.Limits.{text-limit, slot-limit, tally-limit}
 use Rattle.grammar.specs.Files.{File}
 use Rattle.grammar.specs.Meaning.{Is-file}
 use Rattle.grammar.specs.Reading.{parse}
@@ -25,10 +24,10 @@ use Rattle.printing.specs.Printing.{print-of}
 use Rattle.soundness.specs.Sound.{sound}
 use Rattle.cards.specs.Forms.{card-bits, slip-bits, count-in, values-in, changes-in, padding}
 use Rattle.tally.specs.declared.Tally.{Tally}
-use Rattle.tally.specs.Counting.{is-full}
+use Rattle.response.specs.Ending.{Answer, answer-of}
 use Rattle.response.specs.Respond.{Rooms, changes-room}
 use Rattle.promises.specs.Returned.{IsAccepted}
-use Rattle.promises.specs.Agreement.{LowestConflict}
+use Rattle.promises.specs.Agreement.{InConflict, LowestConflict}
 
 -- A rule file. 10: its length. 11 to 17: the smallest fault of the earliest faulty token, or of the end, after so many completed rules. 18: the lowest rule on a circle through a NOT.
 pub data FileReason (text : List ℕ) : ℕ → ℕ → Type 0 where
@@ -53,7 +52,7 @@ pub data ValuesReason (counts vs : List ℕ) : ℕ → ℕ → Type 0 where
   another-count : ¬ (length vs ≡ length counts) → ValuesReason counts vs 21 0
   value-above : {s : ℕ} → length vs ≡ length counts → FirstAbove counts vs s → ValuesReason counts vs 22 s
 
--- None of these.
+-- Neither 21 nor 22.
 pub record ValuesRight (counts vs : List ℕ) : Type 0 where
   pub as-many : length vs ≡ length counts
   pub within : (s : ℕ) → s < length counts → getD vs s 0 ≤ getD counts s 0
@@ -71,7 +70,7 @@ pub data CardReason (counts ys : List ℕ) : ℕ → ℕ → Type 0 where
   values-refused : {k s : ℕ} → CardLong ys → ValuesReason counts (values-in ys) k s → CardReason counts ys k s
   card-padding : CardLong ys → ValuesRight counts (values-in ys) → ¬ CardPadded ys → CardReason counts ys 23 0
 
--- None of these.
+-- None of 20 to 23.
 pub record CardRight (counts ys : List ℕ) : Type 0 where
   pub long : CardLong ys
   pub values-right : ValuesRight counts (values-in ys)
@@ -81,6 +80,11 @@ pub record CardRight (counts ys : List ℕ) : Type 0 where
 pub data PackedCardReason (counts vs : List ℕ) (room : ℕ) : ℕ → ℕ → Type 0 where
   packed-values : {k s : ℕ} → ValuesReason counts vs k s → PackedCardReason counts vs room k s
   packed-card-room : ValuesRight counts vs → room < byte-count (card-bits (length vs)) → PackedCardReason counts vs room 30 1
+
+-- None of these: 21, 22, 30.
+pub record PackedCardRight (counts vs : List ℕ) (room : ℕ) : Type 0 where
+  pub values-right : ValuesRight counts vs
+  pub enough : byte-count (card-bits (length vs)) ≤ room
 
 -- The slot of a change by its position, and its value.
 abbrev pub slot-of : List Pair → ℕ → ℕ
@@ -99,7 +103,7 @@ pub data ChangeFault (counts : List ℕ) (ps : List Pair) (j : ℕ) : ℕ → Ty
   not-rising : slot-of ps j < length counts → (i : ℕ) → suc i ≡ j → slot-of ps j ≤ slot-of ps i → ChangeFault counts ps j 26
   value-lacking : slot-of ps j < length counts → Rises ps j → (value-of ps j ≡ 0) ⊎ (getD counts (slot-of ps j) 0 < value-of ps j) → ChangeFault counts ps j 27
 
--- None of these.
+-- None of 25 to 27.
 pub record ChangeRight (counts : List ℕ) (ps : List Pair) (j : ℕ) : Type 0 where
   pub below : slot-of ps j < length counts
   pub rises : Rises ps j
@@ -128,7 +132,7 @@ pub data SlipReason (counts ys : List ℕ) : ℕ → ℕ → Type 0 where
   slip-change : {k j : ℕ} → SlipLong ys → FirstFaulty counts (changes-in ys) k j → SlipReason counts ys k j
   slip-padding : SlipLong ys → ChangesRight counts (changes-in ys) → ¬ SlipPadded ys → SlipReason counts ys 28 0
 
--- None of these.
+-- None of 24 to 28.
 pub record SlipRight (counts ys : List ℕ) : Type 0 where
   pub long : SlipLong ys
   pub changes-right : ChangesRight counts (changes-in ys)
@@ -136,9 +140,15 @@ pub record SlipRight (counts ys : List ℕ) : Type 0 where
 
 -- A slip that is packed into so much room. 24: over 32 changes. 25 to 27. 30 with 2: under the packed length.
 pub data PackedSlipReason (counts : List ℕ) (ps : List Pair) (room : ℕ) : ℕ → ℕ → Type 0 where
-  too-many : 32 < length ps → PackedSlipReason counts ps room 24 0
-  packed-change : {k j : ℕ} → length ps ≤ 32 → FirstFaulty counts ps k j → PackedSlipReason counts ps room k j
-  packed-slip-room : length ps ≤ 32 → ChangesRight counts ps → room < byte-count (slip-bits (length ps)) → PackedSlipReason counts ps room 30 2
+  too-many : slot-limit < length ps → PackedSlipReason counts ps room 24 0
+  packed-change : {k j : ℕ} → length ps ≤ slot-limit → FirstFaulty counts ps k j → PackedSlipReason counts ps room k j
+  packed-slip-room : length ps ≤ slot-limit → ChangesRight counts ps → room < byte-count (slip-bits (length ps)) → PackedSlipReason counts ps room 30 2
+
+-- None of these: 24, 25 to 27, 30.
+pub record PackedSlipRight (counts : List ℕ) (ps : List Pair) (room : ℕ) : Type 0 where
+  pub few : length ps ≤ slot-limit
+  pub changes-right : ChangesRight counts ps
+  pub enough : byte-count (slip-bits (length ps)) ≤ room
 
 -- 31, a table that is not in order, before other reasons.
 pub data TableReason (t : Table) (Other : ℕ → ℕ → Type 0) : ℕ → ℕ → Type 0 where
@@ -157,15 +167,37 @@ pub record RoomRight (width count : ℕ) (rooms : Rooms) : Type 0 where
   pub for-changes : changes-room ≤ rooms .for-changes
   pub for-fired : byte-count count ≤ rooms .for-fired
 
+-- The rules that the response fires from the card's values and the slip's changes, in the order fired, and the C that they end with.
+abbrev pub fired-by : List Rule → List ℕ → List ℕ → List ℕ
+fired-by rs card slip = response weak rs (values-in card) (changes-in slip)
+
+abbrev pub ends-with : List Rule → List ℕ → List ℕ → Pairs
+ends-with rs card slip = changes rs (changes-in slip) (fired-by rs card slip)
+
 -- A response by rules over slots of so many values each: the card's reasons, the slip's, 30, and 40 with the lowest slot that has two values in C.
 pub data RulesReason (counts : List ℕ) (rs : List Rule) (card slip : List ℕ) (rooms : Rooms) : ℕ → ℕ → Type 0 where
   of-card : {k s : ℕ} → CardReason counts card k s → RulesReason counts rs card slip rooms k s
   of-slip : {k s : ℕ} → CardRight counts card → SlipReason counts slip k s → RulesReason counts rs card slip rooms k s
   of-room : {s : ℕ} → CardRight counts card → SlipRight counts slip → RoomReason (length counts) (length rs) rooms s → RulesReason counts rs card slip rooms 30 s
   conflict : {s : ℕ} → CardRight counts card → SlipRight counts slip → RoomRight (length counts) (length rs) rooms
-      → LowestConflict (changes rs (changes-in slip) (response weak rs (values-in card) (changes-in slip))) s → RulesReason counts rs card slip rooms 40 s
+      → LowestConflict (ends-with rs card slip) s → RulesReason counts rs card slip rooms 40 s
 
--- A response: 32, either tally at 9,999 or above; then the others.
+-- None of these, and the answer: no slot has two values in C, and these are its bytes.
+pub record RulesRight (counts : List ℕ) (rs : List Rule) (card slip : List ℕ) (rooms : Rooms) (a : Answer) : Type 0 where
+  pub card-right : CardRight counts card
+  pub slip-right : SlipRight counts slip
+  pub room-right : RoomRight (length counts) (length rs) rooms
+  pub no-conflict : (s : ℕ) → s < length counts → ¬ InConflict (ends-with rs card slip) s
+  pub answer-is : a ≡ answer-of (length counts) (length rs) (values-in card) (ends-with rs card slip) (fired-by rs card slip)
+
+-- A tally is full: either count at 9,999 or above; or it is not.
+abbrev pub Full : Tally → Type 0
+Full y = (tally-limit ≤ y .answered) ⊎ (tally-limit ≤ y .refused)
+
+abbrev pub NotFull : Tally → Type 0
+NotFull y = (y .answered < tally-limit) × (y .refused < tally-limit)
+
+-- A response: 32, a full tally; then the others.
 pub data ResponseReason (t : Table) (y : Tally) (card slip : List ℕ) (rooms : Rooms) : ℕ → ℕ → Type 0 where
-  full-tally : T (is-full y) → ResponseReason t y card slip rooms 32 0
-  of-table : {k s : ℕ} → is-full y ≡ false → TableReason t (RulesReason (value-counts t) (rules-of t) card slip rooms) k s → ResponseReason t y card slip rooms k s
+  full-tally : Full y → ResponseReason t y card slip rooms 32 0
+  of-table : {k s : ℕ} → NotFull y → TableReason t (RulesReason (value-counts t) (rules-of t) card slip rooms) k s → ResponseReason t y card slip rooms k s

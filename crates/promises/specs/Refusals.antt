@@ -9,7 +9,7 @@ use lib.ListN.{length}
 use Rattle.laws.specs.Answers.{written}
 use Rattle.table.specs.declared.Table.{Table}
 use Rattle.table.specs.Empty.{empty-table}
-use Rattle.table.specs.Link.{value-counts}
+use Rattle.table.specs.Link.{rules-of, value-counts}
 use Rattle.grammar.specs.Files.{File}
 use Rattle.grammar.specs.Meaning.{Is-file}
 use Rattle.grammar.specs.Reading.{parse}
@@ -27,7 +27,7 @@ use Rattle.tally.specs.Counting.{one-answered, one-refused}
 use Rattle.response.specs.Ending.{Answer}
 use Rattle.response.specs.Respond.{Outputs, rooms-of, response-refusal, response-second}
 use Rattle.promises.specs.Returned.{print-told, print-left, card-told, slip-told, card-packing, card-left, slip-packing, slip-left, response-told, response-left, Answers}
-use Rattle.promises.specs.Reasons.{FileReason, PrintReason, ValuesRight, CardReason, CardRight, PackedCardReason, ChangesRight, SlipReason, SlipRight, PackedSlipReason, TableReason, ResponseReason}
+use Rattle.promises.specs.Reasons.{FileReason, PrintReason, CardReason, CardRight, PackedCardReason, PackedCardRight, SlipReason, SlipRight, PackedSlipReason, PackedSlipRight, TableReason, RulesRight, NotFull, ResponseReason}
 
 -- What comes back by its two numbers: 0, 0 and a result; or a refusal with a reason for it, and what goes with a refusal.
 abbrev pub Comes : (ℕ → ℕ → Type 0) → ℕ → ℕ → Type 0 → Type 0 → Type 0
@@ -63,16 +63,17 @@ pub record Demand1 : Type 0 where
   -- A card and a slip that are packed.
   pub card-packed : (t : Table) (c : Card) (out : List ℕ)
       → Comes (TableReason t (PackedCardReason (value-counts t) (card-values c) (length out))) (packing-refusal (card-packing t c out)) (packing-second (card-packing t c out))
-      (Passes t (ValuesRight (value-counts t) (card-values c)) × (packing-length (card-packing t c out) ≡ length (card-bytes (card-values c))) × (card-left t c out ≡ written (card-bytes (card-values c)) out))
+      (Passes t (PackedCardRight (value-counts t) (card-values c) (length out)) × (packing-length (card-packing t c out) ≡ length (card-bytes (card-values c))) × (card-left t c out ≡ written (card-bytes (card-values c)) out))
       ((packing-length (card-packing t c out) ≡ 0) × (card-left t c out ≡ out))
   pub slip-packed : (t : Table) (c : Slip) (out : List ℕ)
       → Comes (TableReason t (PackedSlipReason (value-counts t) (changes-of c) (length out))) (packing-refusal (slip-packing t c out)) (packing-second (slip-packing t c out))
-      (Passes t (ChangesRight (value-counts t) (changes-of c)) × (packing-length (slip-packing t c out) ≡ length (slip-bytes (changes-of c))) × (slip-left t c out ≡ written (slip-bytes (changes-of c)) out))
+      (Passes t (PackedSlipRight (value-counts t) (changes-of c) (length out)) × (packing-length (slip-packing t c out) ≡ length (slip-bytes (changes-of c))) × (slip-left t c out ≡ written (slip-bytes (changes-of c)) out))
       ((packing-length (slip-packing t c out) ≡ 0) × (slip-left t c out ≡ out))
   -- A response, whose three outputs keep their contents after a refusal.
   pub responded : (t : Table) (y : Tally) (card slip : List ℕ) (o : Outputs)
       → Comes (ResponseReason t y card slip (rooms-of (o .card) (o .changes) (o .fired))) (response-refusal (response-told t y card slip o .outcome)) (response-second (response-told t y card slip o .outcome))
-      ((a : Answer) × Answers t y card slip o a × (response-told t y card slip o .tally ≡ one-answered y))
+      ((a : Answer) × NotFull y × Passes t (RulesRight (value-counts t) (rules-of t) card slip (rooms-of (o .card) (o .changes) (o .fired)) a) × Answers t y card slip o a
+      × (response-told t y card slip o .tally ≡ one-answered y))
       ((response-left t y card slip o ≡ o) × TallyRefused (response-refusal (response-told t y card slip o .outcome)) y (response-told t y card slip o .tally))
   -- A name shown: 0; or 31 with an empty part.
   pub slot-shown : (text : List ℕ) (t : Table) (slot : ℕ) → (show-slot text t slot .code ≡ 0) ⊎ (show-slot text t slot ≡ not-shown)

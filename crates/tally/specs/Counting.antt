@@ -2,6 +2,7 @@
 use Prim.Native.Nat.{_+_}
 use mathlib.Core.Bool.{Bool}
 use lib.Dec.{leb}
+use Rattle.laws.specs.Limits.{tally-limit}
 use Rattle.laws.specs.Truth.{_∨ᵇ_}
 use Rattle.tally.specs.declared.Tally.{Tally}
 
@@ -11,7 +12,7 @@ fresh = record { answered = 0; refused = 0 }
 
 -- 32: either tally at 9,999 or above.
 unfoldable pub is-full : Tally → Bool
-is-full y = leb 9999 (y .answered) ∨ᵇ leb 9999 (y .refused)
+is-full y = leb tally-limit (y .answered) ∨ᵇ leb tally-limit (y .refused)
 
 -- One slip more answered, or one more refused.
 abbrev pub one-answered : Tally → Tally

@@ -22,7 +22,7 @@ use Rattle.listing.specs.inner.AnswerLines.{answer-bytes, list-answer}
 use Rattle.listing.proofs.Accepted.{few-slots, few-rules}
 use Rattle.listing.proofs.Answered.{Parts}
 use Rattle.listing.proofs.Bounded.{parts-of, answer-bounded}
-use Rattle.listing.proofs.Told.{Shows, shows, shows-listed, refused-listed}
+use Rattle.listing.proofs.Delivered.{Delivered, delivers, delivered-listed, refused-listed}
 use Rattle.listing.proofs.list_response.Statement.{statement}
 use Rattle.listing.proofs.list_response.Tie as tie
 
@@ -58,11 +58,11 @@ call c = c .before .before .before .before .before .before
 abbrev long : tie.After-outcome → ℕ
 long c = c .outcome .given .0 .0
 
-told : (c : tie.After-outcome) → let p = call c in let g = start p .args in Shows (g .text .now) (g .t) (g .card .now) (g .slip .now) (long c) (p .respond .result .tally) (card-out p) (changes-out p) (fired-out p)
+told : (c : tie.After-outcome) → let p = call c in let g = start p .args in Delivered (g .text .now) (g .t) (g .card .now) (g .slip .now) (long c) (p .respond .result .tally) (card-out p) (changes-out p) (fired-out p)
 told c =
     let p = call c in
     let g = start p .args in
-    shows (g .text .now) (g .t) (g .card .now) (g .slip .now) (p .respond .result) _ _ (card-out p) (changes-out p) (fired-out p) _ _ _ (p .respond .ensures .0) (p .respond .ensures .1) (c .outcome .given .1)
+    delivers (g .text .now) (g .t) (g .card .now) (g .slip .now) (p .respond .result) _ _ (card-out p) (changes-out p) (fired-out p) _ _ _ (p .respond .ensures .0) (p .respond .ensures .1) (c .outcome .given .1)
 
 parts : (c : tie.After-outcome) → let g = start (call c) .args in Parts (g .t .width) (g .t .count) (told c .shown)
 parts c =
@@ -139,7 +139,7 @@ listed c =
     let q = c .before .before .before .before in
     let p = call q in
     let g = start p .args in
-    shows-listed (g .text .now) (g .t) (g .card .now) (g .slip .now) (long q) (c .before .bytes-for .result) (c .bytes-for2 .result) (p .respond .result .tally) (card-out p) (changes-out p) (fired-out p) (told q)
+    delivered-listed (g .text .now) (g .t) (g .card .now) (g .slip .now) (long q) (c .before .bytes-for .result) (c .bytes-for2 .result) (p .respond .result .tally) (card-out p) (changes-out p) (fired-out p) (told q)
     (c .before .bytes-for .ensures ∙ sym (parts q .card-length)) (c .bytes-for2 .ensures ∙ sym (parts q .fired-there))
 
 list-answer-requires : tie.Need-list-answer-requires

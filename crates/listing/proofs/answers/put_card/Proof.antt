@@ -4,8 +4,8 @@ use Prim.Native.Nat.{ℕ}
 use mathlib.Core.List.{List, _++_}
 use borrow.Author.Needs.{needs}
 use Rattle.laws.specs.Quoted.{bytes-from, bytes}
-use Rattle.listing.specs.Printed.{hexadecimal, card-text}
 use Rattle.writing.proofs.Putting.{Left, left-start, left-on, left-room}
+use Rattle.listing.specs.Printed.{hexadecimal, card-text}
 use Rattle.listing.proofs.answers.put_card.Statement.{statement}
 use Rattle.listing.proofs.answers.put_card.Tie as tie
 
@@ -16,50 +16,49 @@ rest-2 s = bytes "\n"
 abbrev rest-1 : tie.Start → List ℕ
 rest-1 s = hexadecimal (s .args .card .now) ++ rest-2 s
 
-all-left : (s : tie.Start) → Left (s .args .out .now) (s .args .at) (card-text (s .args .card .now)) (s .args .out .now) (s .args .at) (bytes "card " ++ rest-1 s)
+-- What is left to put, at first and after each part.
+abbrev LeftAt : tie.Start → List ℕ → ℕ → List ℕ → Type 0
+LeftAt s out k rest = Left (s .args .out .now) (s .args .at) (card-text (s .args .card .now)) out k rest
+
+all-left : (s : tie.Start) → LeftAt s (s .args .out .now) (s .args .at) (bytes "card " ++ rest-1 s)
 unfolding card-text
 all-left s = left-start (s .args .out .now) (s .args .at) (card-text (s .args .card .now)) (s .pre)
+
+abbrev start-1 : tie.After-put → tie.Start
+start-1 c = c .before .before .before .before .before
+
+left-1 : (c : tie.After-put) → LeftAt (start-1 c) (c .put .last .0) (c .put .result) (rest-1 (start-1 c))
+unfolding bytes bytes-from
+left-1 c = left-on (rest-1 (start-1 c)) (all-left (start-1 c)) (c .put .ensures)
+
+abbrev start-2 : tie.After-put-bytes → tie.Start
+start-2 c = start-1 (c .before .before .before .before)
+
+left-2 : (c : tie.After-put-bytes) → LeftAt (start-2 c) (c .put-bytes .last .0) (c .put-bytes .result) (rest-2 (start-2 c))
+unfolding bytes bytes-from
+left-2 c = left-on (rest-2 (start-2 c)) (left-1 (c .before .before .before .before)) (c .put-bytes .ensures)
 
 slice-aggregate-put : tie.Need-slice-aggregate-put
 slice-aggregate-put c = search needs
 
 put-requires : tie.Need-put-requires
 unfolding bytes bytes-from
-put-requires c κs =
-    let s = c .before .before .before .before in
-    left-room (bytes "card ") (rest-1 s) (all-left s)
+put-requires c κs = let s = c .before .before .before .before in left-room (bytes "card ") (rest-1 s) (all-left s)
 
 put-bytes-requires : tie.Need-put-bytes-requires
 unfolding bytes bytes-from
-put-bytes-requires c κs =
-    let p1 = c .before .before .before in
-    let s = p1 .before .before .before .before .before in
-    let l1 = left-on (rest-1 s) (all-left s) (p1 .put .ensures) in
-    left-room (hexadecimal (s .args .card .now)) (rest-2 s) l1
+put-bytes-requires c κs = let p = c .before .before .before in let s = start-1 p in left-room (hexadecimal (s .args .card .now)) (rest-2 s) (left-1 p)
 
 slice-aggregate-put-2 : tie.Need-slice-aggregate-put-2
 slice-aggregate-put-2 c = search needs
 
 put-requires-2 : tie.Need-put-requires-2
 unfolding bytes bytes-from
-put-requires-2 c κs =
-    let p2 = c .before .before .before .before in
-    let p1 = p2 .before .before .before .before in
-    let s = p1 .before .before .before .before .before in
-    let l1 = left-on (rest-1 s) (all-left s) (p1 .put .ensures) in
-    let l2 = left-on (rest-2 s) l1 (p2 .put-bytes .ensures) in
-    l2 .room
+put-requires-2 c κs = let p = c .before .before .before .before in left-2 p .room
 
 returns : tie.Need-returns
 unfolding bytes bytes-from
-returns c =
-    let p3 = c .before .before in
-    let p2 = p3 .before .before .before .before .before in
-    let p1 = p2 .before .before .before .before in
-    let s = p1 .before .before .before .before .before in
-    let l1 = left-on (rest-1 s) (all-left s) (p1 .put .ensures) in
-    let l2 = left-on (rest-2 s) l1 (p2 .put-bytes .ensures) in
-    l2 .on (p3 .put2 .ensures)
+returns c = let p = c .before .before in left-2 (p .before .before .before .before .before) .on (p .put2 .ensures)
 
 same-length : tie.Need-same-length
 same-length c = returns c .same-length

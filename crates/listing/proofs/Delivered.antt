@@ -37,7 +37,7 @@ module _ (text : List ℕ) (t : Table) (card slip : List ℕ) where
   answer = answer-to t fresh card slip program-rooms
 
   -- An answer: its bytes stand at the front of the three outputs.
-  pub record Shows (n : ℕ) (y : Tally) (card-out changes-out fired-out : List ℕ) : Type 0 where
+  pub record Delivered (n : ℕ) (y : Tally) (card-out changes-out fired-out : List ℕ) : Type 0 where
     pub shown : Answer
     pub is-taken : answer ≡ taken shown
     pub length-is : length (shown .changes) ≡ n
@@ -46,10 +46,10 @@ module _ (text : List ℕ) (t : Table) (card slip : List ℕ) where
     pub changes-front : take n changes-out ≡ shown .changes
     pub fired-front : take (length (shown .fired)) fired-out ≡ shown .fired
 
-  pub shows : (r : Response) (n f : ℕ) (x y z first second third : List ℕ) → r ≡ response-to t fresh card slip program-rooms
-      → outputs x y z ≡ outputs-after answer (outputs first second third) → r .outcome ≡ Answered n f → Shows n (r .tally) x y z
+  pub delivers : (r : Response) (n f : ℕ) (x y z first second third : List ℕ) → r ≡ response-to t fresh card slip program-rooms
+      → outputs x y z ≡ outputs-after answer (outputs first second third) → r .outcome ≡ Answered n f → Delivered n (r .tally) x y z
   unfolding response-to outputs-after
-  shows r n f x y z first second third e p o =
+  delivers r n f x y z first second third e p o =
       let w = answered-e answer n f (sym (ap (λ (q : Response). q .outcome) e) ∙ o) in
       let a = w .0 in
       let q : outputs x y z ≡ outputs (written (a .new-card) first) (written (a .changes) second) (written (a .fired) third) = p ∙ ap (λ (u : OrRefused Answer). outputs-after u (outputs first second third)) (w .1) in
@@ -64,10 +64,10 @@ module _ (text : List ℕ) (t : Table) (card slip : List ℕ) where
       }
 
   -- What is listed of it.
-  pub shows-listed : (n k m : ℕ) (y : Tally) (x v z : List ℕ) (S : Shows n y x v z) → k ≡ length (S .shown .new-card) → m ≡ length (S .shown .fired)
+  pub delivered-listed : (n k m : ℕ) (y : Tally) (x v z : List ℕ) (S : Delivered n y x v z) → k ≡ length (S .shown .new-card) → m ≡ length (S .shown .fired)
       → list-answer text t (answer-bytes (take k x) (take n v) (take m z)) y ≡ list-response text t (taken (S .shown))
   unfolding list-response
-  shows-listed n k m y x v z S g h = rw (g, h, S .card-front, S .changes-front, S .fired-front, S .tally-is) refl
+  delivered-listed n k m y x v z S g h = rw (g, h, S .card-front, S .changes-front, S .fired-front, S .tally-is) refl
 
   -- A refusal.
   pub refused-listed : (r : Response) (k s : ℕ) → r ≡ response-to t fresh card slip program-rooms → r .outcome ≡ Refused k s → refusal k s ≡ list-response text t answer
