@@ -108,7 +108,7 @@ unfolding unpacked-slip
 unpacked-sound-slip t ys ps e = is-sound t _ ps e
 
 -- A sound table has at most 32 slots.
-few-slots : (t : Table) → sound t ≡ true → length (value-counts t) ≤ slot-limit
+pub few-slots : (t : Table) → sound t ≡ true → length (value-counts t) ≤ slot-limit
 unfolding value-counts
 few-slots t e =
     let l = length-map (take (t .width) (t .slots)) (λ (s : Slot). s .count) in

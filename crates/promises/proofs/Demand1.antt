@@ -46,6 +46,7 @@ use Rattle.promises.proofs.Refusals.{Only, Other, only-e, by-table-othe
 use Rattle.promises.proofs.Judged.{Judged, card-judged, slip-judged, packed-card-judged, packed-slip-judged}
 use Rattle.promises.proofs.ResponseReasons.{sound-judged, table-judged}
 use Rattle.promises.proofs.Returned.{answers}
+use Rattle.promises.proofs.NameReasons.{slot-name-shown, value-name-shown}
 use Rattle.promises.proofs.Outcomes.{text-comes, file-reason, reason-file, Prints, own-refusal, over, short, all, prints}
 
 -- A rule file.
@@ -123,22 +124,6 @@ module _ (t : Table) (y : Tally) (card slip : List ℕ) (o : Outputs) where
       go true e = full e
       go false e = not-full e (answer-by-table t card slip rooms) refl (rw e refl) (table-judged t card slip rooms)
 
--- A name shown is 0 or 31.
-abbrev ZeroOr31 : Showing → Type 0
-ZeroOr31 s = (s .code ≡ 0) ⊎ (s ≡ not-shown)
-
-shown-if : (b : Bool) (s : Showing) → ZeroOr31 s → ZeroOr31 (cond b s not-shown)
-shown-if true s h = h
-shown-if false s h = inr refl
-
-name-shown : (text : List ℕ) (n : Name) → ZeroOr31 (show-name text n)
-unfolding show-name
-name-shown text n = shown-if (leb (n .start + n .size) (length text)) (record { code = 0; start = n .start; part = take (n .size) (drop (n .start) text) }) (inl refl)
-
-value-of-shown : (text : List ℕ) (s : Slot) (value : ℕ) → ZeroOr31 (show-value-of text s value)
-unfolding show-value-of
-value-of-shown text s value = shown-if (has-value (s .count) value) (show-name text (getD (s .values) (value - 1) zero-name)) (name-shown text _)
-
 -- DEMAND 1.
 pub demand-1 : Demand1
 unfolding unpacked-card unpacked-slip packed-card packed-slip response-to show-slot show-value
@@ -153,6 +138,6 @@ demand-1 = record {
   slip-packed = λ t c out. packed-back _ (Passes t (PackedSlipRight (value-counts t) (changes-of c) (length out))) (slip-bytes (changes-of c)) out (packed-slip t c (length out))
       (by-table t (PackedSlipReason (value-counts t) (changes-of c) (length out)) _ (write-slip (value-counts t) (changes-of c) (length out)) _ (packed-slip-judged (value-counts t) (changes-of c) (length out)));
   responded = response-back;
-  slot-shown = λ text t slot. shown-if (has-slot (t .width) slot) (show-name text (getD (t .slots) slot zero-slot .name)) (name-shown text _);
-  value-shown = λ text t slot value. shown-if (has-slot (t .width) slot) (show-value-of text (getD (t .slots) slot zero-slot) value) (value-of-shown text _ value);
+  slot-shown = slot-name-shown;
+  value-shown = value-name-shown;
 }

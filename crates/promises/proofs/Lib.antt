@@ -13,6 +13,8 @@ pub mod Rearranged
 pub mod Demand3
 pub mod ResponseReasons
 pub mod Returned
+pub mod NameReasons
+pub mod Program
 pub mod Demand1
 pub mod Called
 pub mod Demand2

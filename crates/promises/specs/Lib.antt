@@ -9,3 +9,4 @@ pub mod WeakStrata
 pub mod Called
 pub mod HouseStyle
 pub mod CalledPrint
+pub mod Program

@@ -1,10 +1,10 @@
 -- Why something is refused, by its number and its second number: document 01, 'Refusals by who can cause them'. A reason holds only where none that comes before it does.
-use Prim.Native.Nat.{ℕ, suc, _≤_, _<_}
+use Prim.Native.Nat.{ℕ, suc, _+_, _-_, _≤_, _<_}
 use mathlib.Core.Path.{_≡_}
 use mathlib.Core.List.{List}
 use mathlib.Core.Logic.{_⊎_}
 use lib.Dec.{T}
-use lib.ListN.{length, getD}
+use lib.ListN.{length, getD, take, drop}
 use Rattle.laws.specs.Packed.{byte-count}
 use Rattle.text.specs.Tokens.{tokens}
 use Rattle.model.specs.Rules.{Pair, Pairs, Rule}
@@ -13,14 +13,18 @@ use Rattle.model.specs.Result.{pair}
 use Rattle.model.specs.Strata.{weak}
 use Rattle.model.specs.Circles.{LowestThroughNot}
 use Rattle.model.specs.Response.{response}
+use Rattle.table.specs.declared.Name as stretch
+use Rattle.table.specs.declared.Slot.{Slot}
 use Rattle.table.specs.declared.Table.{Table}
+use Rattle.table.specs.Zero.{zero-name, zero-slot}
 use Rattle.table.specs.Link.{rules-of, value-counts}
-use Rattle.laws.specs.Limits.{text-limit, slot-limit, tally-limit}
+use Rattle.laws.specs.Limits.{text-limit, slot-limit, value-limit, tally-limit}
 use Rattle.grammar.specs.Files.{File}
 use Rattle.grammar.specs.Meaning.{Is-file}
 use Rattle.grammar.specs.Reading.{parse}
 use Rattle.grammar.specs.Refusals.{Stands-at}
 use Rattle.printing.specs.Printing.{print-of}
+use Rattle.names.specs.Names.{Showing}
 use Rattle.soundness.specs.Sound.{sound}
 use Rattle.cards.specs.Forms.{card-bits, slip-bits, count-in, values-in, changes-in, padding}
 use Rattle.tally.specs.declared.Tally.{Tally}
@@ -201,3 +205,32 @@ NotFull y = (y .answered < tally-limit) × (y .refused < tally-limit)
 pub data ResponseReason (t : Table) (y : Tally) (card slip : List ℕ) (rooms : Rooms) : ℕ → ℕ → Type 0 where
   full-tally : Full y → ResponseReason t y card slip rooms 32 0
   of-table : {k s : ℕ} → NotFull y → TableReason t (RulesReason (value-counts t) (rules-of t) card slip rooms) k s → ResponseReason t y card slip rooms k s
+
+-- The table has a slot, a slot has a value; names of them that the table has.
+abbrev pub HasSlot : Table → ℕ → Type 0
+HasSlot t s = (s < slot-limit) × (s < t .width)
+
+abbrev pub HasValue : Slot → ℕ → Type 0
+HasValue s v = (1 ≤ v) × (v ≤ value-limit) × (v ≤ s .count)
+
+abbrev pub slot-at : Table → ℕ → Slot
+slot-at t s = getD (t .slots) s zero-slot
+
+abbrev pub value-name-at : Slot → ℕ → stretch.Name
+value-name-at s v = getD (s .values) (v - 1) zero-name
+
+-- A name is shown as the stretch of the text from its start, as long as its size, which lies inside the text.
+pub record ShownInside (text : List ℕ) (n : stretch.Name) (s : Showing) : Type 0 where
+  pub inside : n .start + n .size ≤ length text
+  pub shown : s ≡ record { code = 0; start = n .start; part = take (n .size) (drop (n .start) text) }
+
+-- 31 for the name of a slot: the table lacks the slot, or puts its name outside the text.
+pub data SlotNameReason (text : List ℕ) (t : Table) (s : ℕ) : Type 0 where
+  lacks-slot : (slot-limit ≤ s) ⊎ (t .width ≤ s) → SlotNameReason text t s
+  slot-outside : HasSlot t s → length text < slot-at t s .name .start + slot-at t s .name .size → SlotNameReason text t s
+
+-- 31 for the name of a value: the table lacks the slot, the slot the value, or the name stands outside the text.
+pub data ValueNameReason (text : List ℕ) (t : Table) (s v : ℕ) : Type 0 where
+  lacks-its-slot : (slot-limit ≤ s) ⊎ (t .width ≤ s) → ValueNameReason text t s v
+  lacks-value : HasSlot t s → (v ≡ 0) ⊎ ((value-limit < v) ⊎ (slot-at t s .count < v)) → ValueNameReason text t s v
+  value-outside : HasSlot t s → HasValue (slot-at t s) v → length text < value-name-at (slot-at t s) v .start + value-name-at (slot-at t s) v .size → ValueNameReason text t s v

@@ -27,7 +27,7 @@ use Rattle.tally.specs.Counting.{one-answered, one-refused}
 use Rattle.response.specs.Ending.{Answer}
 use Rattle.response.specs.Respond.{Outputs, rooms-of, response-refusal, response-second}
 use Rattle.promises.specs.Returned.{print-told, print-left, card-told, slip-told, card-packing, card-left, slip-packing, slip-left, response-told, response-left, Answers}
-use Rattle.promises.specs.Reasons.{FileReason, PrintReason, CardReason, CardRight, PackedCardReason, PackedCardRight, SlipReason, SlipRight, PackedSlipReason, PackedSlipRight, TableReason, RulesRight, NotFull, ResponseReason}
+use Rattle.promises.specs.Reasons.{FileReason, PrintReason, CardReason, CardRight, PackedCardReason, PackedCardRight, SlipReason, SlipRight, PackedSlipReason, PackedSlipRight, TableReason, RulesRight, NotFull, ResponseReason, HasSlot, HasValue, slot-at, value-name-at, ShownInside, SlotNameReason, ValueNameReason}
 
 -- What comes back by its two numbers: 0, 0 and a result; or a refusal with a reason for it, and what goes with a refusal.
 abbrev pub Comes : (ℕ → ℕ → Type 0) → ℕ → ℕ → Type 0 → Type 0 → Type 0
@@ -75,6 +75,7 @@ pub record Demand1 : Type 0 where
       ((a : Answer) × NotFull y × Passes t (RulesRight (value-counts t) (rules-of t) card slip (rooms-of (o .card) (o .changes) (o .fired)) a) × Answers t y card slip o a
       × (response-told t y card slip o .tally ≡ one-answered y))
       ((response-left t y card slip o ≡ o) × TallyRefused (response-refusal (response-told t y card slip o .outcome)) y (response-told t y card slip o .tally))
-  -- A name shown: 0; or 31 with an empty part.
-  pub slot-shown : (text : List ℕ) (t : Table) (slot : ℕ) → (show-slot text t slot .code ≡ 0) ⊎ (show-slot text t slot ≡ not-shown)
-  pub value-shown : (text : List ℕ) (t : Table) (slot value : ℕ) → (show-value text t slot value .code ≡ 0) ⊎ (show-value text t slot value ≡ not-shown)
+  -- A name shown: 0 and its stretch; or 31 for a reason, with an empty part at the beginning of the text.
+  pub slot-shown : (text : List ℕ) (t : Table) (slot : ℕ) → (HasSlot t slot × ShownInside text (slot-at t slot .name) (show-slot text t slot)) ⊎ (SlotNameReason text t slot × (show-slot text t slot ≡ not-shown))
+  pub value-shown : (text : List ℕ) (t : Table) (slot value : ℕ)
+      → (HasSlot t slot × HasValue (slot-at t slot) value × ShownInside text (value-name-at (slot-at t slot) value) (show-value text t slot value)) ⊎ (ValueNameReason text t slot value × (show-value text t slot value ≡ not-shown))
