@@ -1,4 +1,4 @@
--- The beginnings of a rule file: what the tokens before a token have said, and which tokens have the faults 14 to 17 there (document 01, 'Rule text' and 'Refusals'). Nothing here is read.
+-- The beginnings of a rule file: what the tokens before a token have said, and which tokens have the faults 14 to 17 there (document 01, 'Rule text' and 'Refusals'). Nothing here goes by the one-pass reading.
 use Prim.Native.Nat.{ℕ, suc, _≤_, _<_}
 use mathlib.Core.Path.{_≡_}
 use mathlib.Core.Bool.{true, false}

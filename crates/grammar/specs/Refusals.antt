@@ -47,7 +47,7 @@ pub record Completed (ts : List Token) (n : ℕ) : Type 0 where
   pub unended : Free part
   pub count : length rules ≡ n
 
--- The refusal `k` with second number `n` stands at the first of `after`, or at the end where there is none: no token before has a fault, this one has `k` and none of a smaller number, and `n` rules are completed before it. Nothing here is read.
+-- The refusal `k` with second number `n` stands at the first of `after`, or at the end where there is none: no token before has a fault, this one has `k` and none of a smaller number, and `n` rules are completed before it. Nothing here goes by the one-pass reading.
 pub record Stands-at (ts : List Token) (k n : ℕ) : Type 0 where
   pub before : List Token
   pub after : List Token

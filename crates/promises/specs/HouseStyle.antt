@@ -1,5 +1,5 @@
 -- The house style, document 02, section 1: 'We want one printed form .. Reading the print yields the same slots, names, rules and strata. Two accepted files print alike exactly when those agree.
--- After the reading's own refusals it gives 34 when the print would pass 65,535 bytes, then 33 when the output is shorter than the print.' It is said of what the entry points give.
+-- After the reading's own refusals it gives 34 when the print would pass 65,535 bytes, then 33 when the output is shorter than the print.' It is said of the reading and of what is printed, which the contracts of `read` and `print` equal; CalledPrint says it by their numbers.
 use Prim.Native.Nat.{ℕ, _≤_, _<_}
 use mathlib.Core.Path.{_≡_}
 use mathlib.Core.List.{List}
