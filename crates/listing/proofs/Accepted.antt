@@ -27,7 +27,7 @@ use Rattle.rule_file.specs.Whole.{reading}
 use Rattle.rule_file.specs.Carries.{Carries, declared, declared-slot, declared-value}
 use Rattle.rule_file.proofs.Answers.{accepted-table, reading-carries}
 
--- A name that a file declares has at most 24 bytes, and there is none beyond those.
+-- A name that a file declares has at most as many bytes as the limit, and there is none beyond those.
 slot-le : (slots : List Slot) (s : ℕ) → ((i : ℕ) → i < length slots → Well-named (getD slots i no-slot)) → length (declared-slot slots s .part) ≤ name-limit
 slot-le slots s named = go (has-slot (length slots) s) refl
   where

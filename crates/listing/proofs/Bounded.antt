@@ -9,6 +9,8 @@ use mathlib.Core.List.{List, [], _∷_, _++_, map}
 use lib.ListN.{length, length-append}
 use Rattle.laws.specs.Truth.{_∨ᵇ_}
 use Rattle.laws.specs.Quoted.{bytes-from, bytes}
+use Rattle.laws.specs.Limits.{slot-limit}
+use Rattle.laws.specs.Packed.{byte-count}
 use Rattle.laws.specs.Tabulated.{tabulate}
 use Rattle.laws.specs.Answers.{OrRefused, taken, refused}
 use Rattle.model.specs.Rules.{Pair}
@@ -17,7 +19,7 @@ use Rattle.names.specs.Names.{show-slot, show-value}
 use Rattle.reader.specs.declared.Outcome.{Outcome}
 use Rattle.reader.specs.declared.Outcome.the-variants.{Accepted, Refused}
 use Rattle.rule_file.specs.Whole.{reading}
-use Rattle.cards.specs.Forms.{changes-in}
+use Rattle.cards.specs.Forms.{card-bits, changes-in}
 use Rattle.cards.proofs.Taken.{changes-length}
 use Rattle.tally.specs.Counting.{fresh, is-full}
 use Rattle.response.specs.Ending.{Answer}
@@ -71,7 +73,7 @@ module _ (text : List ℕ) (o : reading text .outcome ≡ Accepted) where
   changes-le (p ∷ ps) =
       omega (arith, changes-le ps, change-le p, length-append (change-text (change-line text t p)) (changes-text (map (change-line text t) ps)), suc-mul (length ps) change-text-most)
 
-  card-le : (card : List ℕ) → length card ≤ 17 → length (card-text card) ≤ card-text-most
+  card-le : (card : List ℕ) → length card ≤ byte-count (card-bits slot-limit) → length (card-text card) ≤ card-text-most
   unfolding card-text bytes bytes-from
   card-le card h = omega (arith, h, hex-length card, length-append (hexadecimal card) (bytes "\n"))
 

@@ -32,6 +32,14 @@ pub decimal-more : (n : ℕ) → 10 ≤ n → decimal n ≡ decimal (n / 10) ++ 
 unfolding decimal digits
 decimal-more n h = rw (le-ltb n 10 h) (ap (λ (ys : List ℕ). ys ++ (48 + n % 10) ∷ []) (enough n (suc (n / 10)) (n / 10) (omega arith) (omega arith)))
 
+-- Room for as many digits as a power of ten has is enough below it.
+pub decimal-within : (k n : ℕ) → n < 10 ^ suc k → decimal n ≡ digits (suc k) n
+unfolding digits
+decimal-within zero n h = decimal-one n h ∙ rw (lt-ltb n 10 h) refl
+decimal-within (suc k) n h = ⊎-elim
+    (λ (l : 10 ≤ n). decimal-more n l ∙ rw (le-ltb n 10 l) (ap (λ (ys : List ℕ). ys ++ (48 + n % 10) ∷ []) (decimal-within k (n / 10) (omega arith))))
+    (λ (l : n < 10). decimal-one n l ∙ rw (lt-ltb n 10 l) refl) (le-or-lt 10 n)
+
 -- A number below a power of ten has no more digits than that.
 pub decimal-short : (k n : ℕ) → n < 10 ^ suc k → length (decimal n) ≤ suc k
 decimal-short zero n h = rw (decimal-one n h) (omega arith)

@@ -1,4 +1,6 @@
 pub mod Digits
+pub mod ReadBack
+pub mod Cases
 pub mod RuleLines
 pub mod ChangeLines
 pub mod Placed
@@ -7,3 +9,4 @@ pub mod Answered
 pub mod Small
 pub mod Bounded
 pub mod Delivered
+pub mod Cut

@@ -134,7 +134,7 @@ small-then (taken a) f g h = h a
 small-then (refused k s) f g h = g
 
 -- The count of a card or a slip has six bits.
-count-small : (ys : List ℕ) → count-in ys < 64
+pub count-small : (ys : List ℕ) → count-in ys < 64
 unfolding field-at
 count-small ys = go (length (take 6 (drop 0 (byte-bits ys)))) (omega (arith, length-take 6 (drop 0 (byte-bits ys)))) (number-lt (take 6 (drop 0 (byte-bits ys))))
   where

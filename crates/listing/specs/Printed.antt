@@ -1,12 +1,14 @@
 -- Document 01, 'The program': the bytes of a listing. Fields stand one space apart, and byte 10 ends each line.
-use Prim.Native.Nat.{ℕ, zero, suc, _+_, _*_, _/_, _%_}
+use Prim.Native.Nat.{ℕ, zero, suc, _+_, _-_, _*_, _^_, _/_, _%_}
 use mathlib.Core.Bool.{Bool, true, false, cond}
 use mathlib.Core.List.{List, [], _∷_, _++_}
 use lib.Dec.{ltb}
 use lib.ListN.{length}
 use Rattle.laws.specs.Quoted.{bytes}
 use Rattle.laws.specs.Answers.{written}
-use Rattle.laws.specs.Limits.{slot-limit, rule-limit}
+use Rattle.laws.specs.Limits.{name-limit, slot-limit, rule-limit}
+use Rattle.laws.specs.Packed.{byte-count}
+use Rattle.cards.specs.Forms.{card-bits}
 use Rattle.tally.specs.declared.Tally.{Tally}
 use Rattle.listing.specs.Listing.{RuleLine, ChangeLine, Listing, listed, refusal}
 
@@ -18,6 +20,11 @@ digits (suc most) n = cond (ltb n 10) [] (digits most (n / 10)) ++ (48 + n % 10)
 -- A number in decimal, without leading zeros.
 unfoldable pub decimal : ℕ → List ℕ
 decimal n = digits (suc n) n
+
+-- The number that decimal digits stand for, each ten times that of the next (`decimal-back`).
+unfoldable pub decimal-number : List ℕ → ℕ
+decimal-number [] = 0
+decimal-number (d ∷ ds) = (d - 48) * 10 ^ length ds + decimal-number ds
 
 -- A hexadecimal digit, a capital where it is a letter.
 abbrev pub hex-digit : ℕ → ℕ
@@ -31,6 +38,15 @@ hex-digits b = hex-digit (b / 16) ∷ hex-digit (b % 16) ∷ []
 unfoldable pub hexadecimal : List ℕ → List ℕ
 hexadecimal [] = []
 hexadecimal (b ∷ bs) = hex-digits b ++ hexadecimal bs
+
+-- The number that a hexadecimal digit stands for, and the bytes that hexadecimal digits stand for, two for each (`hexadecimal-back`).
+abbrev pub hex-number : ℕ → ℕ
+hex-number d = cond (ltb d 65) (d - 48) (d - 55)
+
+unfoldable pub hexadecimal-bytes : List ℕ → List ℕ
+hexadecimal-bytes [] = []
+hexadecimal-bytes (d ∷ []) = []
+hexadecimal-bytes (d ∷ e ∷ ds) = (16 * hex-number d + hex-number e) ∷ hexadecimal-bytes ds
 
 -- The end of the line of a rule that fired, and of one that did not.
 unfoldable pub fired-word : Bool → List ℕ
@@ -72,10 +88,10 @@ abbrev pub rule-text-most : ℕ
 rule-text-most = 27
 
 abbrev pub change-text-most : ℕ
-change-text-most = 57
+change-text-most = 9 + 2 * name-limit
 
 abbrev pub card-text-most : ℕ
-card-text-most = 40
+card-text-most = 6 + 2 * byte-count (card-bits slot-limit)
 
 abbrev pub tally-text-most : ℕ
 tally-text-most = 10

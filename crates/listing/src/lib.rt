@@ -14,6 +14,9 @@ ghost use Rattle.listing.specs.inner.AnswerLines.{answer-bytes, list-ans
 use answers::put_answer;
 use answers::put_refusal;
 use cards::fields::bytes_for;
+use reader::TEXT_LIMIT;
+use table::RULES;
+use table::SLOTS;
 use table::Table;
 use tally::Tally;
 
@@ -23,14 +26,21 @@ pub mod numbers;
 pub mod rules;
 
 // The most bytes that the program prints of any rule text, card and slip.
-pub const PAGE: usize = 8759;
+pub const PAGE: usize = RULES * 27 + SLOTS * 57 + (6 + 2 * CARD) + 10;
 
-// Room for every new card, for all changes and for every fired record: 32 slots, 32 changes, 255 rules.
-const CARD: usize = 17;
+// Room for every new card, for all changes and for every fired record: as many slots, changes and rules as a file may have.
+const CARD: usize = (6 + 4 * SLOTS + 7) / 8;
 
-const CHANGES: usize = 37;
+const CHANGES: usize = (6 + 9 * SLOTS + 7) / 8;
 
-const RECORD: usize = 32;
+const RECORD: usize = (RULES + 7) / 8;
+
+// What the program reads of its three files: a byte more than a text may have, and a byte more than a card and a slip of the highest count that six bits hold.
+pub const TEXT_ROOM: usize = TEXT_LIMIT + 1;
+
+pub const CARD_ROOM: usize = (6 + 4 * 63 + 7) / 8 + 1;
+
+pub const SLIP_ROOM: usize = (6 + 9 * 63 + 7) / 8 + 1;
 
 // Lists a refusal: counted first, with no room to write, then written where the output has room.
 fn list_refusal(number: u8, second: usize, out: &mut [u8]) -> usize

@@ -1,16 +1,14 @@
 // What the program does, over the names of its three files.
 ghost use mathlib.Core.Path.{_≡_};
 ghost use lib.ListN.{length};
+ghost use Rattle.io.specs.Counts.{Counts};
+ghost use Rattle.listing.specs.Listing.{text-room, card-room, slip-room};
 ghost use Rattle.listing.specs.Printed.{page};
 use libc::STDOUT_FILENO;
+use listing::CARD_ROOM;
 use listing::PAGE;
-
-// Room for a rule text and one byte more, and for a card and a slip that count 63 and a byte more: what fills it is too long, and the listing refuses it.
-const TEXT: usize = 65536;
-
-const CARD: usize = 64;
-
-const SLIP: usize = 128;
+use listing::SLIP_ROOM;
+use listing::TEXT_ROOM;
 
 // The line of a file that cannot be opened or read.
 fn write_unread(name: &[u8]) {
@@ -19,13 +17,43 @@ fn write_unread(name: &[u8]) {
     io::write_all(STDOUT_FILENO, b"\n");
 }
 
-// Whether a file of which so many bytes were read is read: they fill the room, or the next read finds its end and does not fail.
-fn is_read(file: i32, read: usize, room: usize) -> bool {
-    if room <= read {
-        return true;
+// Reads a file until it ends or the room is full, and says how many bytes of it stand in the room; at the first read that fails it stops and tells so.
+fn read_file(file: i32, room: &mut [u8], failed: &mut bool) -> usize
+    ensures { λ r. ⌜ Counts r (now (room .exit)) ⌝ }
+{
+    let mut done: usize = 0;
+    while done < room.len() {
+        let got = libc::read(file, &mut room[done..]);
+        if got < 0 {
+            *failed = true;
+            return done;
+        }
+        let more = io::count(got, &room[done..]);
+        if more == 0 {
+            return done;
+        }
+        done += more;
     }
-    let mut next = [0u8; 1];
-    libc::read(file, &mut next) == 0
+    done
+}
+
+// Room for what is read of a text, of a card and of a slip: `listing-cut`.
+fn blank_text() -> [u8; TEXT_ROOM]
+    ensures { λ r. ⌜ text-room ≡ length r ⌝ }
+{
+    [0; TEXT_ROOM]
+}
+
+fn blank_card() -> [u8; CARD_ROOM]
+    ensures { λ r. ⌜ card-room ≡ length r ⌝ }
+{
+    [0; CARD_ROOM]
+}
+
+fn blank_slip() -> [u8; SLIP_ROOM]
+    ensures { λ r. ⌜ slip-room ≡ length r ⌝ }
+{
+    [0; SLIP_ROOM]
 }
 
 // Zeros, as many as the longest listing has bytes.
@@ -42,29 +70,29 @@ fn write_listing(text: &[u8], card: &[u8], slip: &[u8]) {
     io::write_all(STDOUT_FILENO, &out[..n]);
 }
 
-// Reads the three open files whole; the first that cannot be read, in this order, is named and nothing else is written.
+// Reads the three open files, each until it ends or fills its room; the first that cannot be read, in this order, is named and nothing else is written.
 fn run(rules: i32, card: i32, slip: i32, rules_name: &[u8], card_name: &[u8], slip_name: &[u8]) {
-    let mut text = io::large_buffer();
-    let n = io::read_full(rules, &mut text);
-    let rules_read = is_read(rules, n, TEXT);
+    let mut rules_failed = false;
+    let mut card_failed = false;
+    let mut slip_failed = false;
+    let mut text = blank_text();
+    let n = read_file(rules, &mut text, &mut rules_failed);
     libc::close(rules);
-    let mut c = [0u8; CARD];
-    let m = io::read_full(card, &mut c);
-    let card_read = is_read(card, m, CARD);
+    let mut c = blank_card();
+    let m = read_file(card, &mut c, &mut card_failed);
     libc::close(card);
-    let mut s = [0u8; SLIP];
-    let k = io::read_full(slip, &mut s);
-    let slip_read = is_read(slip, k, SLIP);
+    let mut s = blank_slip();
+    let k = read_file(slip, &mut s, &mut slip_failed);
     libc::close(slip);
-    if !rules_read {
+    if rules_failed {
         write_unread(rules_name);
         return;
     }
-    if !card_read {
+    if card_failed {
         write_unread(card_name);
         return;
     }
-    if !slip_read {
+    if slip_failed {
         write_unread(slip_name);
         return;
     }
