@@ -1,13 +1,11 @@
 -- Numbers, bytes and lines as they are printed, by evaluation.
 -- Assumes nothing.
-use Prim.Native.Nat.{ℕ}
 use native.Mathlib.Omega.{arith}
 use mathlib.Core.Path.{_≡_, refl}
 use mathlib.Core.Bool.{true, false}
-use mathlib.Core.List.{List, [], _∷_, _++_, map}
+use mathlib.Core.List.{[], _∷_, map}
 use Rattle.laws.specs.Quoted.{bytes-from, bytes}
-use Rattle.tally.specs.declared.Tally.{Tally}
-use Rattle.listing.specs.Listing.{RuleLine, ChangeLine, Listing, listed, refusal}
+use Rattle.listing.specs.Listing.{listed, refusal}
 use Rattle.listing.specs.Printed.{digits, decimal, decimal-number, hexadecimal, hexadecimal-bytes, fired-word, rule-text, rules-text, change-text, changes-text, card-text, tally-text, refusal-text, printed}
 use Rattle.listing.proofs.Digits.{decimal-within}
 

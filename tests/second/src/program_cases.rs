@@ -142,6 +142,32 @@ fn circles() -> Vec<Case> {
     ]
 }
 
+/// As much as a file may have, in names of 24 bytes: 32 slots that all change, half by the slip and half by rules that wait for each other; and of 255 rules the last 192 as a chain under NOT, the highest stratum first, that never begins.
+fn full() -> Case {
+    let name = |kind: char, at: usize| format!("{kind}{at:023}");
+    let pair = |slot: usize, sign: &str, value: usize| format!("{} {sign} {}", name('s', slot), name('v', value));
+    let values = (1..=9).map(|value| name('v', value)).collect::<Vec<_>>().join(",");
+    let slots = (0..32).map(|slot| format!("SLOT {} {{{values}}};\n", name('s', slot)));
+    let link = |at: usize, sign: &str| pair(at % 32, sign, 3 + at / 32);
+    let waiting = |at: usize| {
+        let (before, after) = (pair(15 + at % 16, "*=", 2), pair(16 + at % 16, ":=", 2));
+        format!("WHEN {before} IF NOT {} THEN {after};\n", link(191, "*="))
+    };
+    let chained = |at: usize| {
+        let condition = if at == 0 { "TRUE".to_string() } else { format!("NOT {}", link(at - 1, "*=")) };
+        format!("WHEN {} IF {condition} THEN {};\n", pair(0, "*=", 9), link(at, ":="))
+    };
+    let text: String = slots.chain((0..63).map(waiting)).chain((0..192).rev().map(chained)).collect();
+    let changes: Vec<(u8, u8)> = (0..16).map(|slot| (slot, 2)).collect();
+    case(&text, &card_bytes(&[1; 32]), &slip_bytes(&changes))
+}
+
+/// A card of 32 slots, the longest that is answered, and one rule.
+fn wide() -> Case {
+    let slots: String = (0..32).map(|slot| format!("SLOT s{slot} {{a,b}};\n")).collect();
+    case(&format!("{slots}WHEN s31 *= b IF s0 |= a THEN s15 := b;"), &card_bytes(&[1; 32]), &slip_bytes(&[(31, 2)]))
+}
+
 /// All stored cases.
 pub fn cases() -> Vec<Case> {
     let mut cases = lettered();
@@ -151,6 +177,7 @@ pub fn cases() -> Vec<Case> {
     cases.push(dialect());
     cases.extend(circles());
     cases.extend(folders());
+    cases.extend([full(), wide()]);
     cases
 }
 

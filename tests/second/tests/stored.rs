@@ -56,7 +56,7 @@ fn stored_cases_of_the_program_are_as_stored() {
         for (name, kept) in program_cases::files(case) {
             let place = stored.join(program_cases::folder(at)).join(name);
             let same = match kept {
-                Kept::Bytes(bytes) => fs::read(place).is_ok_and(|found| found == bytes),
+                Kept::Bytes(bytes) => fs::read(place).ok() == Some(bytes),
                 Kept::Nothing => !place.exists(),
                 Kept::Folder => place.is_dir(),
             };
