@@ -19,8 +19,6 @@ use Rattle.table.specs.declared.Table.{Table}
 use Rattle.table.specs.Empty.{empty-table}
 use Rattle.table.specs.Zero.{zero-slot, zero-name}
 use Rattle.table.specs.Link.{rules-of, value-counts}
-use Rattle.grammar.specs.Files.{File}
-use Rattle.grammar.specs.Meaning.{Is-file}
 use Rattle.grammar.specs.Reading.{parse}
 use Rattle.names.specs.Names.{Showing, not-shown, has-slot, has-value, show-name, show-slot, show-value-of, show-value}
 use Rattle.soundness.specs.Sound.{sound}
@@ -40,7 +38,7 @@ use Rattle.tally.proofs.TallyLaws.{room-left}
 use Rattle.response.specs.Ending.{Answer}
 use Rattle.response.specs.Respond.{Rooms, Outputs, rooms-of, response-refusal, response-second, outcome-of, answer-by-table, answer-to, counted, tally-after, response-to, outputs-after}
 use Rattle.promises.specs.Returned.{print-told, print-left, response-told, response-left, Answers}
-use Rattle.promises.specs.Reasons.{FileReason, PrintReason, own, print-over, print-room, CardReason, CardRight, PackedCardReason, PackedCardRight, SlipReason, SlipRight, PackedSlipReason, PackedSlipRight, TableReason, RulesReason, RulesRight, Full, NotFull, ResponseReason, full-tally, of-table}
+use Rattle.promises.specs.Reasons.{FileReason, FileRight, PrintReason, PrintRight, own, print-over, print-room, CardReason, CardRight, PackedCardReason, PackedCardRight, SlipReason, SlipRight, PackedSlipReason, PackedSlipRight, TableReason, RulesReason, RulesRight, Full, NotFull, ResponseReason, full-tally, of-table}
 use Rattle.promises.specs.Refusals.{Comes, Passes, TallyRefused, Demand1}
 use Rattle.promises.proofs.Refusals.{Only, Other, only-e, by-table-other}
 use Rattle.promises.proofs.Judged.{Judged, card-judged, slip-judged, packed-card-judged, packed-slip-judged}
@@ -50,20 +48,20 @@ use Rattle.promises.proofs.NameReasons.{slot-name-shown, value-name-sho
 use Rattle.promises.proofs.Outcomes.{text-comes, file-reason, reason-file, Prints, own-refusal, over, short, all, prints}
 
 -- A rule file.
-file-back : (text : List ℕ) → Comes (FileReason text) (reading-refusal (reading text .outcome)) (reading-second (reading text .outcome)) ((f : File) × Is-file text f) (reading text .table ≡ empty-table)
+file-back : (text : List ℕ) → Comes (FileReason text) (reading-refusal (reading text .outcome)) (reading-second (reading text .outcome)) (FileRight text) (reading text .table ≡ empty-table)
 file-back text =
-    ⊎-elim (λ o. let w = reading-accepted-iff text .1 o in inl (ap reading-refusal o, ap reading-second o, (w .0, w .1)))
+    ⊎-elim (λ o. let w = reading-accepted-iff text .1 o in inl (ap reading-refusal o, ap reading-second o, record { file = w .0; is-file = w .1; strata = w .2 .0; are-strata = w .2 .1 }))
     (λ w. let o = ap (λ (r : FileRead). r .outcome) (w .3) in
     inr (subst (λ (x : Outcome). FileReason text (reading-refusal x) (reading-second x)) (sym o) (file-reason text (w .0) (w .1) o), ap (λ (r : FileRead). r .table) (w .3))) (text-comes text)
 
 -- A print.
 print-back : (text out : List ℕ) (u : OrRefused (List ℕ)) → Prints text (length out) u → Comes (PrintReason text (length out)) (printing-refusal (printing-of u)) (printing-second (printing-of u))
-    ((printing-length (printing-of u) ≡ length (print-of (parse text))) × (output-of u out ≡ written (print-of (parse text)) out)) ((printing-length (printing-of u) ≡ 0) × (output-of u out ≡ out))
+    (PrintRight text (length out) × (printing-length (printing-of u) ≡ length (print-of (parse text))) × (output-of u out ≡ written (print-of (parse text)) out)) ((printing-length (printing-of u) ≡ 0) × (output-of u out ≡ out))
 unfolding printing-of output-of
 print-back text out u (own-refusal {k = k} {n = n} h o) = inr (own (file-reason text k n o), (refl, refl))
 print-back text out u (over o l) = inr (print-over (ap reading-refusal o) l, (refl, refl))
 print-back text out u (short o l s) = inr (print-room (ap reading-refusal o) l s, (refl, refl))
-print-back text out u (all o l s) = inl (refl, refl, (refl, refl))
+print-back text out u (all o l s) = inl (refl, refl, (record { accepted = ap reading-refusal o; within = l; enough = s }, refl, refl))
 
 -- Bytes unpacked, and forms packed.
 card-back : (R : ℕ → ℕ → Type 0) (P : Type 0) (vs : List ℕ) (u : OrRefused (List ℕ)) → Judged R (λ ws. P × (ws ≡ vs)) u → Comes R (unpacking-refusal (card-read u .outcome)) (unpacking-second (card-read u .outcome)) (P × (card-read u .card ≡ card-of vs)) (card-read u .card ≡ no-card)

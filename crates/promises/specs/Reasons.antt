@@ -10,7 +10,7 @@ use Rattle.text.specs.Tokens.{tokens}
 use Rattle.model.specs.Rules.{Pair, Pairs, Rule}
 use Rattle.model.specs.Orders.{changes}
 use Rattle.model.specs.Result.{pair}
-use Rattle.model.specs.Strata.{weak}
+use Rattle.model.specs.Strata.{weak, Strata}
 use Rattle.model.specs.Circles.{LowestThroughNot}
 use Rattle.model.specs.Response.{response}
 use Rattle.table.specs.declared.Name as stretch
@@ -39,11 +39,24 @@ pub data FileReason (text : List ℕ) : ℕ → ℕ → Type 0 where
   at-token : {k n : ℕ} → length text ≤ text-limit → Stands-at (tokens text) k n → FileReason text k n
   no-strata : {f : File} {n : ℕ} → Is-file text f → LowestThroughNot (f .rules) n → FileReason text 18 n
 
+-- None of these: the text is a file, and its rules have strata.
+pub record FileRight (text : List ℕ) : Type 0 where
+  pub file : File
+  pub is-file : Is-file text file
+  pub strata : ℕ → ℕ
+  pub are-strata : Strata weak (file .rules) strata
+
 -- A print: the reading's own; then 34, its length; 33, an output that is shorter.
 pub data PrintReason (text : List ℕ) (room : ℕ) : ℕ → ℕ → Type 0 where
   own : {k n : ℕ} → FileReason text k n → PrintReason text room k n
   print-over : IsAccepted text → text-limit < length (print-of (parse text)) → PrintReason text room 34 0
   print-room : IsAccepted text → length (print-of (parse text)) ≤ text-limit → room < length (print-of (parse text)) → PrintReason text room 33 0
+
+-- None of these.
+pub record PrintRight (text : List ℕ) (room : ℕ) : Type 0 where
+  pub accepted : IsAccepted text
+  pub within : length (print-of (parse text)) ≤ text-limit
+  pub enough : length (print-of (parse text)) ≤ room
 
 -- The first slot whose value is above its last.
 pub record FirstAbove (counts vs : List ℕ) (s : ℕ) : Type 0 where

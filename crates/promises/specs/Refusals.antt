@@ -10,8 +10,6 @@ use Rattle.laws.specs.Answers.{written}
 use Rattle.table.specs.declared.Table.{Table}
 use Rattle.table.specs.Empty.{empty-table}
 use Rattle.table.specs.Link.{rules-of, value-counts}
-use Rattle.grammar.specs.Files.{File}
-use Rattle.grammar.specs.Meaning.{Is-file}
 use Rattle.grammar.specs.Reading.{parse}
 use Rattle.names.specs.Names.{not-shown, show-slot, show-value}
 use Rattle.soundness.specs.Sound.{sound}
@@ -27,7 +25,7 @@ use Rattle.tally.specs.Counting.{one-answered, one-refused}
 use Rattle.response.specs.Ending.{Answer}
 use Rattle.response.specs.Respond.{Outputs, rooms-of, response-refusal, response-second}
 use Rattle.promises.specs.Returned.{print-told, print-left, card-told, slip-told, card-packing, card-left, slip-packing, slip-left, response-told, response-left, Answers}
-use Rattle.promises.specs.Reasons.{FileReason, PrintReason, CardReason, CardRight, PackedCardReason, PackedCardRight, SlipReason, SlipRight, PackedSlipReason, PackedSlipRight, TableReason, RulesRight, NotFull, ResponseReason, HasSlot, HasValue, slot-at, value-name-at, ShownInside, SlotNameReason, ValueNameReason}
+use Rattle.promises.specs.Reasons.{FileReason, FileRight, PrintReason, PrintRight, CardReason, CardRight, PackedCardReason, PackedCardRight, SlipReason, SlipRight, PackedSlipReason, PackedSlipRight, TableReason, RulesRight, NotFull, ResponseReason, HasSlot, HasValue, slot-at, value-name-at, ShownInside, SlotNameReason, ValueNameReason}
 
 -- What comes back by its two numbers: 0, 0 and a result; or a refusal with a reason for it, and what goes with a refusal.
 abbrev pub Comes : (ℕ → ℕ → Type 0) → ℕ → ℕ → Type 0 → Type 0 → Type 0
@@ -46,12 +44,12 @@ pub record TallyRefused (k : ℕ) (before after : Tally) : Type 0 where
 pub record Demand1 : Type 0 where
   -- A rule file; after a refusal the table is the one without slots or rules.
   pub rule-file : (text : List ℕ) → Comes (FileReason text) (reading-refusal (reading text .outcome)) (reading-second (reading text .outcome))
-      ((f : File) × Is-file text f) (reading text .table ≡ empty-table)
+      (FileRight text) (reading text .table ≡ empty-table)
   -- It is refused so exactly where the reason holds.
   pub file-exactly : (text : List ℕ) (k n : ℕ) → FileReason text k n → (reading-refusal (reading text .outcome) ≡ k) × (reading-second (reading text .outcome) ≡ n)
   -- A rule file that is printed.
   pub file-printed : (text out : List ℕ) → Comes (PrintReason text (length out)) (printing-refusal (print-told text out)) (printing-second (print-told text out))
-      ((printing-length (print-told text out) ≡ length (print-of (parse text))) × (print-left text out ≡ written (print-of (parse text)) out))
+      (PrintRight text (length out) × (printing-length (print-told text out) ≡ length (print-of (parse text))) × (print-left text out ≡ written (print-of (parse text)) out))
       ((printing-length (print-told text out) ≡ 0) × (print-left text out ≡ out))
   -- Bytes unpacked as a card and as a slip; after a refusal the form has no slots or changes.
   pub card-unpacked : (t : Table) (ys : List ℕ)
