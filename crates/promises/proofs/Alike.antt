@@ -7,8 +7,6 @@ use mathlib.Core.Bool.{Bool, true, false, cond}
 use mathlib.Core.List.{List, [], _∷_, map, head-eq-of-cons-eq, tail-eq-of-cons-eq}
 use lib.ListN.{length, getD, length-map, List·getD-map}
 use lib.Seq.{ext-getD}
-use borrow.Author.Tests.{lt-ltb, le-leb}
-use Rattle.laws.specs.Truth.{_∧ᵇ_}
 use Rattle.text.specs.Tokens.{Name}
 use Rattle.model.specs.Rules.{Rule}
 use Rattle.model.specs.Strata.{weak}

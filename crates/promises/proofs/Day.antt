@@ -5,12 +5,10 @@ use native.Mathlib.Omega.{arith}
 use mathlib.Core.Path.{_≡_, refl, ap, ap₂, _∙_}
 use mathlib.Core.Bool.{Bool, true, false, cond}
 use mathlib.Core.List.{List, [], _∷_, _++_}
-use mathlib.Core.Logic.{⊎-elim}
-use lib.Dec.{eqb, leb, le→leb}
+use lib.Dec.{eqb}
 use lib.ListN.{length}
 use borrow.Author.Tests.{ne-eqb, lt-leb}
 use Rattle.laws.specs.Truth.{_∨ᵇ_}
-use Rattle.laws.proofs.Truth.{le-or-lt, or-l, or-r}
 use Rattle.laws.specs.Limits.{tally-limit}
 use Rattle.laws.specs.Answers.{OrRefused, taken, refused}
 use Rattle.tally.specs.declared.Tally.{Tally}

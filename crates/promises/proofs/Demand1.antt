@@ -1,26 +1,22 @@
 -- Demand 1: every result or one refusal, with its second number and its reason, and what a refusal keeps.
 -- Assumes nothing.
-use Prim.Native.Nat.{ℕ, _+_, _-_}
-use native.Mathlib.Omega.{arith}
-use mathlib.Core.Path.{_≡_, refl, sym, ap, subst, _∙_}
+use Prim.Native.Nat.{ℕ}
+use mathlib.Core.Path.{_≡_, refl, sym, ap, subst}
 use mathlib.Core.Bool.{Bool, true, false, cond}
 use mathlib.Core.List.{List}
-use mathlib.Core.Logic.{_⊎_, inl, inr, ⊎-elim}
+use mathlib.Core.Logic.{inl, inr, ⊎-elim}
 use lib.Dec.{T, leb, leb→le}
-use lib.ListN.{length, getD, take, drop}
+use lib.ListN.{length}
 use Rattle.laws.specs.Answers.{OrRefused, taken, refused, written, output-of}
 use Rattle.laws.specs.Limits.{tally-limit}
 use Rattle.laws.proofs.Equations.{from-true}
 use Rattle.laws.proofs.Truth.{or-e}
 use Rattle.model.specs.Rules.{Pair}
-use Rattle.table.specs.declared.Name.{Name}
-use Rattle.table.specs.declared.Slot.{Slot}
 use Rattle.table.specs.declared.Table.{Table}
 use Rattle.table.specs.Empty.{empty-table}
-use Rattle.table.specs.Zero.{zero-slot, zero-name}
 use Rattle.table.specs.Link.{rules-of, value-counts}
 use Rattle.grammar.specs.Reading.{parse}
-use Rattle.names.specs.Names.{Showing, not-shown, has-slot, has-value, show-name, show-slot, show-value-of, show-value}
+use Rattle.names.specs.Names.{show-slot, show-value}
 use Rattle.soundness.specs.Sound.{sound}
 use Rattle.reader.specs.declared.Outcome.{Outcome}
 use Rattle.reader.specs.declared.FileRead.{FileRead}
@@ -28,19 +24,17 @@ use Rattle.reader.specs.Tables.{reading-refusal, reading-second}
 use Rattle.rule_file.specs.Whole.{reading}
 use Rattle.rule_file.proofs.Answers.{reading-accepted-iff}
 use Rattle.printing.specs.Printing.{print-of, print-into, printing-of, printing-refusal, printing-second, printing-length}
-use Rattle.cards.specs.declared.Card.{Card}
-use Rattle.cards.specs.declared.Slip.{Slip}
 use Rattle.cards.specs.Forms.{values-in, changes-in, card-bytes, slip-bytes, read-card, read-slip, write-card, write-slip}
 use Rattle.cards.specs.Cards.{card-values, changes-of, card-of, slip-of, no-card, no-slip, if-sound, unpacked-card, unpacked-slip, packed-card, packed-slip, card-read, slip-read, packing-of, unpacking-refusal, unpacking-second, packing-refusal, packing-second, packing-length}
 use Rattle.tally.specs.declared.Tally.{Tally}
-use Rattle.tally.specs.Counting.{is-full, one-answered, one-refused}
+use Rattle.tally.specs.Counting.{is-full, one-answered}
 use Rattle.tally.proofs.TallyLaws.{room-left}
 use Rattle.response.specs.Ending.{Answer}
 use Rattle.response.specs.Respond.{Rooms, Outputs, rooms-of, response-refusal, response-second, outcome-of, answer-by-table, answer-to, counted, tally-after, response-to, outputs-after}
-use Rattle.promises.specs.Returned.{print-told, print-left, response-told, response-left, Answers}
+use Rattle.promises.specs.Returned.{Answers}
 use Rattle.promises.specs.Reasons.{FileReason, FileRight, PrintReason, PrintRight, own, print-over, print-room, CardReason, CardRight, PackedCardReason, PackedCardRight, SlipReason, SlipRight, PackedSlipReason, PackedSlipRight, TableReason, RulesReason, RulesRight, Full, NotFull, ResponseReason, full-tally, of-table}
 use Rattle.promises.specs.Refusals.{Comes, Passes, TallyRefused, Demand1}
-use Rattle.promises.proofs.Refusals.{Only, Other, only-e, by-table-other}
+use Rattle.promises.proofs.Refusals.{Other, only-e, by-table-other}
 use Rattle.promises.proofs.Judged.{Judged, card-judged, slip-judged, packed-card-judged, packed-slip-judged}
 use Rattle.promises.proofs.ResponseReasons.{sound-judged, table-judged}
 use Rattle.promises.proofs.Returned.{answers}

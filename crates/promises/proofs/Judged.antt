@@ -2,7 +2,7 @@
 -- Assumes nothing.
 use Prim.Native.Nat.{ℕ, zero, suc, _+_, _≤_, _<_}
 use native.Mathlib.Omega.{arith}
-use mathlib.Core.Path.{_≡_, refl, sym, ap, subst, _∙_}
+use mathlib.Core.Path.{_≡_, refl, sym, ap, subst}
 use mathlib.Core.Bool.{Bool, true, false, cond}
 use mathlib.Core.List.{List}
 use mathlib.Core.Logic.{_⊎_, inl, inr, ⊎-elim}
@@ -16,7 +16,7 @@ use Rattle.laws.proofs.Truth.{le-or-lt}
 use Rattle.model.specs.Rules.{Pair}
 use Rattle.cards.specs.Forms.{card-bits, slip-bits, count-in, values-in, changes-in, padding, values-test, card-test, change-fault, slip-test, card-bytes, slip-bytes, read-card, read-slip, write-card, write-slip}
 use Rattle.cards.proofs.Tested.{ValuesLeft, values-start, values-next, values-fault, values-end, other-count, same-count, no-pair, ChangesLeft, changes-start, changes-next, changes-fault, changes-end, fault-25, fault-26, fault-27, fault-high, no-fault}
-use Rattle.promises.specs.Reasons.{FirstAbove, ValuesReason, another-count, value-above, ValuesRight, CardReason, card-length, values-refused, card-padding, CardRight, PackedCardReason, packed-values, packed-card-room, PackedCardRight, slot-of, value-of, Rises, slot-lacking, not-rising, value-lacking, ChangeFault, ChangeRight, FirstFaulty, ChangesRight, SlipReason, slip-length, slip-change, slip-padding, SlipRight, PackedSlipReason, too-many, packed-change, packed-slip-room, PackedSlipRight}
+use Rattle.promises.specs.Reasons.{ValuesReason, another-count, value-above, ValuesRight, CardReason, card-length, values-refused, card-padding, CardRight, PackedCardReason, packed-values, packed-card-room, PackedCardRight, slot-of, value-of, Rises, slot-lacking, not-rising, value-lacking, ChangeFault, ChangeRight, FirstFaulty, ChangesRight, SlipReason, slip-length, slip-change, slip-padding, SlipRight, PackedSlipReason, too-many, packed-change, packed-slip-room, PackedSlipRight}
 
 -- What is taken has a property, and what is refused a reason.
 abbrev pub Judged : {A : Type 0} → (ℕ → ℕ → Type 0) → (A → Type 0) → OrRefused A → Type 0

@@ -13,7 +13,6 @@ use Rattle.laws.specs.Limits.{slot-limit, value-limit}
 use Rattle.laws.specs.Truth.{_∧ᵇ_}
 use Rattle.laws.proofs.Truth.{le-or-lt}
 use Rattle.table.specs.declared.Name.{Name}
-use Rattle.table.specs.declared.Slot.{Slot}
 use Rattle.table.specs.declared.Table.{Table}
 use Rattle.names.specs.Names.{not-shown, has-slot, has-value, show-name, show-slot, show-value}
 use Rattle.names.proofs.Names.{slot-inside, value-inside, name-inside, name-outside, slot-shown, slot-lacking, value-shown, value-lacking, value-of-shown, value-of-lacking}

@@ -11,20 +11,16 @@ use Rattle.laws.proofs.Numbers.{is-false}
 use Rattle.model.specs.Rules.{Pair}
 use Rattle.model.specs.Orders.{names, whole-order}
 use Rattle.model.specs.Strata.{strict, weak}
-use Rattle.model.specs.Least.{LeastStrata}
 use Rattle.model.specs.Causes.{NoOutsideCause}
 use Rattle.model.specs.Response.{response}
 use Rattle.model.proofs.Causes.{uncaused}
 use Rattle.model.proofs.Gradings.{to-weak}
-use Rattle.model.proofs.Strata.{least-i}
 use Rattle.model.proofs.Exists.{response-whole}
-use Rattle.table.specs.Link.{stratum-at}
 use Rattle.grammar.specs.Files.{File, slot-counts}
 use Rattle.grammar.specs.Meaning.{Is-file}
-use Rattle.grammar.proofs.Accepts.{one-meaning}
 use Rattle.reader.specs.declared.Outcome.the-variants.{Accepted}
 use Rattle.rule_file.specs.Whole.{reading}
-use Rattle.rule_file.proofs.Answers.{reading-accepted-iff, reading-carries}
+use Rattle.rule_file.proofs.Answers.{reading-accepted-iff}
 use Rattle.soundness.proofs.Sound.{sound-iff-least}
 use Rattle.cards.specs.Forms.{read-card, read-slip}
 use Rattle.tally.specs.declared.Tally.{Tally}
