@@ -19,6 +19,7 @@ use table::RULES;
 use table::SLOTS;
 use table::Table;
 use tally::Tally;
+use text::NAME_LIMIT;
 
 pub mod answers;
 pub mod changes;
@@ -26,7 +27,7 @@ pub mod numbers;
 pub mod rules;
 
 // The most bytes that the program prints of any rule text, card and slip.
-pub const PAGE: usize = RULES * 27 + SLOTS * 57 + (6 + 2 * CARD) + 10;
+pub const PAGE: usize = RULES * 27 + SLOTS * (9 + 2 * NAME_LIMIT) + (6 + 2 * CARD) + 10;
 
 // Room for every new card, for all changes and for every fired record: as many slots, changes and rules as a file may have.
 const CARD: usize = (6 + 4 * SLOTS + 7) / 8;
