@@ -1,5 +1,5 @@
 #!/usr/bin/env python3
-"""What a reader must believe stands in specs/, apart from specs/inner/: all that the definitions of promises/specs and of docs/PROMISES.md and the contracts of the entry points are made of, nothing else, and no name twice; exit status 1 where it is not so."""
+"""What a reader must believe stands in specs/, apart from specs/inner/: all that the definitions of promises/specs, those outside specs/inner/ that docs/PROMISES.md names, and the contracts of the entry points are made of, nothing else, and no name twice; exit status 1 where it is not so."""
 import os
 import re
 import sys
@@ -32,7 +32,7 @@ def scope(text):
     for crate, module, items, alias in USE.findall(text):
         for item in filter(None, items.split(', ')):
             name, _, other = item.partition(' as ')
-            for word, part in zip(words_of(other or name), words_of(other or name)):
+            for word in words_of(other or name):
                 names[word] = (crate, module, name)
         if alias:
             aliases[alias] = (crate, module)

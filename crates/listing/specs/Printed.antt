@@ -83,7 +83,7 @@ tally-text y = bytes "tally " ++ (decimal (y .answered) ++ (bytes " " ++ (decima
 unfoldable pub refusal-text : ℕ → ℕ → List ℕ
 refusal-text k s = bytes "refused " ++ (decimal k ++ (bytes " " ++ (decimal s ++ bytes "\n")))
 
--- No line of a rule or a change has more bytes, nor that of a card or the tally, and so nothing that the program prints has more than `page` (`listing-bounded`).
+-- No line of a rule or a change has more bytes, nor that of a card or of the program's tally, and so nothing that the program prints has more than `page` (`listing-bounded`).
 abbrev pub rule-text-most : ℕ
 rule-text-most = 27
 
