@@ -24,13 +24,13 @@ unfolding _∧ᵇ_
 either-fails true b e = inr e
 either-fails false b e = inl refl
 
-slot-missing : (width slot : ℕ) → has-slot width slot ≡ false → (slot-limit ≤ slot) ⊎ (width ≤ slot)
+slot-lacked : (width slot : ℕ) → has-slot width slot ≡ false → (slot-limit ≤ slot) ⊎ (width ≤ slot)
 unfolding has-slot
-slot-missing width slot e = ⊎-elim (λ q. inl (ltb-false slot slot-limit q)) (λ q. inr (ltb-false slot width q)) (either-fails (ltb slot slot-limit) (ltb slot width) e)
+slot-lacked width slot e = ⊎-elim (λ q. inl (ltb-false slot slot-limit q)) (λ q. inr (ltb-false slot width q)) (either-fails (ltb slot slot-limit) (ltb slot width) e)
 
-value-missing : (count value : ℕ) → has-value count value ≡ false → (value ≡ 0) ⊎ ((value-limit < value) ⊎ (count < value))
+value-lacked : (count value : ℕ) → has-value count value ≡ false → (value ≡ 0) ⊎ ((value-limit < value) ⊎ (count < value))
 unfolding has-value
-value-missing count value e =
+value-lacked count value e =
     ⊎-elim (λ q. ⊎-elim (λ r. inl (let l = leb-false 1 value r in omega (arith, l))) (λ r. inr (inl (leb-false value value-limit r))) (either-fails (leb 1 value) (leb value value-limit) q))
     (λ q. inr (inr (leb-false value count q))) (either-fails (leb 1 value ∧ᵇ leb value value-limit) (leb value count) e)
 
@@ -46,7 +46,7 @@ slot-name-shown text t slot = go (has-slot (t .width) slot) refl
         let has = slot-inside (t .width) slot e in
         let same = slot-shown text t slot e in
         ⊎-elim (λ h. inl (has, record { inside = h .inside; shown = same ∙ h .shown })) (λ h. inr (slot-outside has (h .0), same ∙ h .1)) (stretch-shown text (slot-at t slot .name))
-    go false e = inr (lacks-slot (slot-missing (t .width) slot e), slot-lacking text t slot e)
+    go false e = inr (lacks-slot (slot-lacked (t .width) slot e), slot-lacking text t slot e)
 
 pub value-name-shown : (text : List ℕ) (t : Table) (slot value : ℕ)
     → (HasSlot t slot × HasValue (slot-at t slot) value × ShownInside text (value-name-at (slot-at t slot) value) (show-value text t slot value)) ⊎ (ValueNameReason text t slot value × (show-value text t slot value ≡ not-shown))
@@ -60,5 +60,5 @@ value-name-shown text t slot value = go (has-slot (t .width) slot) refl (has-val
         let same = value-shown text t slot value e ∙ value-of-shown text (slot-at t slot) value d in
         ⊎-elim (λ h. inl (has, (v .0, v .1 .0, v .1 .1), record { inside = h .inside; shown = same ∙ h .shown })) (λ h. inr (value-outside has (v .0, v .1 .0, v .1 .1) (h .0), same ∙ h .1))
         (stretch-shown text (value-name-at (slot-at t slot) value))
-    go true e false d = inr (lacks-value (slot-inside (t .width) slot e) (value-missing (slot-at t slot .count) value d), value-shown text t slot value e ∙ value-of-lacking text (slot-at t slot) value d)
-    go false e c d = inr (lacks-its-slot (slot-missing (t .width) slot e), value-lacking text t slot value e)
+    go true e false d = inr (lacks-value (slot-inside (t .width) slot e) (value-lacked (slot-at t slot .count) value d), value-shown text t slot value e ∙ value-of-lacking text (slot-at t slot) value d)
+    go false e c d = inr (lacks-its-slot (slot-lacked (t .width) slot e), value-lacking text t slot value e)
