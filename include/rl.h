@@ -21,15 +21,15 @@
 
 /* Where a name stands in the rule text. */
 typedef struct {
-    size_t start;
-    size_t size;
+    uint16_t start;
+    uint16_t size;
 } RlPlace;
 
 /* A slot: its name, and the names of its values with the number used; value k (from 1) is at k - 1. */
 typedef struct {
     RlPlace name;
     RlPlace values[RL_VALUES];
-    size_t count;
+    uint16_t count;
 } RlSlot;
 
 /* A test in a condition: `slot *= value` (becomes) or `slot |= value`, plain or under NOT. */
@@ -51,18 +51,18 @@ typedef struct {
     uint8_t slot;
     uint8_t value;
     RlLiteral literals[RL_LITERALS];
-    size_t tested;
+    uint8_t tested;
     RlAssignment assignments[RL_ASSIGNMENTS];
-    size_t assigned;
+    uint8_t assigned;
     uint8_t stratum;
 } RlRule;
 
-/* The table: slots (from 0) with the number used, and rules with the number used; rule n (from 1) is at n - 1. 26,824 bytes. */
+/* The table: slots (from 0) with the number used, and rules with the number used; rule n (from 1) is at n - 1. 13,592 bytes. */
 typedef struct {
     RlSlot slots[RL_SLOTS];
-    size_t width;
+    uint16_t width;
     RlRule rules[RL_RULES];
-    size_t count;
+    uint16_t count;
 } RlTable;
 
 /* An unpacked card: a value for each slot, 0 for no value, and how many slots it counts. */
@@ -142,6 +142,10 @@ typedef struct {
     RlTally tally;
 } RlResponse;
 
+/* The stack that a call takes on x86-64, in bytes, the table that the caller hands over on it counted (in brackets what it was with a table of 26,824 bytes):
+   rl_read 115,752 (366,744), rl_print 120,472 (371,128), rl_is_sound 35,816 (95,496), rl_slot_name 27,240 (53,704), rl_value_name 27,320 (53,976),
+   rl_unpack_card 49,592 (122,760), rl_unpack_slip 49,656 (122,824), rl_pack_card 49,512 (122,680), rl_pack_slip 49,544 (122,712), rl_respond 43,192 (160,968). bench/stack.c measures it. Nothing is allocated. */
+
 /* In each function a buffer is a pointer and its length; the pointer is not null, also where the length is 0, as many bytes can be read there, or read and written in an output, and an output overlaps no other buffer. A bool is 0 or 1. Nothing else is asked of any argument. */
 
 /* Reads a rule text into a table with the least strata, or refuses it with 10 to 18; 18 is for rules in a circle of tests by `*=` that passes through a NOT, with the lowest rule on such a circle. */
@@ -176,8 +180,8 @@ RlResponse rl_respond(RlTable table, RlTally tally, const uint8_t *card, size_t 
                       size_t slip_length, uint8_t *new_card, size_t new_card_length, uint8_t *changes,
                       size_t changes_length, uint8_t *fired, size_t fired_length);
 
-_Static_assert(sizeof(RlSlot) == 264 && sizeof(RlLiteral) == 4 && sizeof(RlAssignment) == 2, "layout");
-_Static_assert(sizeof(RlRule) == 72 && sizeof(RlTable) == 26824 && sizeof(RlRead) == 26840, "layout");
+_Static_assert(sizeof(RlSlot) == 66 && sizeof(RlLiteral) == 4 && sizeof(RlAssignment) == 2, "layout");
+_Static_assert(sizeof(RlRule) == 45 && sizeof(RlTable) == 13592 && sizeof(RlRead) == 13608, "layout");
 _Static_assert(sizeof(RlCardForm) == 40 && sizeof(RlSlipForm) == 72 && sizeof(RlTally) == 4, "layout");
 _Static_assert(sizeof(RlName) == 24 && sizeof(RlCard) == 56 && sizeof(RlSlip) == 88, "layout");
 _Static_assert(sizeof(RlPrinted) == 24 && sizeof(RlPacked) == 24 && sizeof(RlResponse) == 40, "layout");

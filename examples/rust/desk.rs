@@ -34,7 +34,7 @@ fn run(text: &[u8], card: &[u8], slip: &[u8]) -> Result<(), Refusal> {
     for change in &changed.changes[..changed.count] {
         print_pair("change", text, &table, change.slot.into(), change.value.into())?;
     }
-    for rule in (0..table.count).filter(|rule| fired[rule / 8] >> (7 - rule % 8) & 1 == 1) {
+    for rule in (0..table.count as usize).filter(|rule| fired[rule / 8] >> (7 - rule % 8) & 1 == 1) {
         println!("fired {}", rule + 1);
     }
     println!("rules fired {}", answer.fired);

@@ -17,8 +17,16 @@ pub const PRINT_BYTES: usize = 65_535;
 #[repr(C)]
 #[derive(Clone, Copy, PartialEq, Eq, Debug, Default)]
 pub struct Name {
-    pub start: usize,
-    pub size: usize,
+    pub start: u16,
+    pub size: u16,
+}
+
+impl Name {
+    /// Where its bytes stand in the rule text.
+    pub fn range(&self) -> std::ops::Range<usize> {
+        let start = self.start as usize;
+        start..start + self.size as usize
+    }
 }
 
 /// A slot: its name, and the names of its values with the number used.
@@ -27,7 +35,7 @@ pub struct Name {
 pub struct Slot {
     pub name: Name,
     pub values: [Name; VALUES],
-    pub count: usize,
+    pub count: u16,
 }
 
 /// A literal: `slot *= value` (becomes) or `slot |= value`, plain or under NOT.
@@ -55,9 +63,9 @@ pub struct Rule {
     pub slot: u8,
     pub value: u8,
     pub literals: [Literal; LITERALS],
-    pub tested: usize,
+    pub tested: u8,
     pub assignments: [Assignment; ASSIGNMENTS],
-    pub assigned: usize,
+    pub assigned: u8,
     pub stratum: u8,
 }
 
@@ -66,9 +74,9 @@ pub struct Rule {
 #[derive(Clone, Copy, PartialEq, Eq, Debug)]
 pub struct Table {
     pub slots: [Slot; SLOTS],
-    pub width: usize,
+    pub width: u16,
     pub rules: [Rule; RULES],
-    pub count: usize,
+    pub count: u16,
 }
 
 impl Table {

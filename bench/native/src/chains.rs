@@ -1,6 +1,7 @@
-//! Inputs of 255 rules in one chain or circle of dependence: the same rules in the order of dependence, which suits passes best, and last first, which suits them least.
+//! Inputs of 255 rules in chains and circles of dependence: the same rules in the order of dependence, which suits passes best, last first, which suits them least, and shuffled.
 
 use crate::input::{card_bytes, filled, slip_bytes, Input};
+use crate::rng::Rng;
 
 /// The slots and the values of each.
 const SLOTS: usize = 32;
@@ -65,6 +66,23 @@ fn circle_through_not() -> Vec<String> {
     (0..254).map(|link| plain(link, link + 1)).chain([unless(255, 254, 0)]).collect()
 }
 
+/// How many rules a plain circle has where there are several.
+const ROUND: usize = 10;
+
+/// Plain circles tied by NOTs, the last one of five rules: the first rule of each also tests under NOT a pair of the circle before. So each circle is in a stratum of its own, and the slip's link makes the rules of the first fire.
+fn tied_circles() -> Vec<String> {
+    let rule = |link: usize| {
+        let first = link / ROUND * ROUND;
+        let next = if link + 1 == 255.min(first + ROUND) { first } else { link + 1 };
+        if link == first && first > 0 {
+            unless(link, link - ROUND, next)
+        } else {
+            plain(link, next)
+        }
+    };
+    (0..255).map(rule).collect()
+}
+
 /// The input of rules, with one value, or none, in every slot of the card; the slip brings the first link.
 fn input(name: &str, rules: Vec<String>, card: usize) -> Input {
     let values: Vec<String> = (0..VALUES).map(|value| format!("v{value}")).collect();
@@ -85,6 +103,12 @@ fn last_first(mut rules: Vec<String>) -> Vec<String> {
     rules
 }
 
+/// Rules in an order that follows no dependence.
+fn shuffled(mut rules: Vec<String>) -> Vec<String> {
+    Rng(255).shuffle(&mut rules);
+    rules
+}
+
 /// All chains and circles. Where 255 links come, slots get two values and the response ends in 40, after all rules fired.
 pub fn chains() -> Vec<Input> {
     vec![
@@ -95,6 +119,9 @@ pub fn chains() -> Vec<Input> {
         input("chain under NOT, in order", chain_under_not(), 2),
         input("chain under NOT, last first", last_first(chain_under_not()), 2),
         input("plain circle, last first (40)", last_first(plain_circle()), 0),
+        input("plain circles tied by NOTs, in order", tied_circles(), 0),
+        input("plain circles tied by NOTs, last first", last_first(tied_circles()), 0),
+        input("plain circles tied by NOTs, shuffled", shuffled(tied_circles()), 0),
         input("circle through a NOT, last first (18)", last_first(circle_through_not()), 0),
     ]
 }

@@ -3,6 +3,7 @@
 use crate::chains::chains;
 use crate::input::{card_bytes, filled, slip_bytes, Input};
 use crate::read::TEXT;
+use crate::rng::Rng;
 
 /// The measures of a generated text: `levels` are how many rules a change goes through, `longest` the bytes of its longest name.
 struct Shape {
@@ -26,17 +27,6 @@ const SHAPES: [Shape; 6] = [
     Shape { slots: 32, values: 15, rules: 192, literals: 6, assignments: 3, levels: 7, longest: 5, layered: false },
     Shape { slots: 32, values: 15, rules: 255, literals: 8, assignments: 4, levels: 7, longest: 5, layered: false },
 ];
-
-/// A seeded generator of numbers.
-struct Rng(u64);
-
-impl Rng {
-    /// A number below a bound above 0.
-    fn below(&mut self, bound: usize) -> usize {
-        self.0 = self.0.wrapping_mul(6_364_136_223_846_793_005).wrapping_add(1_442_695_040_888_963_407);
-        (self.0 >> 33) as usize % bound
-    }
-}
 
 /// A name of letters that is not among those given.
 fn name(rng: &mut Rng, longest: usize, taken: &[String]) -> String {
@@ -131,9 +121,7 @@ fn generated(shape: &Shape, length: usize) -> Input {
         .collect();
     let mut rules: Vec<String> =
         (0..shape.rules).map(|at| plan.rule(&mut rng, 1 + at % shape.levels, at % 4 == 3 && at >= 32)).collect();
-    for at in (1..rules.len()).rev() {
-        rules.swap(at, rng.below(at + 1));
-    }
+    rng.shuffle(&mut rules);
     lines.extend(rules);
     let values: Vec<usize> = plan.card.iter().map(|value| value + 1).collect();
     let changes: Vec<(usize, usize)> = plan.slots_of(0, 1).iter().map(|slot| (*slot, plan.next[*slot] + 1)).collect();

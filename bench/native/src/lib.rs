@@ -16,6 +16,7 @@ pub mod proved;
 pub mod raw;
 pub mod read;
 pub mod response;
+pub mod rng;
 pub mod strata;
 pub mod systems;
 pub mod table;

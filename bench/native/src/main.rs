@@ -30,7 +30,7 @@ struct Row {
 
 /// How many triggers, literals and assignments a table's rules have.
 fn pairs(table: &Table) -> usize {
-    table.rules[..table.count].iter().map(|rule| 1 + rule.tested + rule.assigned).sum()
+    table.rules[..table.count as usize].iter().map(|rule| 1 + rule.literals().len() + rule.assignments().len()).sum()
 }
 
 /// Measures an input; None where the results differ, which are then printed.
@@ -52,7 +52,7 @@ fn row(proved: &mut dyn Engine, native: &mut dyn Engine, input: &Input) -> Optio
         name: input.name.clone(),
         grows: input.grows,
         bytes: input.text.len(),
-        rules: ours.table.count,
+        rules: ours.table.count.into(),
         strata: ours.table.rules.iter().map(|rule| rule.stratum).max().unwrap_or(0),
         pairs: pairs(&ours.table),
         outcome: answered.map_or_else(refused, |answer| format!("{} fired", answer.fired)),

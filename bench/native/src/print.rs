@@ -24,7 +24,7 @@ impl Printer {
     pub fn print(&mut self, table: &Table, names: &Names, out: &mut [u8]) -> Result<usize, Refusal> {
         let mut pen = Pen { room: &mut self.room, at: 0, table, names };
         (0..table.width).for_each(|slot| pen.slot_line(slot as u8));
-        table.rules[..table.count].iter().for_each(|rule| pen.rule(rule));
+        table.rules[..table.count as usize].iter().for_each(|rule| pen.rule(rule));
         let length = pen.at;
         if length > PRINT_BYTES {
             return Err(refusal(34, 0));
@@ -59,12 +59,12 @@ impl Pen<'_> {
 
     /// Writes a name: its whole key, of which so many bytes are used.
     #[inline]
-    fn name(&mut self, key: &Key, size: usize) {
+    fn name(&mut self, key: &Key, size: u16) {
         let place = &mut self.room[self.at..self.at + NAME];
         for (to, from) in place.chunks_exact_mut(8).zip(key) {
             to.copy_from_slice(&from.to_le_bytes());
         }
-        self.at += size;
+        self.at += size as usize;
     }
 
     /// Writes a value's name.

@@ -30,7 +30,7 @@ pub fn read(text: &[u8], table: &mut Table, workspace: &mut Workspace) -> Result
     }
     workspace.names.clear();
     let mut reader = Reader { scan: Scanner::new(text), table, names: &mut workspace.names };
-    let read = reader.file().map_err(|number| refusal(number, reader.table.count));
+    let read = reader.file().map_err(|number| refusal(number, reader.table.count as usize));
     let layered = read.and_then(|()| strata::layer(table, &mut workspace.graph).map_err(|rule| refusal(18, rule)));
     if layered.is_err() {
         table.clear();
@@ -100,7 +100,7 @@ impl Reader<'_> {
     fn name(&mut self) -> Result<Name, u8> {
         self.expect(Kind::Name)?;
         self.sized()?;
-        Ok(Name { start: self.scan.start, size: self.scan.size })
+        Ok(self.scan.name())
     }
 
     /// The slot of the name just scanned.
@@ -118,7 +118,7 @@ impl Reader<'_> {
 
     /// A slot line after its SLOT.
     fn slot_line(&mut self) -> Result<(), u8> {
-        let slot = self.table.width;
+        let slot = self.table.width as usize;
         if slot == SLOTS {
             return Err(15);
         }
@@ -130,7 +130,7 @@ impl Reader<'_> {
         self.expect(Kind::Open)?;
         self.values(slot)?;
         self.expect(Kind::Semicolon)?;
-        self.table.width = slot + 1;
+        self.table.width += 1;
         Ok(())
     }
 
@@ -149,10 +149,10 @@ impl Reader<'_> {
             if self.names.value(slot as u8, &self.scan.key).is_some() {
                 return Err(14);
             }
-            if place.count == VALUES {
+            if place.count as usize == VALUES {
                 return Err(15);
             }
-            place.values[place.count] = Name { start: self.scan.start, size: self.scan.size };
+            place.values[place.count as usize] = self.scan.name();
             place.count += 1;
             self.names.enter_value(slot as u8, place.count as u8, &self.scan.key);
             kind = self.scan.token();
@@ -166,7 +166,7 @@ impl Reader<'_> {
 
     /// A rule after its WHEN, written in its place.
     fn rule(&mut self) -> Result<(), u8> {
-        let at = self.table.count;
+        let at = self.table.count as usize;
         if at == RULES {
             return Err(15);
         }
@@ -180,7 +180,7 @@ impl Reader<'_> {
         self.condition(at)?;
         self.assignments(at)?;
         self.expect(Kind::Semicolon)?;
-        self.table.count = at + 1;
+        self.table.count += 1;
         Ok(())
     }
 
@@ -209,7 +209,7 @@ impl Reader<'_> {
     /// A literal from its first token on.
     #[inline]
     fn literal(&mut self, at: usize, first: Kind) -> Result<(), u8> {
-        let tested = self.table.rules[at].tested;
+        let tested = self.table.rules[at].tested as usize;
         let mut kind = first;
         let mut negated = false;
         while kind == Kind::Not {
@@ -235,7 +235,7 @@ impl Reader<'_> {
         let value = self.value(slot)?;
         let rule: &mut Rule = &mut self.table.rules[at];
         rule.literals[tested] = Literal { becomes, negated, slot, value };
-        rule.tested = tested + 1;
+        rule.tested += 1;
         Ok(())
     }
 
@@ -265,7 +265,7 @@ impl Reader<'_> {
     #[inline]
     fn assignment(&mut self, at: usize, assigned: &mut u32) -> Result<(), u8> {
         self.sized()?;
-        let count = self.table.rules[at].assigned;
+        let count = self.table.rules[at].assigned as usize;
         if count == ASSIGNMENTS {
             return Err(15);
         }
@@ -278,7 +278,7 @@ impl Reader<'_> {
         let value = self.value(slot)?;
         let rule: &mut Rule = &mut self.table.rules[at];
         rule.assignments[count] = Assignment { slot, value };
-        rule.assigned = count + 1;
+        rule.assigned += 1;
         Ok(())
     }
 }

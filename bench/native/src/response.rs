@@ -27,13 +27,13 @@ pub struct Answer {
 /// Refuses with 30 the first output that is too short.
 #[inline]
 fn room(table: &Table, outputs: &Outputs) -> Result<(), Refusal> {
-    if outputs.card.len() < bytes_for(6 + 4 * table.width) {
+    if outputs.card.len() < bytes_for(6 + 4 * table.width as usize) {
         return Err(refusal(30, 1));
     }
     if outputs.changes.len() < SLIP_BYTES {
         return Err(refusal(30, 2));
     }
-    if outputs.fired.len() < bytes_for(table.count) {
+    if outputs.fired.len() < bytes_for(table.count as usize) {
         return Err(refusal(30, 3));
     }
     Ok(())
@@ -43,10 +43,10 @@ fn room(table: &Table, outputs: &Outputs) -> Result<(), Refusal> {
 #[inline]
 fn answer(table: &Table, card: &[u8], slip: &[u8], outputs: &mut Outputs) -> Result<Answer, Refusal> {
     let lasts = tested(table).ok_or(refusal(31, 0))?;
-    let mut values = unpack_card(&lasts, table.width, card)?;
-    let mut changes = unpack_slip(&lasts, table.width, slip)?;
+    let mut values = unpack_card(&lasts, table.width as usize, card)?;
+    let mut changes = unpack_slip(&lasts, table.width as usize, slip)?;
     room(table, outputs)?;
-    let fired = fire(&table.rules[..table.count], &values, &mut changes);
+    let fired = fire(&table.rules[..table.count as usize], &values, &mut changes);
     let conflicts: u32 =
         (0..SLOTS).map(|slot| u32::from(changes[slot] & changes[slot].wrapping_sub(1) != 0) << slot).sum();
     if conflicts != 0 {
@@ -57,11 +57,11 @@ fn answer(table: &Table, card: &[u8], slip: &[u8], outputs: &mut Outputs) -> Res
             *value = change.trailing_zeros() as u8;
         }
     }
-    write_card(&values, table.width, outputs.card);
+    write_card(&values, table.width as usize, outputs.card);
     let length = write_slip(&changes, outputs.changes);
     let mut record = [0; 32];
     record.chunks_exact_mut(8).zip(fired).for_each(|(bytes, word)| bytes.copy_from_slice(&word.to_be_bytes()));
-    let size = bytes_for(table.count);
+    let size = bytes_for(table.count as usize);
     outputs.fired[..size].copy_from_slice(&record[..size]);
     Ok(Answer { length, fired: fired.iter().map(|word| word.count_ones() as usize).sum() })
 }

@@ -156,7 +156,7 @@ impl Default for Graph {
 
 /// Writes the least strata into a table that was just read, or gives the lowest rule on a circle through a NOT, from 1.
 pub fn layer(table: &mut Table, graph: &mut Graph) -> Result<(), usize> {
-    let rules = &mut table.rules[..table.count];
+    let rules = &mut table.rules[..table.count as usize];
     graph.build(rules);
     for at in 0..rules.len() {
         if graph.lows[PAIRS + at] == 0 {

@@ -15,7 +15,7 @@ pub struct Case<'a> {
 impl Case<'_> {
     /// A name's letters.
     fn word(&self, name: &Name) -> &str {
-        std::str::from_utf8(&self.text[name.start..name.start + name.size]).unwrap_or("")
+        std::str::from_utf8(&self.text[name.range()]).unwrap_or("")
     }
 
     /// A slot's and a value's name, each in a quote mark, with a mark between.
@@ -27,7 +27,7 @@ impl Case<'_> {
 
     /// The rules.
     fn rules(&self) -> &[Rule] {
-        &self.table.rules[..self.table.count]
+        &self.table.rules[..self.table.count as usize]
     }
 
     /// For answer sets: a program without circles through a NOT has one, and its `change` atoms are the changes.
@@ -56,7 +56,7 @@ impl Case<'_> {
         let mut out = String::from(":- table change/2, became/2.\n:- dynamic was/2, slip/2, value/2.\n");
         self.card.iter().for_each(|of| writeln!(out, "was({}).", pair(*of)).unwrap());
         self.slip.iter().for_each(|of| writeln!(out, "slip({}).", pair(*of)).unwrap());
-        for (slot, place) in self.table.slots[..self.table.width].iter().enumerate() {
+        for (slot, place) in self.table.slots[..self.table.width as usize].iter().enumerate() {
             (1..=place.count).for_each(|value| writeln!(out, "value({}).", pair((slot as u8, value as u8))).unwrap());
         }
         out += "became(S,V) :- change(S,V), \\+ was(S,V).\nchange(S,V) :- slip(S,V).\n";

@@ -10,13 +10,13 @@ impl Rule {
     /// The literals used; no more than there are places.
     #[inline]
     pub fn literals(&self) -> &[Literal] {
-        &self.literals[..self.tested.min(LITERALS)]
+        &self.literals[..LITERALS.min(self.tested as usize)]
     }
 
     /// The assignments used; no more than there are places.
     #[inline]
     pub fn assignments(&self) -> &[Assignment] {
-        &self.assignments[..self.assigned.min(ASSIGNMENTS)]
+        &self.assignments[..ASSIGNMENTS.min(self.assigned as usize)]
     }
 }
 

@@ -9,12 +9,12 @@ pub type Lasts = [u8; 256];
 /// The last values of a table's slots, or None where a count breaks a limit or a slot has no values.
 #[inline]
 fn lasts(table: &Table) -> Option<Lasts> {
-    if table.width > SLOTS || table.count > RULES {
+    if table.width as usize > SLOTS || table.count as usize > RULES {
         return None;
     }
     let mut lasts = [0; 256];
-    for (last, slot) in lasts.iter_mut().zip(&table.slots[..table.width]) {
-        if slot.count.wrapping_sub(1) >= VALUES {
+    for (last, slot) in lasts.iter_mut().zip(&table.slots[..table.width as usize]) {
+        if slot.count.wrapping_sub(1) as usize >= VALUES {
             return None;
         }
         *last = slot.count as u8;
@@ -31,7 +31,8 @@ fn lacks(lasts: &Lasts, slot: u8, value: u8) -> bool {
 /// Whether a rule breaks a limit, names a pair that the table lacks, or assigns a slot twice; without branches for its literals.
 #[inline]
 fn is_wrong(lasts: &Lasts, rule: &Rule) -> bool {
-    let mut wrong = rule.tested > LITERALS || rule.assigned > ASSIGNMENTS || lacks(lasts, rule.slot, rule.value);
+    let few = rule.tested as usize <= LITERALS && rule.assigned as usize <= ASSIGNMENTS;
+    let mut wrong = !few || lacks(lasts, rule.slot, rule.value);
     for literal in rule.literals() {
         wrong |= lacks(lasts, literal.slot, literal.value);
     }
@@ -47,7 +48,7 @@ fn is_wrong(lasts: &Lasts, rule: &Rule) -> bool {
 /// The last values of a table's slots, or None where the table is refused with 31.
 pub fn tested(table: &Table) -> Option<Lasts> {
     let lasts = lasts(table)?;
-    let rules = &table.rules[..table.count];
+    let rules = &table.rules[..table.count as usize];
     let mut high = [0; PAIRS];
     for rule in rules {
         if is_wrong(&lasts, rule) {

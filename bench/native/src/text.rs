@@ -2,6 +2,8 @@
 
 use std::arch::x86_64::*;
 
+use crate::table::Name;
+
 /// The most bytes of a name.
 pub const NAME: usize = 24;
 
@@ -99,7 +101,7 @@ fn word_kind(word: u64) -> Kind {
 pub struct Scanner<'a> {
     text: &'a [u8],
     at: usize,
-    pub start: usize,
+    start: usize,
     pub size: usize,
     pub key: Key,
 }
@@ -108,6 +110,12 @@ impl<'a> Scanner<'a> {
     /// At the start of a text.
     pub fn new(text: &'a [u8]) -> Scanner<'a> {
         Scanner { text, at: 0, start: 0, size: 0, key: [0; 3] }
+    }
+
+    /// Where the name just scanned stands.
+    #[inline]
+    pub fn name(&self) -> Name {
+        Name { start: self.start as u16, size: self.size as u16 }
     }
 
     /// The next token.

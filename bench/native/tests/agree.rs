@@ -49,7 +49,7 @@ fn refused(why: second::Refusal) -> Refusal {
 /// One response of both engines to a generated card, slip, tally and outputs; gives the number it came to.
 fn responses(rng: &mut Rng, table: &SecondTable, sketch: &Sketch, engine: &mut Native) -> u8 {
     let (card, slip, tally) = (card(rng, sketch), slip(rng, sketch), tally(rng));
-    let needed = [(6 + 4 * table.width.min(40)).div_ceil(8), 37, table.count.min(300).div_ceil(8)];
+    let needed = [(6 + 4 * table.width.min(40) as usize).div_ceil(8), 37, (table.count as usize).min(300).div_ceil(8)];
     let lengths = rooms(rng, needed);
     let mut theirs = lengths.map(|length| vec![0xA5; length]);
     let mut ours = theirs.clone();
@@ -64,7 +64,7 @@ fn responses(rng: &mut Rng, table: &SecondTable, sketch: &Sketch, engine: &mut N
     assert_eq!((their_tally.answered, their_tally.refused), (our_tally.answered.into(), our_tally.refused.into()));
     assert_eq!(their_answer.map_err(refused), our_answer.map(|answer| answer.length));
     if let Ok(answer) = our_answer {
-        assert_eq!(answer.fired, Second.fired_count(&ours[2][..table.count.div_ceil(8)]));
+        assert_eq!(answer.fired, Second.fired_count(&ours[2][..(table.count as usize).div_ceil(8)]));
     }
     our_answer.map_or_else(|why| why.number, |_| 0)
 }

@@ -1,14 +1,13 @@
 -- What a sound table and passed tests tell: counts within their fields, values and changes within theirs.
 -- Assumes nothing.
-use mathlib.Core.Path.{_≡_, refl, sym, ap}
+use mathlib.Core.Path.{_≡_, refl, sym, ap, _∙_}
 use mathlib.Core.Bool.{Bool, true, false, cond}
 use mathlib.Core.List.{List, [], _∷_}
-use Prim.Native.Nat.{ℕ, zero, suc, _-_, _≤_, _<_}
+use Prim.Native.Nat.{ℕ, zero, suc, _≤_, _<_}
 use native.Mathlib.Omega.{arith}
 use lib.Dec.{eqb, ltb}
-use lib.ListN.{length, getD, replicate, List·getD-append}
+use lib.ListN.{length, getD}
 use borrow.Author.Tests.{ltb-false, eqb-true}
-use Rattle.laws.specs.Filled.{filled}
 use Rattle.laws.proofs.Tabulated.{is-tabulate}
 use Rattle.model.specs.Rules.{Pair}
 use Rattle.table.specs.declared.Table.{Table}
@@ -18,6 +17,7 @@ use Rattle.table.specs.Link.{value-counts}
 use Rattle.table.proofs.Link.{count-is}
 use Rattle.table.proofs.Link as link
 use Rattle.soundness.specs.Sound.{sound}
+use Rattle.soundness.specs.inner.Admitted.{Admitted}
 use Rattle.soundness.proofs.Sound.{sound-width, sound-values}
 use Rattle.cards.specs.declared.Card.{Card}
 use Rattle.cards.specs.declared.Slip.{Slip}
@@ -47,13 +47,10 @@ module _ (t : Table) (sh : Shaped t) (e : sound t ≡ true) where
         small = λ i h. (let k : i < t .width = omega (arith, l) in omega (arith, count-is t i k, sound-values t sh e i k .1));
       }
 
-  -- The array of counts has them.
-  pub counts-all : counts-in (t .width) (filled slot-limit 0 (value-counts t)) ≡ value-counts t
-  unfolding counts-in filled
-  counts-all =
-      let l = slots-length in
-      sym (is-tabulate (λ i. getD (filled slot-limit 0 (value-counts t)) i 0) (t .width) 0 (value-counts t) l
-      (λ i h. sym (List·getD-append (value-counts t) (replicate (slot-limit - length (value-counts t)) 0) 0 i (omega (arith, l)))))
+  -- The counts that were kept of it are those of its slots.
+  pub counts-all : (counts : List ℕ) (rows : List (List ℕ)) → Admitted t counts rows → counts-in (t .width) counts ≡ value-counts t
+  unfolding counts-in
+  counts-all counts rows a = sym (is-tabulate (λ i. getD counts i 0) (t .width) 0 (value-counts t) slots-length (λ i h. count-is t i h ∙ sym (a .same-count i h)))
 
 -- A verdict by its outcome.
 pub outcome-fault : (v : Verdict) (k s : ℕ) → verdict-outcome v ≡ outcome.Refused k s → v ≡ fault k s

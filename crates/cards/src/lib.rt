@@ -1,14 +1,11 @@
 // Cards and slips, unpacked: document 01, 'Cards and slips'.
 ghost use mathlib.Core.Path.{_≡_};
 ghost use Prim.Native.Nat.{_≤_};
-ghost use Rattle.laws.specs.Filled.{filled};
 ghost use Rattle.laws.specs.Limits.{slot-limit};
-ghost use Rattle.table.specs.Link.{value-counts};
 ghost use Rattle.model.specs.Result.{pair};
 ghost use Rattle.cards.specs.Forms.{change-fault};
 ghost use Rattle.cards.specs.inner.Fitting.{counts-in};
 use table::SLOTS;
-use table::Table;
 
 pub mod fields;
 
@@ -55,22 +52,6 @@ pub struct SlipRead {
 pub enum Packing {
     Packed(usize),
     Refused(u8, usize),
-}
-
-// How many values each slot of a table has, 0 beyond the slots used. Not an entry point: the table was tested before.
-pub fn counts_of(t: Table) -> [usize; SLOTS]
-    requires { ⌜ t .width ≤ slot-limit ⌝ }
-    ensures { λ r. ⌜ r ≡ filled slot-limit 0 (value-counts t) ⌝ }
-{
-    let width = t.width;
-    let mut counts: [usize; SLOTS] = [0; SLOTS];
-    let mut i: usize = 0;
-    while i < width {
-        let s = t.slots[i];
-        counts[i] = s.count;
-        i += 1;
-    }
-    counts
 }
 
 // The fault of a change, or 0: 25, 26 where its slot is below `low`, 27.

@@ -11,13 +11,13 @@ use lib.Dec.{T}
 use lib.ListN.{length}
 use Rattle.laws.proofs.Equations.{from-true}
 use Rattle.table.specs.inner.Flat.{pair-places}
-use Rattle.circles.specs.inner.Links.{row-words, all-words, linked, join-words, join-linked, join-through, close-through}
+use Rattle.circles.specs.inner.Links.{pair-words, all-words, linked, join-words, join-linked, join-through, close-through}
 use Rattle.circles.proofs.Leading.{join-over, join-here}
 use Rattle.circles.proofs.Links.{join-length, join-kept, join-gets, join-from}
 
 -- One row joined with row k, if a link leads from it to k.
 module _ (ws : List ℕ) (full : length ws ≡ all-words) (p k : ℕ) (hp : p < pair-places) (hk : k < pair-places) where
-  by : (R : List ℕ → Type 0) → (linked ws p k ≡ true → R (join-words ws p k row-words)) → (linked ws p k ≡ false → R ws) → R (join-linked ws p k)
+  by : (R : List ℕ → Type 0) → (linked ws p k ≡ true → R (join-words ws p k pair-words)) → (linked ws p k ≡ false → R ws) → R (join-linked ws p k)
   by R f g = go (linked ws p k) refl
     where
       go : (b : Bool) → linked ws p k ≡ b → R (join-linked ws p k)
@@ -25,7 +25,7 @@ module _ (ws : List ℕ) (full : length ws ≡ all-words) (p k : ℕ) (hp : p < 
       go false e = rw (join-over ws p k e) (g e)
 
   row-length : length (join-linked ws p k) ≡ all-words
-  row-length = by (λ vs. length vs ≡ all-words) (λ e. join-length ws full p k hp hk row-words) (λ e. full)
+  row-length = by (λ vs. length vs ≡ all-words) (λ e. join-length ws full p k hp hk pair-words) (λ e. full)
 
   row-kept : (a b : ℕ) → b < pair-places → T (linked ws a b) → T (linked (join-linked ws p k) a b)
   row-kept a b h t = by (λ vs. T (linked vs a b)) (λ e. join-kept ws full p k hp hk a b h t) (λ e. t)

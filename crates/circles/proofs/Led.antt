@@ -8,15 +8,16 @@ use Prim.Native.Nat.{ℕ, zero, suc, _≤_, _<_}
 use native.Mathlib.Nat.{eq-or-lt-of-le}
 use native.Mathlib.Omega.{arith}
 use lib.Dec.{T, eqb, eqb→eq}
-use lib.ListN.{length, getD, set, length-set}
+use lib.ListN.{length, getD, set, length-set, length-replicate}
 use borrow.Author.Tests.{eq-eqb}
 use Rattle.laws.proofs.Truth.{and-l, and-r, and-i, or-l, or-r, or-e}
-use Rattle.laws.proofs.Equations.{from-true}
+use Rattle.laws.proofs.Equations.{is-true, from-true}
+use Rattle.laws.proofs.Filled.{replicate-at}
 use Rattle.laws.proofs.Flags.{flag-here, flag-kept, flag-from}
 use Rattle.model.specs.Rules.{Pair, among}
 use Rattle.model.proofs.Pairs.{same-refl, same-eq}
-use Rattle.table.specs.inner.Flat.{place-of}
-use Rattle.circles.specs.inner.Links.{linked, leads-to, flag-leading, connected, with-flagged, some-leads}
+use Rattle.table.specs.inner.Flat.{place-of, pair-places}
+use Rattle.circles.specs.inner.Links.{linked, leads-to, flag-leading, connected, flag-connected, spread, some-leads}
 
 -- Where a place leads.
 pub leads-i : (ws : List ℕ) (p : ℕ) (q : Pair) (qs : List Pair) → T (among q qs) → (p ≡ place-of q) ⊎ T (linked ws p (place-of q)) → T (leads-to ws p qs)
@@ -93,19 +94,60 @@ leading-from ws (p ∷ ps) qs bs j t = ⊎-elim
     (λ w. ⊎-elim (λ x. inl (p, or-l _ _ (same-refl p), x .1, x .0)) (λ x. inr x) (set-if-from bs (place-of p) j (leads-to ws (place-of p) qs) w))
     (leading-from ws ps qs _ j t)
 
--- A place connected with a flagged one.
-pub with-i : (ws : List ℕ) (bs : List Bool) (p k n : ℕ) → k < n → T (getD bs k false) → T (connected ws p k) → T (with-flagged ws bs p n)
-unfolding with-flagged
-with-i ws bs p k zero h f c = absurd (omega arith)
-with-i ws bs p k (suc n) h f c = ⊎-elim
-    (λ (e : k ≡ n). or-l _ _ (and-i (getD bs n false) _ (rw e at f) (rw e at c)))
-    (λ (l : k < n). or-r _ _ (with-i ws bs p k n l f c))
-    (eq-or-lt-of-le (let z : k ≤ n = omega arith in z))
+-- Flags at the places connected with one.
+connect-length : (ws : List ℕ) (k : ℕ) (bs : List Bool) (n : ℕ) → length (flag-connected ws k bs n) ≡ length bs
+unfolding flag-connected
+connect-length ws k bs zero = refl
+connect-length ws k bs (suc n) = set-if-length (flag-connected ws k bs n) n (connected ws n k) ∙ connect-length ws k bs n
 
-pub with-e : (ws : List ℕ) (bs : List Bool) (p n : ℕ) → T (with-flagged ws bs p n) → (k : ℕ) × (k < n) × T (getD bs k false) × T (connected ws p k)
-unfolding with-flagged
-with-e ws bs p zero t = absurd t
-with-e ws bs p (suc n) t = ⊎-elim
-    (λ a. (n, omega arith, and-l (getD bs n false) _ a, and-r (getD bs n false) _ a))
-    (λ a. let w = with-e ws bs p n a in (w .0, omega (arith, w .1), w .2, w .3))
-    (or-e _ _ t)
+connect-kept : (ws : List ℕ) (k : ℕ) (bs : List Bool) (n j : ℕ) → T (getD bs j false) → T (getD (flag-connected ws k bs n) j false)
+unfolding flag-connected
+connect-kept ws k bs zero j t = t
+connect-kept ws k bs (suc n) j t = set-if-kept (flag-connected ws k bs n) n j (connected ws n k) (connect-kept ws k bs n j t)
+
+connect-here : (ws : List ℕ) (k : ℕ) (bs : List Bool) (n j : ℕ) → j < n → n ≤ length bs → T (connected ws j k) → T (getD (flag-connected ws k bs n) j false)
+unfolding flag-connected
+connect-here ws k bs zero j h l t = absurd (omega arith)
+connect-here ws k bs (suc n) j h l t = ⊎-elim
+    (λ (e : j ≡ n). rw e (set-if-here (flag-connected ws k bs n) n (connected ws n k) (omega (arith, connect-length ws k bs n)) (rw e at t)))
+    (λ (i : j < n). set-if-kept (flag-connected ws k bs n) n j (connected ws n k) (connect-here ws k bs n j i (omega arith) t))
+    (eq-or-lt-of-le (let z : j ≤ n = omega arith in z))
+
+connect-from : (ws : List ℕ) (k : ℕ) (bs : List Bool) (n j : ℕ) → T (getD (flag-connected ws k bs n) j false) → T (connected ws j k) ⊎ T (getD bs j false)
+unfolding flag-connected
+connect-from ws k bs zero j t = inr t
+connect-from ws k bs (suc n) j t = ⊎-elim
+    (λ x. inl (rw (x .1) (x .0)))
+    (λ x. connect-from ws k bs n j x)
+    (set-if-from (flag-connected ws k bs n) n j (connected ws n k) t)
+
+-- Flags at the places connected with a flagged one.
+spread-length : (ws : List ℕ) (bs : List Bool) (n : ℕ) → length (spread ws bs n) ≡ pair-places
+unfolding spread
+spread-length ws bs zero = length-replicate {A = Bool} pair-places false
+spread-length ws bs (suc n) = go (getD bs n false) ∙ spread-length ws bs n
+  where
+    go : (b : Bool) → length (cond b (flag-connected ws n (spread ws bs n) pair-places) (spread ws bs n)) ≡ length (spread ws bs n)
+    go true = connect-length ws n (spread ws bs n) pair-places
+    go false = refl
+
+pub spread-i : (ws : List ℕ) (bs : List Bool) (p k n : ℕ) → p < pair-places → k < n → T (getD bs k false) → T (connected ws p k) → T (getD (spread ws bs n) p false)
+unfolding spread
+spread-i ws bs p k zero l h f c = absurd (omega arith)
+spread-i ws bs p k (suc n) l h f c = ⊎-elim
+    (λ (e : k ≡ n). rw (is-true (getD bs n false) (rw e at f)) (connect-here ws n (spread ws bs n) pair-places p l (omega (arith, spread-length ws bs n)) (rw e at c)))
+    (λ (i : k < n). go (getD bs n false) (spread-i ws bs p k n l i f c))
+    (eq-or-lt-of-le (let z : k ≤ n = omega arith in z))
+  where
+    go : (b : Bool) → T (getD (spread ws bs n) p false) → T (getD (cond b (flag-connected ws n (spread ws bs n) pair-places) (spread ws bs n)) p false)
+    go true t = connect-kept ws n (spread ws bs n) pair-places p t
+    go false t = t
+
+pub spread-e : (ws : List ℕ) (bs : List Bool) (p n : ℕ) → T (getD (spread ws bs n) p false) → (k : ℕ) × (k < n) × T (getD bs k false) × T (connected ws p k)
+unfolding spread
+spread-e ws bs p zero t = absurd (rw (replicate-at pair-places false p) at t)
+spread-e ws bs p (suc n) t = ⊎-elim (λ w. (n, omega arith, w .0, w .1)) (λ u. let w = spread-e ws bs p n u in (w .0, omega (arith, w .1), w .2, w .3)) (go (getD bs n false) refl t)
+  where
+    go : (b : Bool) → getD bs n false ≡ b → T (getD (cond b (flag-connected ws n (spread ws bs n) pair-places) (spread ws bs n)) p false) → (T (getD bs n false) × T (connected ws p n)) ⊎ T (getD (spread ws bs n) p false)
+    go true e u = ⊎-elim (λ c. inl (from-true (getD bs n false) e, c)) (λ v. inr v) (connect-from ws n (spread ws bs n) pair-places p u)
+    go false e u = inr u

@@ -17,7 +17,7 @@ use Rattle.laws.proofs.Equations.{from-true, either}
 use Rattle.laws.proofs.Words.{bit-or, bit-none, bit-own, bit-other}
 use Rattle.laws.proofs.Filled.{replicate-at}
 use Rattle.table.specs.inner.Flat.{pair-places}
-use Rattle.circles.specs.inner.Links.{row-words, all-words, word-at, linked, no-links, add-link, join-words}
+use Rattle.circles.specs.inner.Links.{pair-words, all-words, word-at, linked, no-links, add-link, join-words}
 
 pub no-links-length : length no-links ≡ all-words
 unfolding no-links
@@ -71,35 +71,35 @@ module _ (ws : List ℕ) (full : length ws ≡ all-words) (p k : ℕ) (hp : p < 
   join-length (suc w) = length-set (join-words ws p k w) _ _ ∙ join-length w
 
   -- The words of other rows, and the words of row p from w on, are as before.
-  rest-word : (w x : ℕ) → ((v : ℕ) → v < w → x ≡ p * row-words + v → ⊥) → getD (join-words ws p k w) x 0 ≡ getD ws x 0
+  rest-word : (w x : ℕ) → ((v : ℕ) → v < w → x ≡ p * pair-words + v → ⊥) → getD (join-words ws p k w) x 0 ≡ getD ws x 0
   unfolding join-words
   rest-word zero x n = refl
-  rest-word (suc w) x n = getD-set-other (join-words ws p k w) (p * row-words + w) x _ 0 (n w (omega arith)) ∙ rest-word w x (λ v h. n v (omega arith))
+  rest-word (suc w) x n = getD-set-other (join-words ws p k w) (p * pair-words + w) x _ 0 (n w (omega arith)) ∙ rest-word w x (λ v h. n v (omega arith))
 
   -- The words of row p before w are joined with those of row k.
-  joined-word : (w v : ℕ) → w ≤ row-words → v < w → getD (join-words ws p k w) (p * row-words + v) 0 ≡ bitOr (getD ws (p * row-words + v) 0) (getD ws (k * row-words + v) 0)
+  joined-word : (w v : ℕ) → w ≤ pair-words → v < w → getD (join-words ws p k w) (p * pair-words + v) 0 ≡ bitOr (getD ws (p * pair-words + v) 0) (getD ws (k * pair-words + v) 0)
   unfolding join-words
   joined-word zero v h l = absurd (omega arith)
   joined-word (suc w) v h l = ⊎-elim
-      (λ (e : v ≡ w). rw (e, getD-set-same (join-words ws p k w) (p * row-words + w) _ 0 (omega (arith, join-length w)), rest-word w (p * row-words + w) (λ u i z. omega arith), rest-word w (k * row-words + w) (λ u i z. omega arith)))
-      (λ (i : v < w). getD-set-other (join-words ws p k w) (p * row-words + w) (p * row-words + v) _ 0 (λ (z : p * row-words + v ≡ p * row-words + w). omega arith) ∙ joined-word w v (omega arith) i)
+      (λ (e : v ≡ w). rw (e, getD-set-same (join-words ws p k w) (p * pair-words + w) _ 0 (omega (arith, join-length w)), rest-word w (p * pair-words + w) (λ u i z. omega arith), rest-word w (k * pair-words + w) (λ u i z. omega arith)))
+      (λ (i : v < w). getD-set-other (join-words ws p k w) (p * pair-words + w) (p * pair-words + v) _ 0 (λ (z : p * pair-words + v ≡ p * pair-words + w). omega arith) ∙ joined-word w v (omega arith) i)
       (eq-or-lt-of-le (let z : v ≤ w = omega arith in z))
 
-  own-row : (b : ℕ) → b < pair-places → linked (join-words ws p k row-words) p b ≡ (linked ws p b ∨ᵇ linked ws k b)
+  own-row : (b : ℕ) → b < pair-places → linked (join-words ws p k pair-words) p b ≡ (linked ws p b ∨ᵇ linked ws k b)
   unfolding linked
-  own-row b h = rw (joined-word row-words (b / 64) (omega arith) (omega arith), bit-or)
+  own-row b h = rw (joined-word pair-words (b / 64) (omega arith) (omega arith), bit-or)
 
-  other-row : (a b : ℕ) → b < pair-places → (a ≡ p → ⊥) → linked (join-words ws p k row-words) a b ≡ linked ws a b
+  other-row : (a b : ℕ) → b < pair-places → (a ≡ p → ⊥) → linked (join-words ws p k pair-words) a b ≡ linked ws a b
   unfolding linked
-  other-row a b h n = rw (rest-word row-words (word-at a b) (λ v l z. n (omega arith)))
+  other-row a b h n = rw (rest-word pair-words (word-at a b) (λ v l z. n (omega arith)))
 
-  pub join-kept : (a b : ℕ) → b < pair-places → T (linked ws a b) → T (linked (join-words ws p k row-words) a b)
+  pub join-kept : (a b : ℕ) → b < pair-places → T (linked ws a b) → T (linked (join-words ws p k pair-words) a b)
   join-kept a b h t = ⊎-elim (λ (e : a ≡ p). rw (e, own-row b h) (or-l _ _ (rw e at t))) (λ n. rw (other-row a b h n) t) (either a p)
 
-  pub join-gets : (b : ℕ) → b < pair-places → T (linked ws k b) → T (linked (join-words ws p k row-words) p b)
+  pub join-gets : (b : ℕ) → b < pair-places → T (linked ws k b) → T (linked (join-words ws p k pair-words) p b)
   join-gets b h t = rw (own-row b h) (or-r _ _ t)
 
-  pub join-from : (a b : ℕ) → b < pair-places → T (linked (join-words ws p k row-words) a b) → T (linked ws a b) ⊎ ((a ≡ p) × T (linked ws k b))
+  pub join-from : (a b : ℕ) → b < pair-places → T (linked (join-words ws p k pair-words) a b) → T (linked ws a b) ⊎ ((a ≡ p) × T (linked ws k b))
   join-from a b h t = ⊎-elim
       (λ (e : a ≡ p). ⊎-elim (λ u. inl (rw e u)) (λ u. inr (e, u)) (or-e _ _ (rw (e, own-row b h) at t)))
       (λ n. inl (rw (other-row a b h n) at t)) (either a p)

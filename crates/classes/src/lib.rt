@@ -271,7 +271,7 @@ const CLASSES: [u8; 256] = [
     0,
 ];
 
-// The table, made once for each token.
+// The class of each byte, in a table that a reader lends down.
 pub fn table() -> [u8; 256]
     ensures { λ r. ⌜ Classes r ⌝ }
 {

@@ -19,8 +19,8 @@ use Rattle.grammar.specs.Reading.{Part, took, stop, _then_, a-name, known-slot,
 use Rattle.model.specs.Result.{pair}
 use Rattle.steps.specs.inner.Places.{shown-past, which, one, other, neither}
 use Rattle.clauses.specs.inner.Literals.{value-literal, Literal-lies}
-use Rattle.clauses.specs.declared.literals.LiteralRead.{LiteralRead}
-use Rattle.clauses.specs.declared.literals.LiteralRead.the-variants as read
+use Rattle.clauses.specs.declared.literal.LiteralRead.{LiteralRead}
+use Rattle.clauses.specs.declared.literal.LiteralRead.the-variants as read
 use Rattle.steps.proofs.Places.{no-word, follow, fork-which}
 
 -- NOT turns a literal round; where none stands, a plain literal must.

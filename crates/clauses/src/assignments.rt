@@ -3,26 +3,30 @@ ghost use mathlib.Core.Path.{_≡_};
 ghost use mathlib.Core.List.{List, [], _∷_, _++_};
 ghost use Prim.Native.Nat.{ℕ, _+_, _*_, _<_};
 ghost use lib.ListN.{length, take, drop};
+ghost use Rattle.classes.specs.Classes.{Classes};
+ghost use Rattle.text.specs.Tokens.{Token};
 ghost use Rattle.table.specs.inner.Flat.{pair-places};
 ghost use Rattle.model.specs.Rules.{Pair, assigns};
 ghost use Rattle.laws.specs.Limits.{assignment-limit, slot-limit, value-limit, row};
 ghost use Rattle.table.specs.Link.{assignment-of};
 ghost use Rattle.grammar.specs.Files.{Slot, spellings, slot-names, values-of};
-ghost use Rattle.grammar.specs.Reading.{stop, read-target, read-assignment, no-assignment, read-assignments, read-assign};
-ghost use Rattle.steps.specs.inner.Places.{tokens-past};
+ghost use Rattle.grammar.specs.Reading.{stop, a-name, read-target, read-assignment, no-assignment, read-assignments, read-assign};
+ghost use Rattle.steps.specs.inner.Places.{tokens-past, named-part, Named-lies};
 ghost use Rattle.steps.specs.inner.Spans.{Listed, number-part, Slot-lies};
 ghost use Rattle.clauses.specs.inner.Literals.{Looked};
 ghost use Rattle.clauses.specs.inner.Assignments.{assignment-list, pairs-in, Unused-zero, value-assignment, single-assignment, assignment-part, Assignment-lies, assignments-part, Assignments-lies};
-use crate::literals::byte;
-use steps::names::Number;
-use steps::names::slot_next;
-use steps::names::value_next;
+use crate::literal::byte;
+use steps::lookup::Number;
+use steps::lookup::slot_of;
+use steps::lookup::value_next;
 use steps::step::Fork;
 use steps::step::Named;
 use steps::step::Step;
 use steps::step::fork_next;
 use steps::step::name_next;
+use steps::step::name_of;
 use steps::step::word_next;
+use steps::step::word_of;
 use table::ASSIGNMENTS;
 use table::Assignment;
 use table::SLOTS;
@@ -88,18 +92,19 @@ fn is_assigned(list: Assignments, slot: usize) -> bool
     false
 }
 
-// The name of a declared slot that the assignments so far do not assign must stand at a position.
-fn target_next(
+// A name that was read must be that of a declared slot that the assignments so far do not assign.
+fn target_of(
     text: &[u8],
     rest: &[u8],
     slotspans: &[usize; SLOTS],
     list: Assignments,
-    at: usize,
+    named: Named,
 ) -> Number
-    ensures { λ r. ⌜ ((base : ℕ) (slots : List Slot) → Listed (now (text .entry)) (now (slotspans .entry)) (spellings (slot-names slots))
-        → read-target slots (pairs-in list) (tokens-past (now (rest .entry)) base at) ≡ number-part (now (rest .entry)) base r) × Slot-lies (length (now (rest .entry))) at r ⌝ }
+    requires { ⌜ ((at : ℕ) × Named-lies (length (now rest)) at named) ⌝ }
+    ensures { λ r. ⌜ ((base : ℕ) (ts : List Token) (slots : List Slot) → a-name ts ≡ named-part (now (rest .entry)) base named → Listed (now (text .entry)) (now (slotspans .entry)) (spellings (slot-names slots))
+        → read-target slots (pairs-in list) ts ≡ number-part (now (rest .entry)) base r) × ((at : ℕ) → Named-lies (length (now (rest .entry))) at named → Slot-lies (length (now (rest .entry))) at r) ⌝ }
 {
-    let found = slot_next(text, rest, slotspans, at);
+    let found = slot_of(text, rest, slotspans, named);
     match found {
         Number::Is(slot, next) => {
             if is_assigned(list, slot) {
@@ -115,18 +120,19 @@ fn target_next(
 fn assignment_value(
     text: &[u8],
     rest: &[u8],
+    classes: &[u8; 256],
     valuespans: &[usize],
     slot: usize,
     at: usize,
 ) -> AssignmentRead
-    requires { ⌜ (slot < slot-limit) × (length (now valuespans) ≡ pair-places) ⌝ }
+    requires { ⌜ Classes (now classes) × (slot < slot-limit) × (length (now valuespans) ≡ pair-places) ⌝ }
     ensures { λ r. ⌜ ((base : ℕ) (slots : List Slot) → Listed (now (text .entry)) (take value-limit (drop (slot * row + 1) (now (valuespans .entry)))) (spellings (values-of slots slot))
         → value-assignment slots slot (tokens-past (now (rest .entry)) base at) ≡ assignment-part (now (rest .entry)) base r) × Assignment-lies (length (now (rest .entry))) at r ⌝ }
 {
-    let mark = word_next(rest, at, text::GETS);
+    let mark = word_next(rest, classes, at, text::GETS);
     match mark {
         Step::At(after) => {
-            let found = value_next(text, rest, valuespans, slot, after);
+            let found = value_next(text, rest, classes, valuespans, slot, after);
             match found {
                 Number::Is(value, next) => {
                     let assignment = Assignment {
@@ -142,31 +148,51 @@ fn assignment_value(
     }
 }
 
+// An assignment whose slot's name was read, after those of its rule so far.
+fn assignment_of(
+    text: &[u8],
+    rest: &[u8],
+    classes: &[u8; 256],
+    slotspans: &[usize; SLOTS],
+    valuespans: &[usize],
+    list: Assignments,
+    named: Named,
+) -> AssignmentRead
+    requires { ⌜ Classes (now classes) × ((at : ℕ) × Named-lies (length (now rest)) at named) × (length (now valuespans) ≡ pair-places) ⌝ }
+    ensures { λ r. ⌜ ((base : ℕ) (ts : List Token) (slots : List Slot) → a-name ts ≡ named-part (now (rest .entry)) base named → Looked (now (text .entry)) slots (now (slotspans .entry)) (now (valuespans .entry))
+        → read-assignment slots (pairs-in list) ts ≡ assignment-part (now (rest .entry)) base r) × ((at : ℕ) → Named-lies (length (now (rest .entry))) at named → Assignment-lies (length (now (rest .entry))) at r) ⌝ }
+{
+    let target = target_of(text, rest, slotspans, list, named);
+    match target {
+        Number::Is(slot, next) => assignment_value(text, rest, classes, valuespans, slot, next),
+        Number::Fault(k) => AssignmentRead::Fault(k),
+    }
+}
+
 // An assignment, after those of its rule so far.
 fn assignment_next(
     text: &[u8],
     rest: &[u8],
+    classes: &[u8; 256],
     slotspans: &[usize; SLOTS],
     valuespans: &[usize],
     list: Assignments,
     at: usize,
 ) -> AssignmentRead
-    requires { ⌜ length (now valuespans) ≡ pair-places ⌝ }
+    requires { ⌜ Classes (now classes) × (length (now valuespans) ≡ pair-places) ⌝ }
     ensures { λ r. ⌜ ((base : ℕ) (slots : List Slot) → Looked (now (text .entry)) slots (now (slotspans .entry)) (now (valuespans .entry))
         → read-assignment slots (pairs-in list) (tokens-past (now (rest .entry)) base at) ≡ assignment-part (now (rest .entry)) base r) × Assignment-lies (length (now (rest .entry))) at r ⌝ }
 {
-    let target = target_next(text, rest, slotspans, list, at);
-    match target {
-        Number::Is(slot, next) => assignment_value(text, rest, valuespans, slot, next),
-        Number::Fault(k) => AssignmentRead::Fault(k),
-    }
+    let named = name_next(rest, classes, at);
+    assignment_of(text, rest, classes, slotspans, valuespans, list, named)
 }
 
 // The refusal where no assignment may follow: 15 at a slot's name.
-fn surplus_fault(rest: &[u8], at: usize) -> u8
+fn surplus_fault(rest: &[u8], classes: &[u8; 256], at: usize) -> u8
+    requires { ⌜ Classes (now classes) ⌝ }
     ensures { λ r. ⌜ ((base : ℕ) (sofar : List Pair) → no-assignment sofar (tokens-past (now (rest .entry)) base at) ≡ stop r) ⌝ }
 {
-    let named = name_next(rest, at);
+    let named = name_next(rest, classes, at);
     if let Named::Fault(k) = named {
         return k;
     }
@@ -177,22 +203,23 @@ fn surplus_fault(rest: &[u8], at: usize) -> u8
 fn assignments_next(
     text: &[u8],
     rest: &[u8],
+    classes: &[u8; 256],
     slotspans: &[usize; SLOTS],
     valuespans: &[usize],
     start: usize,
 ) -> AssignmentsRead
-    requires { ⌜ length (now valuespans) ≡ pair-places ⌝ }
+    requires { ⌜ Classes (now classes) × (length (now valuespans) ≡ pair-places) ⌝ }
     ensures { λ r. ⌜ ((base : ℕ) (slots : List Slot) → Looked (now (text .entry)) slots (now (slotspans .entry)) (now (valuespans .entry))
         → read-assignments slots assignment-limit [] (tokens-past (now (rest .entry)) base start) ≡ assignments-part (now (rest .entry)) base r) × Assignments-lies (length (now (rest .entry))) start r ⌝ }
 {
     let mut list = no_assignments();
     let mut at = start;
     while list.count < ASSIGNMENTS {
-        let read = assignment_next(text, rest, slotspans, valuespans, list, at);
+        let read = assignment_next(text, rest, classes, slotspans, valuespans, list, at);
         match read {
             AssignmentRead::Took(assignment, next) => {
                 list = with_assignment(list, assignment);
-                let mark = fork_next(rest, next, text::COMMA, text::CLOSE);
+                let mark = fork_next(rest, classes, next, text::COMMA, text::CLOSE);
                 match mark {
                     Fork::First(after) => {
                         at = after;
@@ -220,25 +247,26 @@ fn assignments_next(
         }
     }
     AssignmentsRead {
-        outcome: Step::Fault(surplus_fault(rest, at)),
+        outcome: Step::Fault(surplus_fault(rest, classes, at)),
         list: list,
     }
 }
 
-// One assignment alone.
+// One assignment alone, whose slot's name was read.
 fn single_assignment(
     text: &[u8],
     rest: &[u8],
+    classes: &[u8; 256],
     slotspans: &[usize; SLOTS],
     valuespans: &[usize],
-    at: usize,
+    named: Named,
 ) -> AssignmentsRead
-    requires { ⌜ length (now valuespans) ≡ pair-places ⌝ }
-    ensures { λ r. ⌜ ((base : ℕ) (slots : List Slot) → Looked (now (text .entry)) slots (now (slotspans .entry)) (now (valuespans .entry))
-        → single-assignment slots (tokens-past (now (rest .entry)) base at) ≡ assignments-part (now (rest .entry)) base r) × Assignments-lies (length (now (rest .entry))) at r ⌝ }
+    requires { ⌜ Classes (now classes) × ((at : ℕ) × Named-lies (length (now rest)) at named) × (length (now valuespans) ≡ pair-places) ⌝ }
+    ensures { λ r. ⌜ ((base : ℕ) (ts : List Token) (slots : List Slot) → a-name ts ≡ named-part (now (rest .entry)) base named → Looked (now (text .entry)) slots (now (slotspans .entry)) (now (valuespans .entry))
+        → single-assignment slots ts ≡ assignments-part (now (rest .entry)) base r) × ((at : ℕ) → Named-lies (length (now (rest .entry))) at named → Assignments-lies (length (now (rest .entry))) at r) ⌝ }
 {
     let none = no_assignments();
-    let read = assignment_next(text, rest, slotspans, valuespans, none, at);
+    let read = assignment_of(text, rest, classes, slotspans, valuespans, none, named);
     match read {
         AssignmentRead::Took(assignment, next) => {
             let list = with_assignment(none, assignment);
@@ -260,17 +288,20 @@ fn single_assignment(
 pub fn assign_next(
     text: &[u8],
     rest: &[u8],
+    classes: &[u8; 256],
     slotspans: &[usize; SLOTS],
     valuespans: &[usize],
     at: usize,
 ) -> AssignmentsRead
-    requires { ⌜ length (now valuespans) ≡ pair-places ⌝ }
+    requires { ⌜ Classes (now classes) × (length (now valuespans) ≡ pair-places) ⌝ }
     ensures { λ r. ⌜ ((base : ℕ) (slots : List Slot) → Looked (now (text .entry)) slots (now (slotspans .entry)) (now (valuespans .entry))
         → read-assign slots (tokens-past (now (rest .entry)) base at) ≡ assignments-part (now (rest .entry)) base r) × Assignments-lies (length (now (rest .entry))) at r ⌝ }
 {
-    let open = word_next(rest, at, text::OPEN);
+    let next = text::token_by(rest, at, classes);
+    let open = word_of(next, text::OPEN);
     if let Step::At(inside) = open {
-        return assignments_next(text, rest, slotspans, valuespans, inside);
+        return assignments_next(text, rest, classes, slotspans, valuespans, inside);
     }
-    single_assignment(text, rest, slotspans, valuespans, at)
+    let named = name_of(next);
+    single_assignment(text, rest, classes, slotspans, valuespans, named)
 }

@@ -7,14 +7,15 @@ ghost use Rattle.table.specs.inner.Flat.{pair-places};
 ghost use Rattle.laws.specs.inner.Filled.{Filled};
 ghost use Rattle.model.specs.Rules as model;
 ghost use Rattle.table.specs.Zero.{zero-literal};
+ghost use Rattle.classes.specs.Classes.{Classes};
 ghost use Rattle.grammar.specs.Files.{Slot};
 ghost use Rattle.laws.specs.Limits.{literal-limit};
 ghost use Rattle.grammar.specs.Reading.{stop, read-literals, read-condition, no-literal};
 ghost use Rattle.steps.specs.inner.Places.{tokens-past, Step-lies, outcome-part};
 ghost use Rattle.clauses.specs.inner.Literals.{Looked};
 ghost use Rattle.clauses.specs.inner.Conditions.{literals-in};
-use crate::literals::LiteralRead;
-use crate::literals::literal_next;
+use crate::literal::LiteralRead;
+use crate::literal::literal_next;
 use steps::step::Fork;
 use steps::step::Step;
 use steps::step::fault_of;
@@ -37,10 +38,11 @@ pub struct Condition {
 }
 
 // The refusal of what stands where no further literal may: 15 at a literal's first token.
-fn no_more(rest: &[u8], at: usize) -> u8
+fn no_more(rest: &[u8], classes: &[u8; 256], at: usize) -> u8
+    requires { ⌜ Classes (now classes) ⌝ }
     ensures { λ r. ⌜ ((base : ℕ) (sofar : List model.Literal) → no-literal sofar (tokens-past (now (rest .entry)) base at) ≡ stop r) ⌝ }
 {
-    let next = text::token_at(rest, at);
+    let next = text::token_by(rest, at, classes);
     let token = next.token;
     match token {
         Token::Word(w) => {
@@ -74,11 +76,12 @@ fn no_literals() -> Literals
 fn literals_next(
     text: &[u8],
     rest: &[u8],
+    classes: &[u8; 256],
     slotspans: &[usize; SLOTS],
     valuespans: &[usize],
     start: usize,
 ) -> Condition
-    requires { ⌜ length (now valuespans) ≡ pair-places ⌝ }
+    requires { ⌜ Classes (now classes) × (length (now valuespans) ≡ pair-places) ⌝ }
     ensures { λ r. ⌜ ((base : ℕ) (slots : List Slot) → Looked (now (text .entry)) slots (now (slotspans .entry)) (now (valuespans .entry))
         → read-literals slots literal-limit [] (tokens-past (now (rest .entry)) base start) ≡ outcome-part (now (rest .entry)) base (literals-in (r .list)) (r .outcome))
         × Step-lies (length (now (rest .entry))) start (r .outcome) × Filled literal-limit zero-literal (r .list .places) (r .list .count) ⌝ }
@@ -89,16 +92,16 @@ fn literals_next(
         let n = list.count;
         if table::LITERALS <= n {
             return Condition {
-                outcome: Step::Fault(no_more(rest, at)),
+                outcome: Step::Fault(no_more(rest, classes, at)),
                 list: list,
             };
         }
-        let read = literal_next(text, rest, slotspans, valuespans, at);
+        let read = literal_next(text, rest, classes, slotspans, valuespans, at);
         match read {
             LiteralRead::Took(literal, after) => {
                 list.places[n] = literal;
                 list.count = n + 1;
-                let way = fork_next(rest, after, text::AND, text::THEN);
+                let way = fork_next(rest, classes, after, text::AND, text::THEN);
                 match way {
                     Fork::First(next) => {
                         at = next;
@@ -131,21 +134,29 @@ fn literals_next(
 pub fn condition_next(
     text: &[u8],
     rest: &[u8],
+    classes: &[u8; 256],
     slotspans: &[usize; SLOTS],
     valuespans: &[usize],
     at: usize,
 ) -> Condition
-    requires { ⌜ length (now valuespans) ≡ pair-places ⌝ }
+    requires { ⌜ Classes (now classes) × (length (now valuespans) ≡ pair-places) ⌝ }
     ensures { λ r. ⌜ ((base : ℕ) (slots : List Slot) → Looked (now (text .entry)) slots (now (slotspans .entry)) (now (valuespans .entry))
         → read-condition slots (tokens-past (now (rest .entry)) base at) ≡ outcome-part (now (rest .entry)) base (literals-in (r .list)) (r .outcome))
         × Step-lies (length (now (rest .entry))) at (r .outcome) × Filled literal-limit zero-literal (r .list .places) (r .list .count) ⌝ }
 {
-    let opening = word_next(rest, at, text::TRUE);
+    let opening = word_next(rest, classes, at, text::TRUE);
     match opening {
         Step::At(after) => {
-            let way = fork_next(rest, after, text::AND, text::THEN);
+            let way = fork_next(rest, classes, after, text::AND, text::THEN);
             match way {
-                Fork::First(next) => literals_next(text, rest, slotspans, valuespans, next),
+                Fork::First(next) => literals_next(
+                    text,
+                    rest,
+                    classes,
+                    slotspans,
+                    valuespans,
+                    next,
+                ),
                 Fork::Second(next) => Condition {
                     outcome: Step::At(next),
                     list: no_literals(),
@@ -156,6 +167,6 @@ pub fn condition_next(
                 },
             }
         }
-        Step::Fault(_) => literals_next(text, rest, slotspans, valuespans, at),
+        Step::Fault(_) => literals_next(text, rest, classes, slotspans, valuespans, at),
     }
 }

@@ -1,4 +1,4 @@
 // The clauses of a rule: a literal, a condition, the assignments.
 pub mod assignments;
 pub mod conditions;
-pub mod literals;
+pub mod literal;

@@ -1,3 +1,6 @@
+pub mod Holding
+pub mod Truths
+pub mod Lists
 pub mod Sorting
 pub mod Placing
 pub mod Sorted

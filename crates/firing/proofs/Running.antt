@@ -4,7 +4,7 @@ use mathlib.Core.Path.{_≡_, refl, sym, _∙_, ap, fun-ext}
 use mathlib.Core.Bool.{Bool, true, false, true≢false}
 use mathlib.Core.List.{List, [], _∷_}
 use mathlib.Core.Logic.{⊎-elim}
-use Prim.Native.Nat.{ℕ, zero, suc, _+_, _-_, _≤_, _<_}
+use Prim.Native.Nat.{ℕ, zero, suc, _+_, _-_, _*_, _≤_, _<_}
 use native.Mathlib.Numerals.{add-one}
 use native.Mathlib.Omega.{arith}
 use native.Mathlib.Nat.{eq-or-lt-of-le}
@@ -36,9 +36,11 @@ use Rattle.table.specs.inner.Fits.{TableFits}
 use Rattle.table.proofs.Link.{rule-at-is}
 use Rattle.table.proofs.Fits.{assigned-placed, count-of, number}
 use Rattle.table.proofs.Flat.{added, added-length, pairs-of-set, is-flags}
-use Rattle.firing.specs.declared.Firing.{Firing}
-use Rattle.firing.specs.inner.Firing.{fired-in, carried-firing}
-use Rattle.firing.proofs.Sorted.{Sorts, stratum-small}
+use Rattle.firing.specs.inner.Firing.{FiredFlags, fired-in, carried-firing}
+use Rattle.firing.specs.declared.waiting.Turn.{Turn}
+use Rattle.firing.specs.inner.Waiting.{turn-of}
+use Rattle.firing.proofs.Lists.{turn-place, turn-less}
+use Rattle.firing.proofs.Sorted.{Sorts}
 
 -- In a pass the flags of fired rules are kept, and where something fired there are more.
 pub record Kept (fired₀ fired : List Bool) (moved : Bool) : Type 0 where
@@ -50,6 +52,24 @@ pub kept-fire : (fired₀ fired : List Bool) (moved : Bool) (i : ℕ) → i < ru
 kept-fire fired₀ fired moved i h e k =
     let m = flags-more fired i (omega (arith, k .size)) e in
     record { size = length-set fired i true ∙ k .size; not-fewer = omega (arith, k .not-fewer); more = λ z. omega (arith, k .not-fewer) }
+
+-- How much a pass may still look at: each rule that fires may wake others, and each rule looked at is one less.
+unfoldable pub turns-left : List Bool → ℕ → ℕ → ℕ → ℕ
+turns-left fired to k left = (rule-limit - flags-set fired) * (rule-limit + 1) + (left + (to - k))
+
+pub turn-over : (positions woken : List ℕ) (fired : List Bool) (to k left : ℕ) (u : Turn) → u ≡ turn-of positions k woken left → k < to + left → turns-left fired to (u .place) (u .left) < turns-left fired to k left
+unfolding turns-left
+turn-over positions woken fired to k left u e h = omega (arith, turn-less positions k woken left u e to h)
+
+pub turn-fire : (positions woken : List ℕ) (fired : List Bool) (to k left : ℕ) (u : Turn) → u ≡ turn-of positions k woken left → (left′ i : ℕ) → i < rule-limit → length fired ≡ rule-limit → getD fired i false ≡ false
+    → left′ ≤ rule-limit → turns-left (set fired i true) to (u .place) left′ < turns-left fired to k left
+unfolding turns-left
+turn-fire positions woken fired to k left u e left′ i h l un few =
+    let m = flags-more fired i (omega arith) un in
+    let n = flags-top (set fired i true) in
+    let v = length-set fired i true in
+    let w = turn-place positions k woken left u e in
+    omega arith
 
 -- How many passes may still come: each fires a rule or is the last of its stratum.
 unfoldable pub passes-left : ℕ → List Bool → ℕ
@@ -118,7 +138,7 @@ module _ (t : Table) (S : List ℕ) (slip : List Bool) (positions : List ℕ) wh
 
   module _ (fits : TableFits t) (sh : Shaped t) where
     -- A rule that has fired or is not enabled is passed over.
-    pub run-over : (s from k i : ℕ) (b : Bool) (bs fired : List Bool) → i ≡ getD positions k 0 → i < t .count
+    run-over : (s from k i : ℕ) (b : Bool) (bs fired : List Bool) → i ≡ getD positions k 0 → i < t .count
         → (getD fired i false ≡ false → enabled S (set-of bs) (rule-of (getD (t .rules) i zero-rule)) ≡ false)
         → Running s from k b bs fired → Running s from (k + 1) b bs fired
     run-over s from k i b bs fired at h off p = rw (add-one k) (record {
@@ -140,10 +160,21 @@ module _ (t : Table) (S : List ℕ) (slip : List Bool) (positions : List ℕ) wh
             let u = p .flagged i (omega (arith, fits .rules-fit)) ∙ is-false (names (p .done) (suc i)) (r .unfired) in
             rw (rule-at-is t i h, ← (p .stands), off u) at (r .enabled-then)
 
+    -- So is one that was woken, or the next of the stratum.
+    pub run-turn : (s from k left : ℕ) (woken : List ℕ) (b : Bool) (bs fired : List Bool) (u : Turn) → u ≡ turn-of positions k woken left
+        → (left ≡ 0 → (getD positions k 0 < t .count) × (stratum-at t (suc (getD positions k 0)) ≡ s))
+        → (stratum-at t (suc (u .rule)) ≡ s → getD fired (u .rule) false ≡ false → enabled S (set-of bs) (rule-of (getD (t .rules) (u .rule) zero-rule)) ≡ false)
+        → Running s from k b bs fired → Running s from (u .place) b bs fired
+    unfolding turn-of
+    run-turn s from k zero woken b bs fired u e at off p =
+        let i : u .rule ≡ getD positions k 0 = ap (λ (v : Turn). v .rule) e in
+        rw (ap (λ (v : Turn). v .place) e) (run-over s from k (u .rule) b bs fired i (rw i (at refl .0)) (off (rw i (at refl .1))) p)
+    run-turn s from k (suc left) woken b bs fired u e at off p = rw (ap (λ (v : Turn). v .place) e) p
+
     -- Where the stratum's last pass fired nothing, what is ready stands higher.
-    pub run-higher : (starts : List ℕ) → Sorts t positions starts → (s k : ℕ) (b : Bool) (bs fired : List Bool) → s < 256 → getD starts (s + 1) 0 ≤ k → b ≡ false
-        → Running s (getD starts s 0) k b bs fired → Running (s + 1) 0 0 true bs fired
-    run-higher starts sorts s k b bs fired small past e p = record {
+    pub run-higher : (starts : List ℕ) → Sorts t positions starts → (s from k : ℕ) (b : Bool) (bs fired : List Bool) → from ≡ getD starts s 0 → getD starts (s + 1) 0 ≤ k → b ≡ false
+        → Running s from k b bs fired → Running (s + 1) 0 0 true bs fired
+    run-higher starts sorts s from k b bs fired begins past e p = record {
       done = p .done;
       reached = p .reached;
       low = λ m r. higher m r;
@@ -158,18 +189,18 @@ module _ (t : Table) (S : List ℕ) (slip : List Bool) (positions : List ℕ) wh
         none-here zero r q = omega (arith, r .rule .first)
         none-here (suc m) r q =
             let w = sorts .has m (omega (arith, r .rule .last, count-of t fits sh)) in
-            p .passed e (w .0) (rw (← q) at (w .1)) (omega (arith, rw (← q) at (w .2), rw (add-one s) at past)) (rw (w .3) r)
+            p .passed e (w .0) (rw begins (rw (← q) at (w .1))) (omega (arith, rw (← q) at (w .2), rw (add-one s) at past)) (rw (w .3) r)
 
         higher : (m : ℕ) → Ready (rules-of t) S (pairs-of slip) (p .done) m → s + 1 ≤ stratum-at t m
         higher m r = ⊎-elim (λ q. absurd (none-here m r q)) (λ (l : s < stratum-at t m). omega arith) (eq-or-lt-of-le (p .low m r))
 
     module _ (G : Grading) (strata : Strata G (rules-of t) (stratum-at t)) where
       -- An unfired rule of the stratum that is enabled fires.
-      pub run-fire : (s from k i : ℕ) (b : Bool) (bs fired : List Bool) → i < t .count → stratum-at t (suc i) ≡ s → getD fired i false ≡ false
+      pub run-fire : (s from k k′ i : ℕ) (b : Bool) (bs fired : List Bool) → i < t .count → stratum-at t (suc i) ≡ s → getD fired i false ≡ false
           → enabled S (set-of bs) (rule-of (getD (t .rules) i zero-rule)) ≡ true
-          → Running s from k b bs fired → Running s from (k + 1) true (add-pairs (assignments-of (getD (t .rules) i zero-rule)) bs) (set fired i true)
+          → Running s from k b bs fired → Running s from k′ true (add-pairs (assignments-of (getD (t .rules) i zero-rule)) bs) (set fired i true)
       unfolding changes names _∨ᵇ_
-      run-fire s from k i b bs fired h st un en p = record {
+      run-fire s from k k′ i b bs fired h st un en p = record {
         done = suc i ∷ p .done;
         reached = fires .0;
         low = fires .1;
@@ -191,17 +222,17 @@ module _ (t : Table) (S : List ℕ) (slip : List Bool) (positions : List ℕ) wh
                 enabled-then = rw (rule-at-is t i h, ← (p .stands)) (from-true _ en);
               }) st
 
-      -- Past the last stratum the arrays are those of the response by the numbers carried.
-      pub run-end : (s from k : ℕ) (b : Bool) (bs fired : List Bool) → 256 ≤ s → Running s from k b bs fired → _≡_ {A = Firing} (record { changes = bs; fired = fired }) (carried-firing t S slip)
+      -- Past the last stratum that has rules the arrays are those of the response by the numbers carried.
+      pub run-end : (starts : List ℕ) (sorts : Sorts t positions starts) (s from k : ℕ) (b : Bool) (bs fired : List Bool) → s ≤ sorts .top → t .count ≤ getD starts s 0 → Running s from k b bs fired → _≡_ {A = FiredFlags} (record { changes = bs; fired = fired }) (carried-firing t S slip)
       unfolding carried-firing fired-in
-      run-end s from k b bs fired past p = λ j. record { changes = left j; fired = right j }
+      run-end starts sorts s from k b bs fired small past p = λ j. record { changes = left j; fired = right j }
         where
           order : List ℕ
           order = response-by (rules-of t) S (pairs-of slip) (stratum-at t)
 
           top : (m : ℕ) → Numbered (length (rules-of t)) m → stratum-at t m < s
           top zero i = absurd (omega (arith, i .first))
-          top (suc m) i = omega (arith, stratum-small t fits sh m (omega (arith, i .last, count-of t fits sh)))
+          top (suc m) i = sorts .past s m small past (omega (arith, i .last, count-of t fits sh))
 
           ended : (names (p .done) ≡ names order) × (changes (rules-of t) (pairs-of slip) (p .done) ≡ changes (rules-of t) (pairs-of slip) order)
           ended = loop-end G (rules-of t) (stratum-at t) strata S (pairs-of slip) (p .done) (p .reached)

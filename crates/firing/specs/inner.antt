@@ -1,2 +1,4 @@
 pub mod Firing
 pub mod Sorting
+pub mod Truth
+pub mod Waiting

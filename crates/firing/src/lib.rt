@@ -1,69 +1,135 @@
-// The rules of a table fired stratum by stratum.
+// The rules of rows fired stratum by stratum.
 pub mod order;
+pub mod truth;
+pub mod waiting;
 
 ghost use mathlib.Core.Path.{_≡_};
+ghost use mathlib.Core.Bool.{false};
+ghost use mathlib.Core.List.{List};
+ghost use Prim.Native.Nat.{ℕ, _≤_, _<_};
+ghost use lib.ListN.{length, getD, replicate};
+ghost use Rattle.laws.specs.Limits.{slot-limit, row, rule-limit};
+ghost use Rattle.table.specs.Link.{assignments-of};
+ghost use Rattle.table.specs.inner.Flat.{pair-places, add-pairs};
+ghost use Rattle.rows.specs.inner.Rows.{rule-in, table-in, RowFits, RowsFit};
 ghost use Rattle.firing.specs.inner.Firing.{CanFire, table-firing};
+ghost use Rattle.firing.specs.inner.Truth.{Truth};
+ghost use Rattle.firing.specs.inner.Waiting.{Waiting, Woken};
+use rows::NUMBERS;
+use rows::wide;
 use table::PAIRS;
 use table::RULES;
 use table::SLOTS;
-use table::Table;
+use truth::WITHOUT_NOT;
+use truth::is_true;
+use truth::truth_of;
+use waiting::next_rule;
+use waiting::wait;
+use waiting::wake;
 
-// The changes, indexed by pair, and which rules fired, rule 1 first.
-pub struct Firing {
-    pub changes: [bool; PAIRS],
-    pub fired: [bool; RULES],
+// Adds what a rule assigns to the changes, and wakes the rules that wait for it; how many are woken then.
+fn assign(
+    assigning: &[u16; NUMBERS],
+    n: usize,
+    changes: &mut [bool; PAIRS],
+    truth: &mut [bool; WITHOUT_NOT],
+    heads: &mut [u16; PAIRS],
+    nexts: &[u16; RULES],
+    woken: &mut [u16; RULES],
+    left: usize,
+) -> usize
+    requires { ⌜ RowFits (now assigning) × (length (now changes) ≡ pair-places) × (n ≤ rule-limit) × Waiting n (now heads) (now nexts) × Woken n left (now woken) ⌝ }
+    ensures { λ r. ⌜ (now (changes .exit) ≡ add-pairs (assignments-of (rule-in (now (assigning .entry)))) (now (changes .entry)))
+        × ((S : List ℕ) → Truth S (now (changes .entry)) (now (truth .entry)) → Truth S (now (changes .exit)) (now (truth .exit)))
+        × Waiting n (now (heads .exit)) (now (nexts .entry)) × Woken n r (now (woken .exit)) ⌝ }
+{
+    let mut top = left;
+    let m = rows::assigned(assigning);
+    let mut k: usize = 0;
+    while k < m {
+        let number = rows::assignment(assigning, k);
+        let p = rows::place(number);
+        changes[p] = true;
+        let had = truth[p];
+        truth[PAIRS + p] = !had;
+        top = wake(p, n, heads, nexts, woken, top);
+        k += 1;
+    }
+    top
 }
 
 // Fires the rules stratum by stratum, in passes over the rules of a stratum until one fires nothing: a plain test may wait for another rule of its own stratum.
 // A rule is passed over at its first false literal. The passes end: each fires a rule, and none fires twice, or is the last of its stratum.
-pub fn fire(t: Table, card: &[u8; SLOTS], slip: [bool; PAIRS]) -> Firing
-    requires { ⌜ CanFire t ⌝ }
-    ensures { λ r. ⌜ r ≡ table-firing t (now (card .entry)) slip ⌝ }
+pub fn fire(
+    rows: &[[u16; NUMBERS]; RULES],
+    n: usize,
+    card: &[u8; SLOTS],
+    changes: &mut [bool; PAIRS],
+    fired: &mut [bool; RULES],
+)
+    requires { ⌜ RowsFit (now rows) n × CanFire (table-in (now rows) n) × ((s : ℕ) → s < slot-limit → getD (now card) s 0 < row)
+        × (length (now changes) ≡ pair-places) × (now fired ≡ replicate rule-limit false) ⌝ }
+    ensures { λ _. ⌜ (now (changes .exit) ≡ table-firing (table-in (now (rows .entry)) n) (now (card .entry)) (now (changes .entry)) .changes)
+        × (now (fired .exit) ≡ table-firing (table-in (now (rows .entry)) n) (now (card .entry)) (now (changes .entry)) .fired) ⌝ }
 {
-    let n = t.count;
-    let strata = order::strata_of(t);
+    let strata = order::strata_of(rows, n);
     let sorted = order::sort(&strata, n);
     let positions = sorted.positions;
     let starts = sorted.starts;
-    let mut changes = slip;
-    let mut fired = [false; RULES];
+    let mut truth = truth_of(card, changes);
+    let mut heads: [u16; PAIRS] = [0; PAIRS];
+    let mut nexts: [u16; RULES] = [0; RULES];
+    let mut woken: [u16; RULES] = [0; RULES];
+    let mut first = true;
     let mut stratum: usize = 0;
-    'passes: while stratum < order::STRATA {
-        let to = starts[stratum + 1];
-        let mut k = starts[stratum];
+    'passes: while wide(starts[stratum]) < n {
+        let to = wide(starts[stratum + 1]);
+        let mut k = wide(starts[stratum]);
+        let mut left: usize = 0;
         let mut moved = false;
-        'rules: while k < to {
-            let i = positions[k];
-            k += 1;
+        'rules: while k < to + left {
+            let turn = next_rule(&positions, k, &woken, left);
+            let i = turn.rule;
+            k = turn.place;
+            left = turn.left;
             if fired[i] {
                 continue 'rules;
             }
-            let r = t.rules[i];
-            let slot = r.slot;
-            let value = r.value;
-            if !literals::became(slot, value, card, &changes) {
+            if wide(rows::stratum(&rows[i])) != stratum {
                 continue 'rules;
             }
-            let m = r.tested;
+            let trigger = rows::trigger(&rows[i]);
+            if !is_true(trigger, &truth) {
+                wait(first, trigger, i, &mut heads, &mut nexts);
+                continue 'rules;
+            }
+            let m = rows::tested(&rows[i]);
             let mut j: usize = 0;
             'literals: while j < m {
-                let l = r.literals[j];
-                if !literals::holds(l, card, &changes) {
+                let number = rows::literal(&rows[i], j);
+                if !is_true(number, &truth) {
+                    wait(first, number, i, &mut heads, &mut nexts);
                     continue 'rules;
                 }
                 j += 1;
             }
-            literals::assign(r, &mut changes);
+            left = assign(
+                &rows[i],
+                n,
+                changes,
+                &mut truth,
+                &mut heads,
+                &nexts,
+                &mut woken,
+                left,
+            );
             fired[i] = true;
             moved = true;
         }
+        first = !moved;
         if moved {
             continue 'passes;
         }
         stratum += 1;
-    }
-    Firing {
-        changes: changes,
-        fired: fired,
     }
 }

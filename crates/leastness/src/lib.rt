@@ -1,4 +1,4 @@
-// The steps of the test that a table carries the least strata, a part of 31. Strata are the least exactly where each is at least as high as it is asked, and justified:
+// The test that rows carry the least strata, a part of 31. Strata are the least exactly where each is at least as high as it is asked, and justified:
 // it is the first, or one more than that of a rule whose pair it tests under NOT, or level with that of a justified rule whose pair it needs.
 // In time that grows with the rules and their literals: a pair is flagged once, and a place where a pair is needed is looked at once.
 ghost use mathlib.Core.Path.{_≡_};
@@ -8,38 +8,37 @@ ghost use Rattle.model.specs.Strata.{needed, barred};
 ghost use Rattle.laws.specs.Limits.{rule-limit};
 ghost use Rattle.table.specs.inner.Flat.{pair-places};
 ghost use Rattle.table.specs.Link.{rule-of, assignments-of};
-ghost use Rattle.table.specs.inner.Fits.{RuleFits};
+ghost use Rattle.rows.specs.inner.Rows.{rule-in, table-in, RowFits, RowsFit};
 ghost use Rattle.strata.specs.inner.Heights.{Small};
+ghost use Rattle.leastness.specs.CarriesLeast.{carries-least};
 ghost use Rattle.leastness.specs.inner.OneBelow.{one-below};
 ghost use Rattle.leastness.specs.inner.Chains.{needs-places, head-at, nexts-at, heads-with, nexts-with};
 ghost use Rattle.leastness.specs.inner.Flagging.{flagging, Room, flag-all};
+use rows::NUMBERS;
 use table::LITERALS;
 use table::PAIRS;
 use table::RULES;
-use table::Rule;
 
 // The places where a rule can need a pair: its trigger and its literals.
-pub const EACH: usize = LITERALS + 1;
+const EACH: usize = LITERALS + 1;
 
 // The places of all rules.
-pub const NEEDS: usize = RULES * EACH;
+const NEEDS: usize = RULES * EACH;
 
 // Whether a pair that a rule tests under NOT has a number one below s.
-pub fn one_below(r: Rule, s: usize, high: &[usize; PAIRS]) -> bool
-    requires { ⌜ RuleFits r × Small (now high) ⌝ }
-    ensures { λ b. ⌜ b ≡ one-below (now (high .entry)) s (barred (rule-of r)) ⌝ }
+fn one_below(row: &[u16; NUMBERS], s: u16, high: &[u16; PAIRS]) -> bool
+    requires { ⌜ RowFits (now row) × Small (now high) ⌝ }
+    ensures { λ b. ⌜ b ≡ one-below (now (high .entry)) s (barred (rule-of (rule-in (now (row .entry))))) ⌝ }
 {
-    let m = r.tested;
+    let m = rows::tested(row);
     let mut j: usize = 0;
     'literals: while j < m {
-        let l = r.literals[j];
+        let x = rows::literal(row, j);
         j += 1;
-        if !table::is_under_not(l) {
+        if !rows::is_under_not(x) {
             continue 'literals;
         }
-        let a = l.slot;
-        let v = l.value;
-        let k = table::place(a, v);
+        let k = rows::place(x);
         let h = high[k];
         if h + 1 == s {
             return true;
@@ -52,8 +51,8 @@ pub fn one_below(r: Rule, s: usize, high: &[usize; PAIRS]) -> bool
 fn chain(
     k: usize,
     o: usize,
-    s: usize,
-    high: &[usize; PAIRS],
+    s: u16,
+    high: &[u16; PAIRS],
     heads: &mut [u16; PAIRS],
     nexts: &mut [u16; NEEDS],
 )
@@ -69,61 +68,56 @@ fn chain(
 }
 
 // Chains the places of rule i, from 0, to the pairs of number s that it needs.
-pub fn chain_needed(
-    r: Rule,
+fn chain_needed(
+    row: &[u16; NUMBERS],
     i: usize,
-    s: usize,
-    high: &[usize; PAIRS],
+    s: u16,
+    high: &[u16; PAIRS],
     heads: &mut [u16; PAIRS],
     nexts: &mut [u16; NEEDS],
 )
-    requires { ⌜ RuleFits r × (i < rule-limit) ⌝ }
-    ensures { λ _. ⌜ (now (heads .exit) ≡ heads-with (now (high .entry)) s (needed (rule-of r)) (i * 9) (now (heads .entry)))
-        × (now (nexts .exit) ≡ nexts-with (now (high .entry)) s (needed (rule-of r)) (i * 9) (now (heads .entry)) (now (nexts .entry))) ⌝ }
+    requires { ⌜ RowFits (now row) × (i < rule-limit) ⌝ }
+    ensures { λ _. ⌜ (now (heads .exit) ≡ heads-with (now (high .entry)) s (needed (rule-of (rule-in (now (row .entry))))) (i * 9) (now (heads .entry)))
+        × (now (nexts .exit) ≡ nexts-with (now (high .entry)) s (needed (rule-of (rule-in (now (row .entry))))) (i * 9) (now (heads .entry)) (now (nexts .entry))) ⌝ }
 {
-    let slot = r.slot;
-    let value = r.value;
-    let at = table::place(slot, value);
+    let t = rows::trigger(row);
+    let at = rows::place(t);
     let first = i * EACH;
     chain(at, first, s, high, heads, nexts);
     let mut o = first + 1;
-    let m = r.tested;
+    let m = rows::tested(row);
     let mut j: usize = 0;
     'literals: while j < m {
-        let l = r.literals[j];
+        let x = rows::literal(row, j);
         j += 1;
-        if !table::is_plain(l) {
+        if !rows::is_plain(x) {
             continue 'literals;
         }
-        let a = l.slot;
-        let v = l.value;
-        let k = table::place(a, v);
+        let k = rows::place(x);
         chain(k, o, s, high, heads, nexts);
         o += 1;
     }
 }
 
 // Flags the pairs of number s that a rule assigns, and puts those that were not flagged behind the first `top` of the queue; how many stand there then.
-pub fn flag_assigned(
-    r: Rule,
-    s: usize,
-    high: &[usize; PAIRS],
+fn flag_assigned(
+    row: &[u16; NUMBERS],
+    s: u16,
+    high: &[u16; PAIRS],
     flags: &mut [bool; PAIRS],
-    queue: &mut [usize; PAIRS],
+    queue: &mut [u16; PAIRS],
     top: usize,
 ) -> usize
-    requires { ⌜ RuleFits r × Room (now flags) top ⌝ }
-    ensures { λ n. ⌜ flagging (now (flags .exit)) (now (queue .exit)) n ≡ flag-all (now (high .entry)) s (assignments-of r) (flagging (now (flags .entry)) (now (queue .entry)) top) ⌝ }
+    requires { ⌜ RowFits (now row) × Room (now flags) top ⌝ }
+    ensures { λ n. ⌜ flagging (now (flags .exit)) (now (queue .exit)) n ≡ flag-all (now (high .entry)) s (assignments-of (rule-in (now (row .entry)))) (flagging (now (flags .entry)) (now (queue .entry)) top) ⌝ }
 {
-    let m = r.assigned;
+    let m = rows::assigned(row);
     let mut n = top;
     let mut k: usize = 0;
     'pairs: while k < m {
-        let a = r.assignments[k];
+        let x = rows::assignment(row, k);
         k += 1;
-        let slot = a.slot;
-        let value = a.value;
-        let p = table::place(slot, value);
+        let p = rows::place(x);
         if high[p] != s {
             continue 'pairs;
         }
@@ -131,14 +125,14 @@ pub fn flag_assigned(
             continue 'pairs;
         }
         flags[p] = true;
-        queue[n] = p;
+        queue[n] = p as u16;
         n += 1;
     }
     n
 }
 
 // Whether the first n rules are held.
-pub fn all_held(held: &[bool; RULES], n: usize) -> bool
+fn all_held(held: &[bool; RULES], n: usize) -> bool
     requires { ⌜ n ≤ rule-limit ⌝ }
     ensures { λ b. ⌜ b ≡ all-set (now (held .entry)) n ⌝ }
 {
@@ -150,4 +144,63 @@ pub fn all_held(held: &[bool; RULES], n: usize) -> bool
         j += 1;
     }
     true
+}
+
+// Whether rows carry the least strata: each stratum is at least as high as it is asked, and each rule is held once its number is
+// found justified, by itself or from the queue of pairs that a held rule assigns at their highest number.
+pub fn is_least(rows: &[[u16; NUMBERS]; RULES], n: usize) -> bool
+    requires { ⌜ RowsFit (now rows) n ⌝ }
+    ensures { λ b. ⌜ b ≡ carries-least (table-in (now (rows .entry)) n) ⌝ }
+{
+    let mut high: [u16; PAIRS] = [0; PAIRS];
+    let mut i: usize = 0;
+    'gather: while i < n {
+        let s = rows::stratum(&rows[i]);
+        strata::least::raise(&rows[i], s, &mut high);
+        i += 1;
+    }
+    let mut held: [bool; RULES] = [false; RULES];
+    let mut flags: [bool; PAIRS] = [false; PAIRS];
+    let mut queue: [u16; PAIRS] = [0; PAIRS];
+    let mut top: usize = 0;
+    let mut heads: [u16; PAIRS] = [0; PAIRS];
+    let mut nexts: [u16; NEEDS] = [0; NEEDS];
+    let mut k: usize = 0;
+    'ask: while k < n {
+        let s = rows::stratum(&rows[k]);
+        let h = strata::least::asked(&rows[k], &high);
+        if s < h {
+            return false;
+        }
+        let e = k;
+        k += 1;
+        if s <= 1 {
+            held[e] = true;
+            continue 'ask;
+        }
+        if one_below(&rows[e], s, &high) {
+            held[e] = true;
+            top = flag_assigned(&rows[e], s, &high, &mut flags, &mut queue, top);
+            continue 'ask;
+        }
+        chain_needed(&rows[e], e, s, &high, &mut heads, &mut nexts);
+    }
+    let mut at: usize = 0;
+    'work: while at < top {
+        let p = rows::wide(queue[at]);
+        at += 1;
+        let mut x = heads[p];
+        'chain: while 0 < x {
+            let o = (x - 1) as usize;
+            x = nexts[o];
+            let m = o / EACH;
+            if held[m] {
+                continue 'chain;
+            }
+            held[m] = true;
+            let s = rows::stratum(&rows[m]);
+            top = flag_assigned(&rows[m], s, &high, &mut flags, &mut queue, top);
+        }
+    }
+    all_held(&held, n)
 }

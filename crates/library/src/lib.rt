@@ -2,7 +2,7 @@
 ghost use mathlib.Core.Path.{_≡_};
 ghost use lib.ListN.{length};
 ghost use Rattle.laws.specs.Answers.{output-of};
-ghost use Rattle.names.specs.Names.{show-name, show-slot, show-value};
+ghost use Rattle.names.specs.Names.{show-name, show-slot, show-value-of, show-value};
 ghost use Rattle.soundness.specs.Sound.{sound};
 ghost use Rattle.rule_file.specs.Whole.{reading};
 ghost use Rattle.printing.specs.Printing.{print-into, printing-of};
@@ -15,6 +15,7 @@ use cards::Slip;
 use printing::Printing;
 use response::Outcome;
 use table::Name;
+use table::Slot;
 use table::Table;
 use tally::Tally;
 
@@ -146,8 +147,8 @@ pub extern "C" fn rl_is_sound(t: Table) -> bool
 fn name_place(text: &[u8], name: Name) -> RlName
     ensures { λ r. ⌜ r ≡ name-numbers (show-name (now (text .entry)) name) ⌝ }
 {
-    let start = name.start;
-    let size = name.size;
+    let start = name.start as usize;
+    let size = name.size as usize;
     let length = text.len();
     if start <= length {
         if size <= length - start {
@@ -170,7 +171,7 @@ fn name_place(text: &[u8], name: Name) -> RlName
 pub extern "C" fn rl_slot_name(text: &[u8], t: Table, slot: usize) -> RlName
     ensures { λ r. ⌜ r ≡ name-numbers (show-slot (now (text .entry)) t slot) ⌝ }
 {
-    let width = t.width;
+    let width = t.width as usize;
     if !names::has_slot(width, slot) {
         return RlName {
             number: 31,
@@ -183,21 +184,11 @@ pub extern "C" fn rl_slot_name(text: &[u8], t: Table, slot: usize) -> RlName
     name_place(text, name)
 }
 
-// Where the name of a value of a slot stands in the text, values counted from 1, or 31.
-#[no_mangle]
-pub extern "C" fn rl_value_name(text: &[u8], t: Table, slot: usize, value: usize) -> RlName
-    ensures { λ r. ⌜ r ≡ name-numbers (show-value (now (text .entry)) t slot value) ⌝ }
+// Where the name of a value of this slot stands in the text, values counted from 1, or 31.
+fn value_place(text: &[u8], s: Slot, value: usize) -> RlName
+    ensures { λ r. ⌜ r ≡ name-numbers (show-value-of (now (text .entry)) s value) ⌝ }
 {
-    let width = t.width;
-    if !names::has_slot(width, slot) {
-        return RlName {
-            number: 31,
-            start: 0,
-            size: 0,
-        };
-    }
-    let s = t.slots[slot];
-    let count = s.count;
+    let count = s.count as usize;
     if !names::has_value(count, value) {
         return RlName {
             number: 31,
@@ -208,6 +199,23 @@ pub extern "C" fn rl_value_name(text: &[u8], t: Table, slot: usize, value: usize
     let k = value - 1;
     let name = s.values[k];
     name_place(text, name)
+}
+
+// Where the name of a value of a slot stands in the text, values counted from 1, or 31.
+#[no_mangle]
+pub extern "C" fn rl_value_name(text: &[u8], t: Table, slot: usize, value: usize) -> RlName
+    ensures { λ r. ⌜ r ≡ name-numbers (show-value (now (text .entry)) t slot value) ⌝ }
+{
+    let width = t.width as usize;
+    if !names::has_slot(width, slot) {
+        return RlName {
+            number: 31,
+            start: 0,
+            size: 0,
+        };
+    }
+    let s = t.slots[slot];
+    value_place(text, s, value)
 }
 
 // Unpacks bytes as a card: 31, 20 to 23.

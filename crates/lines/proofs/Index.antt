@@ -19,37 +19,54 @@ use Rattle.table.specs.Zero.{zero-name}
 use Rattle.laws.proofs.Lists.{map-append}
 use Rattle.laws.proofs.Truth.{le-or-lt}
 use Rattle.steps.specs.inner.Places.{name-past, Named-lies}
-use Rattle.steps.specs.inner.Spans.{span, Span-lies, Listed}
+use Rattle.steps.specs.inner.Spans.{key-of, keyed, span, span-start, Span-lies, Listed}
 use Rattle.lines.specs.inner.Index.{span-name, span-names, span-slot, Spanned, row-of, Indexed, stretch-at, slot-by}
 use Rattle.grammar.specs.TableFor.{name-for, slot-for}
 use Rattle.lines.specs.inner.Lines.{Remainder, Declared-lies, Values-lie}
 use Rattle.steps.specs.declared.step.Named.the-variants as named
 use Rattle.lines.specs.declared.Declared.the-variants as declared
 
--- A span's place and length.
-span-start : (start size : ℕ) → size < 32 → span start size / 32 ≡ start
-span-start start size h = omega arith
+-- A span's key, place and length.
+pub start-of : (key start size : ℕ) → size < 32 → start * 32 + size < keyed → span-start (span key start size) ≡ start
+start-of key start size h k = omega arith
 
-span-size : (start size : ℕ) → size < 32 → span start size % 32 ≡ size
-span-size start size h = omega arith
+pub size-of : (key start size : ℕ) → size < 32 → span key start size % 32 ≡ size
+size-of key start size h = omega arith
 
--- A name of the remainder, by its span in the text.
-pub span-past : (text rest : List ℕ) (base at start size next : ℕ) → Remainder text rest base → Named-lies (length rest) at (named.At start size next)
-    → name-past rest base start size ≡ span-name text (span (base + start) size)
-span-past text rest base at start size next R l =
-    let s : size < 32 = omega (arith, l .3) in
-    rw (span-start (base + start) size s, span-size (base + start) size s, R .begins, drop-drop start base text)
+pub key-at : (key start size : ℕ) → start * 32 + size < keyed → span key start size / keyed ≡ key
+key-at key start size h = omega arith
 
--- It ends within the text.
+-- A name of the remainder ends within the text.
 pub past-ends : (text rest : List ℕ) (base at start size next : ℕ) → Remainder text rest base → Named-lies (length rest) at (named.At start size next) → base + start + size ≤ length text
 past-ends text rest base at start size next R l = omega (arith, l .1, l .2, l .4, ap length (R .begins) ∙ length-drop base text)
 
--- So its span lies in the text.
-pub past-lies : (text rest : List ℕ) (base at start size next : ℕ) → Remainder text rest base → Named-lies (length rest) at (named.At start size next)
-    → Declared-lies text (length rest) at (declared.At (span (base + start) size) next)
-past-lies text rest base at start size next R l =
+-- So its place and length are below a key.
+past-below : (text rest : List ℕ) (base at start size next : ℕ) → Remainder text rest base → Named-lies (length rest) at (named.At start size next) → (base + start) * 32 + size < keyed
+past-below text rest base at start size next R l = omega (arith, past-ends text rest base at start size next R l, R .short)
+
+-- It is the name at its span in the text.
+pub span-past : (text rest : List ℕ) (base at start size next key : ℕ) → Remainder text rest base → Named-lies (length rest) at (named.At start size next)
+    → name-past rest base start size ≡ span-name text (span key (base + start) size)
+span-past text rest base at start size next key R l =
     let s : size < 32 = omega (arith, l .3) in
-    (omega (arith, l .2), rw (span-start (base + start) size s, span-size (base + start) size s) (past-ends text rest base at start size next R l), l .0, l .1)
+    rw (start-of key (base + start) size s (past-below text rest base at start size next R l), size-of key (base + start) size s, R .begins, drop-drop start base text)
+
+-- The span lies in the text where it has the name's key.
+pub past-lies : (text rest : List ℕ) (base at start size next key : ℕ) → Remainder text rest base → Named-lies (length rest) at (named.At start size next) → key ≡ key-of (take size (drop start rest))
+    → Declared-lies text (length rest) at (declared.At (span key (base + start) size) next)
+past-lies text rest base at start size next key R l e =
+    let s : size < 32 = omega (arith, l .3) in
+    let b = past-below text rest base at start size next R l in
+    let o = start-of key (base + start) size s b in
+    let z = size-of key (base + start) size s in (
+      omega (arith, l .2),
+      record {
+        within = rw (o, z) (past-ends text rest base at start size next R l);
+        key = key-at key (base + start) size b ∙ e ∙ ap (λ (n : Name). key-of (n .letters)) (span-past text rest base at start size next key R l);
+      },
+      l .0,
+      l .1,
+    )
 
 -- Names by their spans are names by their bytes.
 pub spanned-listed : (text ks : List ℕ) (names : List Name) → Spanned text ks names → Listed text ks (spellings names)
@@ -197,8 +214,9 @@ indexed-values {text} {slots} {slotspans} {valuespans} s I h = spanned-listed te
 -- Names and slots of the table, by their spans.
 place-name : (text : List ℕ) (k : ℕ) → Span-lies text k → stretch-at k ≡ name-for (span-name text k)
 place-name text k l =
-    let h : k % 32 ≤ length (drop (k / 32) text) = simp length-drop (omega arith) in
-    rw (length-take-le (k % 32) (drop (k / 32) text) h)
+    let w = l .within in
+    let h : k % 32 ≤ length (drop (span-start k) text) = simp length-drop (omega arith) in
+    rw (length-take-le (k % 32) (drop (span-start k) text) h)
 
 place-names : (text ks : List ℕ) (names : List Name) → Spanned text ks names → map stretch-at ks ≡ map name-for names ++ replicate (length ks - length names) zero-name
 place-names text [] [] S = refl

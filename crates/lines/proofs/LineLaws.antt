@@ -7,13 +7,13 @@ use mathlib.Core.List.{List, [], _∷_, _++_}
 use lib.ListN.{length, take, drop, set, length-drop}
 use lib.Seq.{take-all, drop-drop}
 use Rattle.text.specs.Tokens.{Name, Token, place, SLOT, OPEN, CLOSE, COMMA, SEMICOLON}
-use Rattle.laws.specs.Limits.{value-limit}
+use Rattle.laws.specs.Limits.{text-limit, value-limit}
 use Rattle.grammar.specs.Files.{Slot, spellings, slot-names}
 use Rattle.grammar.specs.Reading.{Part, took, stop, _then_, expects, a-name, new, new-name, no-value, read-list, read-values, read-line}
 use Rattle.steps.specs.inner.Places.{Choice, which, step-part, outcome-part}
 use Rattle.steps.specs.inner.Spans.{Span-lies}
 use Rattle.lines.specs.inner.Index.{span-name, span-names}
-use Rattle.lines.specs.inner.Lines.{span-limit, Remainder, read-head, Values-lie, Line-lies}
+use Rattle.lines.specs.inner.Lines.{Remainder, read-head, Values-lie, Line-lies}
 use Rattle.steps.specs.declared.step.Step.{Step}
 use Rattle.steps.specs.declared.step.Step.the-variants as step
 use Rattle.steps.proofs.Places.{follow, fork-which}
@@ -59,22 +59,18 @@ values-step text spans count k ts left c L h e w =
     let p = L .places in
     rw (names-more text spans count k (omega arith)) (values-on (value-limit - count) (value-limit - (count + 1)) (span-names text spans count) ts left (span-name text k) c (omega arith) e w)
 
--- A slot line up to its `{`.
-pub head-first : (slots : List Slot) (ts : List Token) (k : ℕ) → expects SLOT ts ≡ stop k → read-head slots ts ≡ stop k
+-- A slot line from after SLOT up to its `{`.
+pub head-name : (slots : List Slot) (ts : List Token) (k : ℕ) → new-name (slot-names slots) ts ≡ stop k → read-head slots ts ≡ stop k
 unfolding read-head _then_
-head-first slots ts k e = rw e
+head-name slots ts k e = rw e
 
-pub head-name : (slots : List Slot) (ts t1 : List Token) (k : ℕ) → expects SLOT ts ≡ took tt t1 → new-name (slot-names slots) t1 ≡ stop k → read-head slots ts ≡ stop k
+pub head-open : (slots : List Slot) (ts t1 : List Token) (n : Name) (k : ℕ) → new-name (slot-names slots) ts ≡ took n t1 → expects OPEN t1 ≡ stop k → read-head slots ts ≡ stop k
 unfolding read-head _then_
-head-name slots ts t1 k e f = rw (e, f)
+head-open slots ts t1 n k e f = rw (e, f)
 
-pub head-open : (slots : List Slot) (ts t1 t2 : List Token) (n : Name) (k : ℕ) → expects SLOT ts ≡ took tt t1 → new-name (slot-names slots) t1 ≡ took n t2 → expects OPEN t2 ≡ stop k → read-head slots ts ≡ stop k
+pub head-read : (slots : List Slot) (ts t1 t2 : List Token) (n : Name) → new-name (slot-names slots) ts ≡ took n t1 → expects OPEN t1 ≡ took tt t2 → read-head slots ts ≡ took n t2
 unfolding read-head _then_
-head-open slots ts t1 t2 n k e f g = rw (e, f, g)
-
-pub head-read : (slots : List Slot) (ts t1 t2 t3 : List Token) (n : Name) → expects SLOT ts ≡ took tt t1 → new-name (slot-names slots) t1 ≡ took n t2 → expects OPEN t2 ≡ took tt t3 → read-head slots ts ≡ took n t3
-unfolding read-head _then_
-head-read slots ts t1 t2 t3 n e f g = rw (e, f, g)
+head-read slots ts t1 t2 n e f = rw (e, f)
 
 -- What follows it.
 unfoldable values-then : Name → List Token → Part Slot
@@ -83,43 +79,38 @@ values-then n ts =
     expects SEMICOLON rest then λ u left.
     took (record { name = n; values = vs }) left
 
-line-then : (slots : List Slot) (ts : List Token) → read-line slots ts ≡ (read-head slots ts then values-then)
+line-then : (slots : List Slot) (ts begin : List Token) → expects SLOT ts ≡ took tt begin → read-line slots ts ≡ (read-head slots begin then values-then)
 unfolding read-line read-head _then_ values-then
-line-then slots ts = go (expects SLOT ts)
+line-then slots ts begin e = rw e (first (new-name (slot-names slots) begin))
   where
-    third : (m : Part (Unit {0})) (n : Name)
+    second : (m : Part (Unit {0})) (n : Name)
         → (m then λ u t3. read-values value-limit [] t3 then λ vs t4. expects SEMICOLON t4 then λ w t5. took (record { name = n; values = vs }) t5)
         ≡ ((m then λ u t3. took n t3) then values-then)
-    third (took u t3) n = refl
-    third (stop k) n = refl
+    second (took u t3) n = refl
+    second (stop k) n = refl
 
-    second : (m : Part Name)
+    first : (m : Part Name)
         → (m then λ n t2. expects OPEN t2 then λ u t3. read-values value-limit [] t3 then λ vs t4. expects SEMICOLON t4 then λ w t5. took (record { name = n; values = vs }) t5)
         ≡ ((m then λ n t2. expects OPEN t2 then λ u t3. took n t3) then values-then)
-    second (took n t2) = third (expects OPEN t2) n
-    second (stop k) = refl
+    first (took n t2) = second (expects OPEN t2) n
+    first (stop k) = refl
 
-    go : (m : Part (Unit {0}))
-        → (m then λ u t1. new-name (slot-names slots) t1 then λ n t2. expects OPEN t2 then λ w t3. read-values value-limit [] t3 then λ vs t4. expects SEMICOLON t4 then λ x t5. took (record { name = n; values = vs }) t5)
-        ≡ ((m then λ u t1. new-name (slot-names slots) t1 then λ n t2. expects OPEN t2 then λ w t3. took n t3) then values-then)
-    go (took u t1) = second (new-name (slot-names slots) t1)
-    go (stop k) = refl
-
--- A slot line: no `SLOT name {`; no values; and what stands after them.
-pub line-head : (slots : List Slot) (ts : List Token) (k : ℕ) → read-head slots ts ≡ stop k → read-line slots ts ≡ stop k
+-- A slot line after its SLOT: no `name {`; no values; and what stands after them.
+pub line-head : (slots : List Slot) (ts begin : List Token) (k : ℕ) → expects SLOT ts ≡ took tt begin → read-head slots begin ≡ stop k → read-line slots ts ≡ stop k
 unfolding _then_
-line-head slots ts k e = line-then slots ts ∙ rw e
+line-head slots ts begin k w e = line-then slots ts begin w ∙ rw e
 
-pub line-values : (slots : List Slot) (ts left : List Token) (n : Name) (k : ℕ) → read-head slots ts ≡ took n left → read-values value-limit [] left ≡ stop k → read-line slots ts ≡ stop k
+pub line-values : (slots : List Slot) (ts begin left : List Token) (n : Name) (k : ℕ) → expects SLOT ts ≡ took tt begin → read-head slots begin ≡ took n left → read-values value-limit [] left ≡ stop k
+    → read-line slots ts ≡ stop k
 unfolding _then_ values-then
-line-values slots ts left n k e f = line-then slots ts ∙ rw (e, f)
+line-values slots ts begin left n k w e f = line-then slots ts begin w ∙ rw (e, f)
 
-pub line-end : (slots : List Slot) (ts left more : List Token) (n : Name) (vs : List Name) (rest : List ℕ) (base : ℕ) (r : Step)
-    → read-head slots ts ≡ took n left → read-values value-limit [] left ≡ took vs more → expects SEMICOLON more ≡ step-part rest base r
+pub line-end : (slots : List Slot) (ts begin left more : List Token) (n : Name) (vs : List Name) (rest : List ℕ) (base : ℕ) (r : Step)
+    → expects SLOT ts ≡ took tt begin → read-head slots begin ≡ took n left → read-values value-limit [] left ≡ took vs more → expects SEMICOLON more ≡ step-part rest base r
     → read-line slots ts ≡ outcome-part rest base (record { name = n; values = vs }) r
 unfolding _then_ values-then
-line-end slots ts left more n vs rest base (step.At next) e f g = line-then slots ts ∙ rw (e, f, g)
-line-end slots ts left more n vs rest base (step.Fault k) e f g = line-then slots ts ∙ rw (e, f, g)
+line-end slots ts begin left more n vs rest base (step.At next) w e f g = line-then slots ts begin w ∙ rw (e, f, g)
+line-end slots ts begin left more n vs rest base (step.Fault k) w e f g = line-then slots ts begin w ∙ rw (e, f, g)
 
 -- The spans of a line, whatever its outcome.
 pub line-lies : (text spans : List ℕ) (name count : ℕ) (r : Step) → 0 < name → Span-lies text name → Values-lie text spans count → Line-lies text name spans count r
@@ -127,7 +118,7 @@ line-lies text spans name count (step.At next) z l L = (z, l, L)
 line-lies text spans name count (step.Fault k) z l L = tt
 
 -- The whole text is its own remainder; and the remainder after a step.
-pub remainder-whole : (text : List ℕ) → length text ≤ span-limit → Remainder text text 0
+pub remainder-whole : (text : List ℕ) → length text ≤ text-limit → Remainder text text 0
 remainder-whole text h = record { begins = refl; short = h }
 
 pub remainder-next : (text rest : List ℕ) (base next : ℕ) → Remainder text rest base → Remainder text (take (length rest - next) (drop next rest)) (base + next)
@@ -136,5 +127,5 @@ remainder-next text rest base next R =
     record { begins = take-all (length rest - next) (drop next rest) h ∙ ap (drop next) (R .begins) ∙ drop-drop next base text; short = R .short }
 
 -- Its place is a number of the machine.
-pub remainder-place : (text rest : List ℕ) (base from next : ℕ) → Remainder text rest base → from < next → next ≤ length rest → base + next ≤ span-limit
+pub remainder-place : (text rest : List ℕ) (base from next : ℕ) → Remainder text rest base → from < next → next ≤ length rest → base + next ≤ text-limit
 remainder-place text rest base from next R h l = omega (arith, ap length (R .begins) ∙ length-drop base text, R .short)

@@ -1,24 +1,28 @@
-// Slot lines: each name declared as a span of the text, a place times 32 and a length.
+// Slot lines: each name declared as a span of the text: its key, its place times 32, and its length.
 ghost use mathlib.Core.Path.{_≡_};
 ghost use mathlib.Core.List.{List, []};
-ghost use Prim.Native.Nat.{_+_, _*_, _<_};
+ghost use Prim.Native.Nat.{_+_, _*_, _≤_, _<_};
 ghost use lib.ListN.{length, set};
 ghost use lib.Seq.{sets};
-ghost use Rattle.text.specs.Tokens.{Name};
+ghost use Rattle.classes.specs.Classes.{Classes};
+ghost use Rattle.text.specs.Tokens.{Name, Token, SLOT};
 ghost use Rattle.laws.specs.Limits.{value-limit, slot-limit, row};
 ghost use Rattle.grammar.specs.Files.{Slot, spellings, slot-names};
-ghost use Rattle.grammar.specs.Reading.{new-name, read-values, read-line};
+ghost use Rattle.grammar.specs.Reading.{took, expects, new-name, read-values, read-line};
 ghost use Rattle.steps.specs.inner.Places.{tokens-past, Step-lies, outcome-part};
 ghost use Rattle.steps.specs.inner.Spans.{Listed};
 ghost use Rattle.lines.specs.inner.Index.{span-names, span-slot, stretch-at, slot-by};
 ghost use Rattle.lines.specs.inner.Lines.{Remainder, read-head, declared-part, Declared-lies, Values-lie, Line-lies};
-use steps::names::find;
+use steps::lookup::KEYED;
+use steps::lookup::find;
+use steps::lookup::key_of;
 use steps::step::Fork;
 use steps::step::Named;
 use steps::step::Step;
 use steps::step::fork_next;
 use steps::step::name_next;
 use steps::step::word_next;
+use table::Offset;
 use table::PAIRS;
 use table::ROW;
 use table::SLOTS;
@@ -27,7 +31,6 @@ use text::CLOSE;
 use text::COMMA;
 use text::OPEN;
 use text::SEMICOLON;
-use text::SLOT;
 
 // The span of a name to be declared, and the position after it or after what stands behind it; or a refusal.
 pub enum Declared {
@@ -51,18 +54,26 @@ pub struct Line {
 }
 
 // A name to be declared must stand at a position, none of those at the spans.
-pub fn new_next(text: &[u8], rest: &[u8], base: usize, spans: &[usize], at: usize) -> Declared
-    requires { ⌜ Remainder (now text) (now rest) base ⌝ }
+pub fn new_next(
+    text: &[u8],
+    rest: &[u8],
+    classes: &[u8; 256],
+    base: usize,
+    spans: &[usize],
+    at: usize,
+) -> Declared
+    requires { ⌜ Classes (now classes) × Remainder (now text) (now rest) base ⌝ }
     ensures { λ r. ⌜ ((names : List Name) → Listed (now (text .entry)) (now (spans .entry)) (spellings names)
         → new-name names (tokens-past (now (rest .entry)) base at) ≡ declared-part (now (text .entry)) (now (rest .entry)) base r) × Declared-lies (now (text .entry)) (length (now (rest .entry))) at r ⌝ }
 {
-    let named = name_next(rest, at);
+    let named = name_next(rest, classes, at);
     match named {
         Named::At(start, size, next) => {
             let end = start + size;
             let place = find(text, spans, &rest[start..end]);
             if place == 0 {
-                return Declared::At((base + start) * 32 + size, next);
+                let key = key_of(&rest[start..end]);
+                return Declared::At(key * KEYED + (base + start) * 32 + size, next);
             }
             Declared::Fault(14)
         }
@@ -71,8 +82,14 @@ pub fn new_next(text: &[u8], rest: &[u8], base: usize, spans: &[usize], at: usiz
 }
 
 // The names of a slot's values, from after `{` to after `}`.
-pub fn values_next(text: &[u8], rest: &[u8], base: usize, start: usize) -> Values
-    requires { ⌜ Remainder (now text) (now rest) base ⌝ }
+pub fn values_next(
+    text: &[u8],
+    rest: &[u8],
+    classes: &[u8; 256],
+    base: usize,
+    start: usize,
+) -> Values
+    requires { ⌜ Classes (now classes) × Remainder (now text) (now rest) base ⌝ }
     ensures { λ r. ⌜ (read-values value-limit [] (tokens-past (now (rest .entry)) base start) ≡ outcome-part (now (rest .entry)) base (span-names (now (text .entry)) (r .spans) (r .count)) (r .outcome))
         × Step-lies (length (now (rest .entry))) start (r .outcome) × Values-lie (now (text .entry)) (r .spans) (r .count) ⌝ }
 {
@@ -80,7 +97,7 @@ pub fn values_next(text: &[u8], rest: &[u8], base: usize, start: usize) -> Value
     let mut count: usize = 0;
     let mut at = start;
     loop {
-        let declared = new_next(text, rest, base, &spans, at);
+        let declared = new_next(text, rest, classes, base, &spans, at);
         match declared {
             Declared::At(span, next) => {
                 if VALUES <= count {
@@ -92,7 +109,7 @@ pub fn values_next(text: &[u8], rest: &[u8], base: usize, start: usize) -> Value
                 }
                 spans[count] = span;
                 count += 1;
-                let fork = fork_next(rest, next, COMMA, CLOSE);
+                let fork = fork_next(rest, classes, next, COMMA, CLOSE);
                 match fork {
                     Fork::First(after) => {
                         at = after;
@@ -124,60 +141,56 @@ pub fn values_next(text: &[u8], rest: &[u8], base: usize, start: usize) -> Value
     }
 }
 
-// A slot line from SLOT to after `{`.
+// A slot line from after SLOT to after `{`.
 pub fn head_next(
     text: &[u8],
     rest: &[u8],
+    classes: &[u8; 256],
     base: usize,
     slotspans: &[usize; SLOTS],
     start: usize,
 ) -> Declared
-    requires { ⌜ Remainder (now text) (now rest) base ⌝ }
+    requires { ⌜ Classes (now classes) × Remainder (now text) (now rest) base ⌝ }
     ensures { λ r. ⌜ ((slots : List Slot) → Listed (now (text .entry)) (now (slotspans .entry)) (spellings (slot-names slots))
         → read-head slots (tokens-past (now (rest .entry)) base start) ≡ declared-part (now (text .entry)) (now (rest .entry)) base r) × Declared-lies (now (text .entry)) (length (now (rest .entry))) start r ⌝ }
 {
-    let word = word_next(rest, start, SLOT);
-    match word {
-        Step::At(begin) => {
-            let declared = new_next(text, rest, base, slotspans, begin);
-            match declared {
-                Declared::At(span, next) => {
-                    let brace = word_next(rest, next, OPEN);
-                    match brace {
-                        Step::At(after) => Declared::At(span, after),
-                        Step::Fault(k) => Declared::Fault(k),
-                    }
-                }
-                Declared::Fault(k) => Declared::Fault(k),
+    let declared = new_next(text, rest, classes, base, slotspans, start);
+    match declared {
+        Declared::At(span, next) => {
+            let brace = word_next(rest, classes, next, OPEN);
+            match brace {
+                Step::At(after) => Declared::At(span, after),
+                Step::Fault(k) => Declared::Fault(k),
             }
         }
-        Step::Fault(k) => Declared::Fault(k),
+        Declared::Fault(k) => Declared::Fault(k),
     }
 }
 
-// A slot line, from SLOT to after `;`.
+// A slot line, from after SLOT to after `;`.
 pub fn line_next(
     text: &[u8],
     rest: &[u8],
+    classes: &[u8; 256],
     base: usize,
     slotspans: &[usize; SLOTS],
     start: usize,
 ) -> Line
-    requires { ⌜ Remainder (now text) (now rest) base ⌝ }
-    ensures { λ r. ⌜ ((slots : List Slot) → Listed (now (text .entry)) (now (slotspans .entry)) (spellings (slot-names slots))
-        → read-line slots (tokens-past (now (rest .entry)) base start) ≡ outcome-part (now (rest .entry)) base (span-slot (now (text .entry)) (r .name) (r .spans) (r .count)) (r .outcome))
+    requires { ⌜ Classes (now classes) × Remainder (now text) (now rest) base ⌝ }
+    ensures { λ r. ⌜ ((ts : List Token) (slots : List Slot) → expects SLOT ts ≡ took tt (tokens-past (now (rest .entry)) base start) → Listed (now (text .entry)) (now (slotspans .entry)) (spellings (slot-names slots))
+        → read-line slots ts ≡ outcome-part (now (rest .entry)) base (span-slot (now (text .entry)) (r .name) (r .spans) (r .count)) (r .outcome))
         × Step-lies (length (now (rest .entry))) start (r .outcome) × Line-lies (now (text .entry)) (r .name) (r .spans) (r .count) (r .outcome) ⌝ }
 {
-    let head = head_next(text, rest, base, slotspans, start);
+    let head = head_next(text, rest, classes, base, slotspans, start);
     match head {
         Declared::At(name, next) => {
-            let values = values_next(text, rest, base, next);
+            let values = values_next(text, rest, classes, base, next);
             let spans = values.spans;
             let count = values.count;
             let outcome = values.outcome;
             match outcome {
                 Step::At(after) => {
-                    let end = word_next(rest, after, SEMICOLON);
+                    let end = word_next(rest, classes, after, SEMICOLON);
                     Line {
                         outcome: end,
                         name: name,
@@ -207,13 +220,14 @@ pub fn name_of(span: usize) -> table::Name
     ensures { λ r. ⌜ r ≡ stretch-at span ⌝ }
 {
     table::Name {
-        start: span / 32,
-        size: span % 32,
+        start: (span % KEYED / 32) as Offset,
+        size: (span % 32) as Offset,
     }
 }
 
 // A slot of the table by the spans of its name and its values.
 pub fn slot_of(span: usize, spans: [usize; VALUES], count: usize) -> table::Slot
+    requires { ⌜ count ≤ value-limit ⌝ }
     ensures { λ r. ⌜ r ≡ slot-by span spans count ⌝ }
 {
     let none = table::Name { start: 0, size: 0 };
@@ -228,7 +242,7 @@ pub fn slot_of(span: usize, spans: [usize; VALUES], count: usize) -> table::Slot
     table::Slot {
         name: name,
         values: values,
-        count: count,
+        count: count as u16,
     }
 }
 

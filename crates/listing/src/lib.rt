@@ -95,8 +95,8 @@ fn list_response(text: &[u8], t: Table, card: &[u8], slip: &[u8], out: &mut [u8]
     let after = response.tally;
     match outcome {
         response::Outcome::Answered(length, count) => {
-            let n = bytes_for(6 + 4 * t.width);
-            let m = bytes_for(t.count);
+            let n = bytes_for(6 + 4 * t.width as usize);
+            let m = bytes_for(t.count as usize);
             return list_answer(
                 text,
                 t,

@@ -42,7 +42,7 @@ pub fn put_rules(out: &mut [u8], at: usize, t: Table, bits: &[u8]) -> usize
     requires { ⌜ (t .count ≤ rule-limit) × (at + length (rules-text 1 (fired-lines t (now bits))) ≤ longest) ⌝ }
     ensures { λ r. ⌜ Puts (now (out .entry)) at (rules-text 1 (fired-lines t (now (bits .entry)))) (now (out .exit)) r ⌝ }
 {
-    let n = t.count;
+    let n = t.count as usize;
     let mut k = at;
     let mut i: usize = 0;
     while i < n {

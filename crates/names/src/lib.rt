@@ -12,8 +12,8 @@ use table::VALUES;
 pub fn stretch<'a>(text: &'a [u8], name: Name, code: &mut u8) -> &'a [u8]
     ensures { λ r. ⌜ (now (code .exit) ≡ show-name (now (text .entry)) name .code) × (now r ≡ show-name (now (text .entry)) name .part) × (ptr r ≡ part-place (ptr (text .entry)) (show-name (now (text .entry)) name)) ⌝ }
 {
-    let start = name.start;
-    let size = name.size;
+    let start = name.start as usize;
+    let size = name.size as usize;
     let length = text.len();
     if start <= length {
         if size <= length - start {
@@ -53,7 +53,7 @@ pub fn has_value(count: usize, value: usize) -> bool
 pub fn slot_name<'a>(text: &'a [u8], t: Table, slot: usize, code: &mut u8) -> &'a [u8]
     ensures { λ r. ⌜ (now (code .exit) ≡ show-slot (now (text .entry)) t slot .code) × (now r ≡ show-slot (now (text .entry)) t slot .part) × (ptr r ≡ part-place (ptr (text .entry)) (show-slot (now (text .entry)) t slot)) ⌝ }
 {
-    let width = t.width;
+    let width = t.width as usize;
     if !has_slot(width, slot) {
         *code = 31;
         return &text[..0];
@@ -67,7 +67,7 @@ pub fn slot_name<'a>(text: &'a [u8], t: Table, slot: usize, code: &mut u8) -> &'
 pub fn value_of<'a>(text: &'a [u8], s: Slot, value: usize, code: &mut u8) -> &'a [u8]
     ensures { λ r. ⌜ (now (code .exit) ≡ show-value-of (now (text .entry)) s value .code) × (now r ≡ show-value-of (now (text .entry)) s value .part) × (ptr r ≡ part-place (ptr (text .entry)) (show-value-of (now (text .entry)) s value)) ⌝ }
 {
-    let count = s.count;
+    let count = s.count as usize;
     if !has_value(count, value) {
         *code = 31;
         return &text[..0];
@@ -87,7 +87,7 @@ pub fn value_name<'a>(
 ) -> &'a [u8]
     ensures { λ r. ⌜ (now (code .exit) ≡ show-value (now (text .entry)) t slot value .code) × (now r ≡ show-value (now (text .entry)) t slot value .part) × (ptr r ≡ part-place (ptr (text .entry)) (show-value (now (text .entry)) t slot value)) ⌝ }
 {
-    let width = t.width;
+    let width = t.width as usize;
     if !has_slot(width, slot) {
         *code = 31;
         return &text[..0];

@@ -9,12 +9,13 @@ use cards::Card;
 use cards::Outcome;
 use cards::Packing;
 use cards::Slip;
-use cards::counts_of;
 use cards::fields::bytes_for;
 use pack::check_card;
 use pack::check_slip;
 use pack::write_card;
 use pack::write_slip;
+use rows::NUMBERS;
+use table::RULES;
 use table::SLOTS;
 use table::Table;
 
@@ -22,11 +23,12 @@ use table::Table;
 pub fn pack_card(t: Table, c: Card, out: &mut [u8]) -> Packing
     ensures { λ r. ⌜ (r ≡ packing-of (packed-card t c (length (now (out .entry))))) × (now (out .exit) ≡ output-of (packed-card t c (length (now (out .entry)))) (now (out .entry))) ⌝ }
 {
-    if !soundness::is_sound(t) {
+    let mut counts: [usize; SLOTS] = [0; SLOTS];
+    let mut rows: [[u16; NUMBERS]; RULES] = [[0; NUMBERS]; RULES];
+    let width = t.width as usize;
+    if !soundness::admit(t, &mut counts, &mut rows) {
         return Packing::Refused(31, 0);
     }
-    let width = t.width;
-    let counts = counts_of(t);
     let checked = check_card(c, width, &counts);
     if let Outcome::Refused(number, second) = checked {
         return Packing::Refused(number, second);
@@ -41,15 +43,16 @@ pub fn pack_card(t: Table, c: Card, out: &mut [u8]) -> Packing
 pub fn pack_slip(t: Table, s: Slip, out: &mut [u8]) -> Packing
     ensures { λ r. ⌜ (r ≡ packing-of (packed-slip t s (length (now (out .entry))))) × (now (out .exit) ≡ output-of (packed-slip t s (length (now (out .entry)))) (now (out .entry))) ⌝ }
 {
-    if !soundness::is_sound(t) {
+    let mut counts: [usize; SLOTS] = [0; SLOTS];
+    let mut rows: [[u16; NUMBERS]; RULES] = [[0; NUMBERS]; RULES];
+    let width = t.width as usize;
+    if !soundness::admit(t, &mut counts, &mut rows) {
         return Packing::Refused(31, 0);
     }
     let m = s.count;
     if SLOTS < m {
         return Packing::Refused(24, 0);
     }
-    let width = t.width;
-    let counts = counts_of(t);
     let checked = check_slip(s, width, &counts);
     if let Outcome::Refused(number, second) = checked {
         return Packing::Refused(number, second);

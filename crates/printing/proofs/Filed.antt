@@ -1,6 +1,6 @@
 -- The table of an accepted text: it fits, and its lines by the spans of the text are the print of the text's file.
 -- Assumes nothing.
-use Prim.Native.Nat.{ℕ, zero, suc, _+_, _-_, _*_, _/_, _%_, _≤_, _<_}
+use Prim.Native.Nat.{ℕ, zero, suc, _+_, _-_, _*_, _%_, _≤_, _<_}
 use native.Mathlib.Omega.{arith}
 use mathlib.Core.Path.{_≡_, refl, sym, ap, ap₂, _∙_}
 use mathlib.Core.List.{List, [], _∷_, _++_, map}
@@ -30,6 +30,7 @@ use Rattle.strata.specs.Layered.{with-strata}
 use Rattle.soundness.specs.Sound.{sound, well-formed}
 use Rattle.leastness.specs.CarriesLeast.{carries-least}
 use Rattle.soundness.proofs.WellFormed.{well-formed-e, well-formed-fits}
+use Rattle.steps.specs.inner.Spans.{span-start}
 use Rattle.lines.specs.inner.Index.{Spanned, row-of, Indexed}
 use Rattle.grammar.specs.TableFor.{table-for}
 use Rattle.reader.specs.declared.Outcome.the-variants.{Accepted}
@@ -52,7 +53,7 @@ unfolding spelled
 spanned-at text [] [] i S h = absurd (omega arith)
 spanned-at text [] (n ∷ ns) i S h = absurd S
 spanned-at text (k ∷ ks) [] i S h = absurd (omega arith)
-spanned-at text (k ∷ ks) (n ∷ ns) zero S h = rw (le-leb (k / 32 + k % 32) (length text) (S .1)) (ap (λ (m : Name). m .letters) (S .2))
+spanned-at text (k ∷ ks) (n ∷ ns) zero S h = rw (le-leb (span-start k + k % 32) (length text) (S .1 .within)) (ap (λ (m : Name). m .letters) (S .2))
 spanned-at text (k ∷ ks) (n ∷ ns) (suc i) S h = spanned-at text ks ns i (S .3) (omega arith)
 
 -- Two ways of writing pairs that agree on the pairs of a rule write the same line.

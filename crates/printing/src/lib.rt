@@ -29,7 +29,7 @@ fn print_table(text: &[u8], t: Table, out: &mut [u8]) -> Printing
 {
     let mut slotspans: [usize; SLOTS] = [0; SLOTS];
     let mut valuespans: [usize; PAIRS] = [0; PAIRS];
-    enter_slots(t, &mut slotspans, &mut valuespans);
+    enter_slots(text, t, &mut slotspans, &mut valuespans);
     let mut nowhere: [u8; 1] = [0; 1];
     let size = put_file(&mut nowhere, text, &slotspans, &valuespans, t);
     if TEXT_LIMIT < size {

@@ -4,13 +4,13 @@ use Prim.Native.Nat.{ℕ, _+_, _*_, _-_, _≤_, _<_}
 use native.Mathlib.Omega.{arith}
 use mathlib.Core.Path.{_≡_, sym, ap, subst, _∙_}
 use mathlib.Core.List.{List, [], _∷_, _++_}
-use lib.ListN.{length, take, drop, set, replicate, length-drop}
+use lib.ListN.{length, take, drop, set, replicate, length-append, length-drop}
 use lib.Seq.{take-all, sets}
 use Rattle.text.specs.Tokens.{tokens, tokens-from}
 use Rattle.model.specs.Rules as model
 use Rattle.laws.specs.Limits.{text-limit, slot-limit, rule-limit, row}
-use Rattle.grammar.specs.Files.{Slot, File}
-use Rattle.grammar.specs.Reading.{Parsed, accepted, refused, read-tokens, read-lines}
+use Rattle.grammar.specs.Files.{Slot}
+use Rattle.grammar.specs.Reading.{read-tokens, read-lines}
 use Rattle.table.specs.inner.Flat.{pair-places}
 use Rattle.table.specs.Empty.{empty-table}
 use Rattle.table.specs.Link.{rule-of}
@@ -23,18 +23,17 @@ use Rattle.grammar.specs.TableFor.{slot-for, rule-for, table-for}
 use Rattle.lines.specs.inner.Lines.{Remainder, Values-lie}
 use Rattle.reader.specs.inner.Rules.{Plain-rule}
 use Rattle.reader.specs.inner.Statements.{read-on}
-use Rattle.reader.specs.Tables.{file-read}
-use Rattle.reader.specs.declared.Outcome.the-variants as outcome
 use Rattle.lines.proofs.Index.{indexed-none, indexed-more, slot-placed}
 use Rattle.lines.proofs.LineLaws.{remainder-whole, remainder-next}
 use Rattle.reader.proofs.TableLaws.{rule-kept, table-empty, table-slot, table-rule}
 
--- Slots and rules were read; the table and the spans hold them, and the remainder comes to what the whole text comes to.
+-- Slots and rules were read, no more than may be; the table and the spans hold them, and the remainder comes to what the whole text comes to.
 pub record Halfway (text : List ℕ) (t : Table) (slotspans valuespans rest : List ℕ) (base : ℕ) : Type 0 where
   pub slots : List Slot
   pub rules : List model.Rule
   pub remainder : Remainder text rest base
   pub indexed : Indexed text slots slotspans valuespans
+  pub few : length rules ≤ rule-limit
   pub tabled : t ≡ table-for (record { slots = slots; rules = rules })
   pub same : read-on slots rules (tokens-past rest base 0) ≡ read-tokens (tokens text)
 
@@ -45,6 +44,7 @@ halfway-start text h = record {
   rules = [];
   remainder = remainder-whole text (omega arith);
   indexed = indexed-none text;
+  few = omega arith;
   tabled = sym table-empty;
   same = ap (λ (k : ℕ). read-lines k [] (tokens-from text 0 0)) (omega arith);
 }
@@ -82,6 +82,7 @@ halfway-slot text slotspans valuespans rest spans t base name count next H h z l
       rules = H .rules;
       remainder = remainder-next text rest base next (H .remainder);
       indexed = indexed-more text slotspans valuespans spans (H .slots) (t .width) name count (H .indexed) w h z l L;
+      few = H .few;
       tabled = rw (slot-placed text spans name count l L) (slot-table (H .slots) (H .rules) t (span-slot text name spans count) (H .tabled) (omega arith));
       same = ap (read-on (H .slots ++ span-slot text name spans count ∷ []) (H .rules)) (sym (handed-on rest base next)) ∙ sym e ∙ H .same;
     }
@@ -102,16 +103,8 @@ halfway-rule text slotspans valuespans rest t base next r H h p e =
       rules = H .rules ++ rule-of r ∷ [];
       remainder = remainder-next text rest base next (H .remainder);
       indexed = H .indexed;
+      few = rw (length-append (H .rules) (rule-of r ∷ [])) (omega arith);
       tabled = subst (λ (x : Rule). record { slots = t .slots; width = t .width; rules = set (t .rules) (t .count) x; count = t .count + 1 } ≡ table-for (record { slots = H .slots; rules = H .rules ++ rule-of r ∷ [] })) (rule-kept r p)
           (rule-table (H .slots) (H .rules) t (rule-of r) (H .tabled) (omega arith));
       same = ap (read-on (H .slots) (H .rules ++ rule-of r ∷ [])) (sym (handed-on rest base next)) ∙ sym e ∙ H .same;
     }
-
--- The end of the text, and a refusal.
-pub answer-end : (a : Parsed) (f : File) (t : Table) → a ≡ accepted f → t ≡ table-for f → record { outcome = outcome.Accepted; table = t } ≡ file-read a
-unfolding file-read
-answer-end a f t e g = rw (e, g)
-
-pub answer-refused : (a : Parsed) (k n m : ℕ) (t : Table) → a ≡ refused k n → m ≡ n → t ≡ empty-table → record { outcome = outcome.Refused k m; table = t } ≡ file-read a
-unfolding file-read
-answer-refused a k n m t e g h = rw (e, g, h)

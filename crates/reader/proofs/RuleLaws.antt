@@ -37,24 +37,20 @@ pub pair-no-value : (slots : List Slot) (ts t1 t2 : List Token) (s k : ℕ) → 
 unfolding trigger-pair _then_
 pair-no-value slots ts t1 t2 s k e f g = rw (e, f, g)
 
--- The beginning of a rule, part by part.
-pub trigger-took : (slots : List Slot) (ts t1 t2 t3 : List Token) (p : Pair) → expects WHEN ts ≡ took tt t1 → trigger-pair slots t1 ≡ took p t2 → expects IF t2 ≡ took tt t3 → read-trigger slots ts ≡ took p t3
+-- The beginning of a rule after its WHEN, part by part.
+pub trigger-took : (slots : List Slot) (ts t1 t2 : List Token) (p : Pair) → trigger-pair slots ts ≡ took p t1 → expects IF t1 ≡ took tt t2 → read-trigger slots ts ≡ took p t2
 unfolding read-trigger _then_
-trigger-took slots ts t1 t2 t3 p e f g = rw (e, f, g)
+trigger-took slots ts t1 t2 p e f = rw (e, f)
 
-pub trigger-no-when : (slots : List Slot) (ts : List Token) (k : ℕ) → expects WHEN ts ≡ stop k → read-trigger slots ts ≡ stop k
+pub trigger-no-pair : (slots : List Slot) (ts : List Token) (k : ℕ) → trigger-pair slots ts ≡ stop k → read-trigger slots ts ≡ stop k
 unfolding read-trigger _then_
-trigger-no-when slots ts k e = rw e
+trigger-no-pair slots ts k e = rw e
 
-pub trigger-no-pair : (slots : List Slot) (ts t1 : List Token) (k : ℕ) → expects WHEN ts ≡ took tt t1 → trigger-pair slots t1 ≡ stop k → read-trigger slots ts ≡ stop k
+pub trigger-no-if : (slots : List Slot) (ts t1 : List Token) (p : Pair) (k : ℕ) → trigger-pair slots ts ≡ took p t1 → expects IF t1 ≡ stop k → read-trigger slots ts ≡ stop k
 unfolding read-trigger _then_
-trigger-no-pair slots ts t1 k e f = rw (e, f)
+trigger-no-if slots ts t1 p k e f = rw (e, f)
 
-pub trigger-no-if : (slots : List Slot) (ts t1 t2 : List Token) (p : Pair) (k : ℕ) → expects WHEN ts ≡ took tt t1 → trigger-pair slots t1 ≡ took p t2 → expects IF t2 ≡ stop k → read-trigger slots ts ≡ stop k
-unfolding read-trigger _then_
-trigger-no-if slots ts t1 t2 p k e f g = rw (e, f, g)
-
--- A rule is its beginning and its rest.
+-- A rule after its WHEN is its beginning and its rest.
 if-mark : Pair → List Token → Part Pair
 if-mark p ts = expects IF ts then λ u t1. took p t1
 
@@ -82,24 +78,21 @@ unfolding _then_
 after-slot slots (took s ts) g = after-mark slots (expects BECOMES ts) s g
 after-slot slots (stop k) g = refl
 
-after-when : (slots : List Slot) (m : Part (Unit {0})) (g : Pair → List Token → Part Rule)
-    → (m then λ u ts. read-slot slots ts then λ s t1. expects BECOMES t1 then λ u t2. read-value slots s t2 then λ v t3. expects IF t3 then λ u t4. g (pair s v) t4)
-    ≡ ((m then λ u ts. trigger-pair slots ts then if-mark) then g)
-unfolding _then_ trigger-pair
-after-when slots (took u ts) g = after-slot slots (read-slot slots ts) g
-after-when slots (stop k) g = refl
+rule-parts : (slots : List Slot) (ts begin : List Token) → expects WHEN ts ≡ took tt begin → read-rule slots ts ≡ (read-trigger slots begin then read-rest slots)
+unfolding read-rule read-trigger read-rest if-mark trigger-pair _then_
+rule-parts slots ts begin e = rw e (after-slot slots (read-slot slots begin) (read-rest slots))
 
-rule-parts : (slots : List Slot) (ts : List Token) → read-rule slots ts ≡ (read-trigger slots ts then read-rest slots)
-unfolding read-rule read-trigger read-rest if-mark
-rule-parts slots ts = after-when slots (expects WHEN ts) (read-rest slots)
-
-pub rule-begun : (slots : List Slot) (ts left : List Token) (p : Pair) → read-trigger slots ts ≡ took p left → read-rule slots ts ≡ read-rest slots p left
+pub rule-begun : (slots : List Slot) (ts begin left : List Token) (p : Pair) → expects WHEN ts ≡ took tt begin → read-trigger slots begin ≡ took p left → read-rule slots ts ≡ read-rest slots p left
 unfolding _then_
-rule-begun slots ts left p e = rule-parts slots ts ∙ rw e
+rule-begun slots ts begin left p w e = rule-parts slots ts begin w ∙ rw e
 
-pub rule-refused : (slots : List Slot) (ts : List Token) (k : ℕ) → read-trigger slots ts ≡ stop k → read-rule slots ts ≡ stop k
+pub rule-refused : (slots : List Slot) (ts begin : List Token) (k : ℕ) → expects WHEN ts ≡ took tt begin → read-trigger slots begin ≡ stop k → read-rule slots ts ≡ stop k
 unfolding _then_
-rule-refused slots ts k e = rule-parts slots ts ∙ rw e
+rule-refused slots ts begin k w e = rule-parts slots ts begin w ∙ rw e
+
+pub rule-no-when : (slots : List Slot) (ts : List Token) (k : ℕ) → expects WHEN ts ≡ stop k → read-rule slots ts ≡ stop k
+unfolding read-rule _then_
+rule-no-when slots ts k e = rw e
 
 -- The rest of a rule, part by part.
 rest-last : (slots : List Slot) (p : Pair) (ts t1 t2 : List Token) (ls : List Literal) (ps : List Pair) → read-condition slots ts ≡ took ls t1 → read-assign slots t1 ≡ took ps t2

@@ -4,6 +4,7 @@ use Prim.Native.Nat.{ℕ, zero, suc, _+_, _-_, _≤_, _<_}
 use native.Mathlib.Omega.{arith}
 use mathlib.Core.Path.{_≡_, refl, ap, _∙_}
 use mathlib.Core.Bool.{true, false}
+use mathlib.Core.Logic.{⊎-elim}
 use mathlib.Core.List.{List, [], _∷_, _++_}
 use lib.ListN.{length, length-append}
 use Rattle.text.specs.Tokens.{Token, SLOT, WHEN}
@@ -21,7 +22,9 @@ use Rattle.steps.specs.inner.Places.{shown-past}
 use Rattle.lines.specs.inner.Index.{Indexed}
 use Rattle.clauses.specs.inner.Literals.{Looked}
 use Rattle.lines.proofs.Index.{indexed-slots, indexed-values}
+use Rattle.laws.proofs.Truth.{le-or-lt}
 use Rattle.reader.specs.inner.Statements.{read-on, Rule-next}
+use Rattle.reader.proofs.RuleLaws.{rule-no-when}
 
 longer : {A : Type 0} (xs : List A) (x : A) → length (xs ++ x ∷ []) ≡ suc (length xs)
 longer xs x = length-append xs (x ∷ []) ∙ omega arith
@@ -135,9 +138,13 @@ pub next-full : (slots : List Slot) (rules : List Rule) (ts left : List Token) �
 next-full slots rules [] left n h g = absurd n
 next-full slots rules (t ∷ ts) left n h g = on-rule-full slots rules t ts left n h g
 
-pub next-none : (slots : List Slot) (rules : List Rule) (ts : List Token) (k : ℕ) → Rule-next rules ts → rule-limit ≤ length rules → expects WHEN ts ≡ stop k → read-on slots rules ts ≡ refused k (length rules)
+next-none : (slots : List Slot) (rules : List Rule) (ts : List Token) (k : ℕ) → Rule-next rules ts → rule-limit ≤ length rules → expects WHEN ts ≡ stop k → read-on slots rules ts ≡ refused k (length rules)
 next-none slots rules [] k n h g = absurd n
 next-none slots rules (t ∷ ts) k n h g = on-rule-none slots rules t ts k n h g
+
+-- No WHEN stands there.
+pub no-when : (slots : List Slot) (rules : List Rule) (ts : List Token) (k : ℕ) → Rule-next rules ts → expects WHEN ts ≡ stop k → read-on slots rules ts ≡ refused k (length rules)
+no-when slots rules ts k n g = ⊎-elim (λ h. next-none slots rules ts k n h g) (λ h. next-stop slots rules ts k n h (rule-no-when slots ts k g)) (le-or-lt rule-limit (length rules))
 
 -- Where the slots so far are indexed, they are found.
 pub looked : (text slotspans valuespans : List ℕ) (slots : List Slot) → Indexed text slots slotspans valuespans → Looked text slots slotspans valuespans

@@ -3,18 +3,21 @@ ghost use mathlib.Core.Path.{_≡_};
 ghost use mathlib.Core.List.{List, []};
 ghost use Prim.Native.Nat.{ℕ, _<_};
 ghost use lib.ListN.{length};
+ghost use Rattle.classes.specs.Classes.{Classes};
+ghost use Rattle.text.specs.Tokens.{SLOT, WHEN};
 ghost use Rattle.table.specs.inner.Flat.{pair-places};
 ghost use Rattle.model.specs.Rules as model;
 ghost use Rattle.grammar.specs.Files.{Slot};
+ghost use Rattle.grammar.specs.Reading.{took, expects};
 ghost use Rattle.steps.specs.inner.Places.{tokens-past};
 ghost use Rattle.lines.specs.inner.Index.{Indexed};
 ghost use Rattle.lines.specs.inner.Lines.{Remainder};
-ghost use Rattle.reader.specs.inner.Statements.{read-on, Slot-next, Rule-next, statement-answer, Statement-lies};
+ghost use Rattle.reader.specs.inner.Statements.{read-on, Rule-next, statement-answer, Statement-lies};
 use crate::rules::rule_next;
 use lines::Line;
 use lines::line_next;
 use steps::step::Step;
-use steps::step::word_next;
+use steps::step::word_of;
 use table::Rule;
 use table::SLOTS;
 use text::Token;
@@ -44,17 +47,19 @@ fn no_line() -> Line {
     }
 }
 
-// A slot line after `width` others.
+// A slot line after `width` others, its SLOT read.
 fn slot_statement(
     text: &[u8],
     rest: &[u8],
+    classes: &[u8; 256],
     base: usize,
     slotspans: &[usize; SLOTS],
+    at: usize,
     width: usize,
 ) -> Statement
-    requires { ⌜ Remainder (now text) (now rest) base ⌝ }
+    requires { ⌜ Classes (now classes) × Remainder (now text) (now rest) base ⌝ }
     ensures { λ r. ⌜ ((slots : List Slot) (valuespans : List ℕ) → Indexed (now (text .entry)) slots (now (slotspans .entry)) valuespans → width ≡ length slots
-        → Slot-next (tokens-past (now (rest .entry)) base 0) → read-on slots [] (tokens-past (now (rest .entry)) base 0) ≡ statement-answer (now (text .entry)) (now (rest .entry)) base slots [] r)
+        → expects SLOT (tokens-past (now (rest .entry)) base 0) ≡ took tt (tokens-past (now (rest .entry)) base at) → read-on slots [] (tokens-past (now (rest .entry)) base 0) ≡ statement-answer (now (text .entry)) (now (rest .entry)) base slots [] r)
         × Statement-lies (now (text .entry)) (length (now (rest .entry))) width 0 r ⌝ }
 {
     if SLOTS <= width {
@@ -64,7 +69,7 @@ fn slot_statement(
             rule: table::empty_rule(),
         };
     }
-    let line = line_next(text, rest, base, slotspans, 0);
+    let line = line_next(text, rest, classes, base, slotspans, at);
     let outcome = line.outcome;
     match outcome {
         Step::At(next) => Statement {
@@ -80,39 +85,30 @@ fn slot_statement(
     }
 }
 
-// A rule after `count` others.
+// A rule after `count` others, its WHEN read.
 fn rule_statement(
     text: &[u8],
     rest: &[u8],
+    classes: &[u8; 256],
     slotspans: &[usize; SLOTS],
     valuespans: &[usize],
+    at: usize,
     count: usize,
 ) -> Statement
-    requires { ⌜ length (now valuespans) ≡ pair-places ⌝ }
+    requires { ⌜ Classes (now classes) × (length (now valuespans) ≡ pair-places) ⌝ }
     ensures { λ r. ⌜ ((base : ℕ) (slots : List Slot) (rules : List model.Rule) → Indexed (now (text .entry)) slots (now (slotspans .entry)) (now (valuespans .entry)) → count ≡ length rules
-        → Rule-next rules (tokens-past (now (rest .entry)) base 0) → read-on slots rules (tokens-past (now (rest .entry)) base 0) ≡ statement-answer (now (text .entry)) (now (rest .entry)) base slots rules r)
+        → Rule-next rules (tokens-past (now (rest .entry)) base 0) → expects WHEN (tokens-past (now (rest .entry)) base 0) ≡ took tt (tokens-past (now (rest .entry)) base at)
+        → read-on slots rules (tokens-past (now (rest .entry)) base 0) ≡ statement-answer (now (text .entry)) (now (rest .entry)) base slots rules r)
         × ((width : ℕ) → Statement-lies (now (text .entry)) (length (now (rest .entry))) width count r) ⌝ }
 {
     if table::RULES <= count {
-        let when = word_next(rest, 0, text::WHEN);
-        match when {
-            Step::At(_) => {
-                return Statement {
-                    kind: Kind::Refused(15),
-                    line: no_line(),
-                    rule: table::empty_rule(),
-                };
-            }
-            Step::Fault(k) => {
-                return Statement {
-                    kind: Kind::Refused(k),
-                    line: no_line(),
-                    rule: table::empty_rule(),
-                };
-            }
-        }
+        return Statement {
+            kind: Kind::Refused(15),
+            line: no_line(),
+            rule: table::empty_rule(),
+        };
     }
-    let read = rule_next(text, rest, slotspans, valuespans, 0);
+    let read = rule_next(text, rest, classes, slotspans, valuespans, at);
     let rule = read.rule;
     let outcome = read.outcome;
     match outcome {
@@ -133,19 +129,20 @@ fn rule_statement(
 pub fn statement_next(
     text: &[u8],
     rest: &[u8],
+    classes: &[u8; 256],
     base: usize,
     slotspans: &[usize; SLOTS],
     valuespans: &[usize],
     width: usize,
     count: usize,
 ) -> Statement
-    requires { ⌜ Remainder (now text) (now rest) base × (length (now valuespans) ≡ pair-places) ⌝ }
+    requires { ⌜ Classes (now classes) × Remainder (now text) (now rest) base × (length (now valuespans) ≡ pair-places) ⌝ }
     ensures { λ r. ⌜ ((slots : List Slot) (rules : List model.Rule) → Indexed (now (text .entry)) slots (now (slotspans .entry)) (now (valuespans .entry)) → width ≡ length slots → count ≡ length rules
         → read-on slots rules (tokens-past (now (rest .entry)) base 0) ≡ statement-answer (now (text .entry)) (now (rest .entry)) base slots rules r)
         × Statement-lies (now (text .entry)) (length (now (rest .entry))) width count r ⌝ }
 {
-    let next = text::token_at(rest, 0);
-    let token = next.token;
+    let first = text::first_token(rest, classes);
+    let token = first.token;
     if let Token::End = token {
         return Statement {
             kind: Kind::End,
@@ -154,10 +151,18 @@ pub fn statement_next(
         };
     }
     if count == 0 {
-        let slot = word_next(rest, 0, text::SLOT);
-        if let Step::At(_) = slot {
-            return slot_statement(text, rest, base, slotspans, width);
+        let slot = word_of(first, text::SLOT);
+        if let Step::At(at) = slot {
+            return slot_statement(text, rest, classes, base, slotspans, at, width);
         }
     }
-    rule_statement(text, rest, slotspans, valuespans, count)
+    let when = word_of(first, text::WHEN);
+    match when {
+        Step::At(at) => rule_statement(text, rest, classes, slotspans, valuespans, at, count),
+        Step::Fault(k) => Statement {
+            kind: Kind::Refused(k),
+            line: no_line(),
+            rule: table::empty_rule(),
+        },
+    }
 }

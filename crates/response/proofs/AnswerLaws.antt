@@ -4,7 +4,7 @@ use mathlib.Core.Path.{_≡_, refl, sym, ap, ap₂, fun-ext, _∙_}
 use mathlib.Core.Bool.{Bool, true, false, cond}
 use mathlib.Core.List.{List, [], _∷_, _++_, map}
 use mathlib.Core.Logic.{⊎-elim}
-use Prim.Native.Nat.{ℕ, suc, zero, _+_, _≤_, _<_}
+use Prim.Native.Nat.{ℕ, suc, zero, _≤_, _<_}
 use native.Mathlib.Omega.{arith}
 use lib.Dec.{T, ltb, ltb→lt}
 use lib.ListN.{length, getD, take, drop, replicate, length-append, List·getD-map, List·getD-eq-default}
@@ -27,12 +27,13 @@ use Rattle.model.specs.Response.{response}
 use Rattle.model.specs.Result.{pair, value-in, is-changed, new-value, conflict-slot, new-card, changes-slip}
 use Rattle.model.proofs.Alike.{SameCard}
 use Rattle.model.proofs.Pairs.{same-eq}
-use Rattle.table.specs.declared.Table.{Table}
 use Rattle.laws.specs.Limits.{slot-limit, row, rule-limit}
 use Rattle.table.specs.inner.Shape.{Shaped}
 use Rattle.table.specs.Link.{rules-of}
 use Rattle.table.specs.inner.Flat.{set-of, add-pairs, pair-places}
 use Rattle.table.proofs.Link.{rules-length}
+use Rattle.rows.specs.inner.Rows.{table-in, RowsFit}
+use Rattle.rows.proofs.Laws.{rows-count, rows-table-shaped}
 use Rattle.cards.specs.declared.Card.{Card}
 use Rattle.cards.specs.declared.Slip.{Slip}
 use Rattle.laws.specs.Answers.{taken, refused, written}
@@ -42,7 +43,6 @@ use Rattle.cards.specs.inner.Fitting.{CardFits, SlipFits}
 use Rattle.cards.proofs.Formed.{slip-length}
 use Rattle.cards.proofs.EntryTrips.{card-of-values, slip-of-changes}
 use Rattle.cards.proofs.Written.{card-bytes-length, slip-bytes-length}
-use Rattle.firing.specs.declared.Firing.{Firing}
 use Rattle.firing.specs.inner.Firing.{table-firing}
 use Rattle.results.specs.Record.{ones-in}
 use Rattle.results.specs.inner.Record.{fired-bits, flag-record}
@@ -185,92 +185,103 @@ record-there ran count c c′ e = rw (e, length-append (flag-record ran count) (
 front-is : (ys out : List ℕ) (n : ℕ) → length ys ≡ n → ys ++ drop n out ≡ written ys out
 front-is ys out n e = rw e refl
 
+-- Rows have as many rules as are entered in them.
+pub rules-counted : (rows : List (List ℕ)) (n : ℕ) → RowsFit rows n → length (rules-of (table-in rows n)) ≡ n
+rules-counted rows n f =
+    let k = rows-count rows n in
+    rules-length (table-in rows n) (omega (arith, f .few, rows-table-shaped rows n (f .rows-shaped) .rule-places)) ∙ k
+
+-- The values of a card that is in order go into 4 bits, also beyond those that it counts.
+pub values-small : (c : Card) → CardFits c → ((s : ℕ) → c .count ≤ s → getD (c .values) s 0 ≡ 0) → (s : ℕ) → s < slot-limit → getD (c .values) s 0 < row
+values-small c f rest s h = ⊎-elim (λ k. rw (rest s k) (omega arith)) (λ k. f .values-fit s k) (le-or-lt (c .count) s)
+
 -- What the code leaves where no slot is in conflict.
-module _ (t : Table) (card : Card) (slip : Slip) (O : InOrder t card slip) (sh : Shaped t) (g : Firing)
-    (fires : g ≡ table-firing t (card .values) (add-pairs (changes-of slip) (replicate pair-places false))) where
+module _ (rows : List (List ℕ)) (n width : ℕ) (card : Card) (slip : Slip) (O : InOrder rows n width card slip) (bs ran : List Bool)
+    (ends : bs ≡ table-firing (table-in rows n) (card .values) (add-pairs (changes-of slip) (replicate pair-places false)) .changes)
+    (runs : ran ≡ table-firing (table-in rows n) (card .values) (add-pairs (changes-of slip) (replicate pair-places false)) .fired) where
+  abbrev rs : List Rule
+  rs = rules-of (table-in rows n)
+
+  shape : Shaped (table-in rows n)
+  shape = rows-table-shaped rows n (O .rows-fit .rows-shaped)
+
   abbrev fired-in-order : List ℕ
-  fired-in-order = response weak (rules-of t) (card-values card) (changes-of slip)
+  fired-in-order = response weak rs (card-values card) (changes-of slip)
 
   abbrev ends-with : Pairs
-  ends-with = changes (rules-of t) (changes-of slip) fired-in-order
+  ends-with = changes rs (changes-of slip) fired-in-order
 
-  pub same-changes : set-of (g .changes) ≡ ends-with
-  same-changes = fired-changes t (O .fireable) sh (card .values) (card-values card) (changes-of slip) (values-same card (O .rest-empty)) (slip-placed slip (O .slip-fits)) g fires
+  pub same-changes : set-of bs ≡ ends-with
+  same-changes = fired-changes (table-in rows n) (O .fireable) shape (card .values) (card-values card) (changes-of slip) (values-same card (O .rest-empty)) (slip-placed slip (O .slip-fits)) bs ends
 
-  same-rules : g .fired ≡ tabulate (λ i. names fired-in-order (suc i)) rule-limit
-  same-rules = fired-rules t (O .fireable) sh (card .values) (card-values card) (changes-of slip) (values-same card (O .rest-empty)) (slip-placed slip (O .slip-fits)) g fires
-
-  few-rules : t .count ≤ rule-limit
-  few-rules = O .fireable .fits .rules-fit
-
-  counted-rules : length (rules-of t) ≡ t .count
-  counted-rules = rules-length t (omega (arith, few-rules, sh .rule-places))
+  same-rules : ran ≡ tabulate (λ i. names fired-in-order (suc i)) rule-limit
+  same-rules = fired-rules (table-in rows n) (O .fireable) shape (card .values) (card-values card) (changes-of slip) (values-same card (O .rest-empty)) (slip-placed slip (O .slip-fits)) ran runs
 
   -- 40 leaves the outputs.
-  pub conflict-ends : (slot : ℕ) (o : Outputs) → slot ≡ conflict-slot (t .width) row (set-of (g .changes)) → slot < t .width
-      → Ends (answer-by-firing (rules-of t) (t .width) (card-values card) (changes-of slip)) (Refused 40 slot) o o
+  pub conflict-ends : (slot : ℕ) (o : Outputs) → slot ≡ conflict-slot width row (set-of bs) → slot < width
+      → Ends (answer-by-firing rs width (card-values card) (changes-of slip)) (Refused 40 slot) o o
   unfolding outcome-of outputs-after
   conflict-ends slot o e h =
-      let w : slot ≡ conflict-slot (t .width) row ends-with = e ∙ ap (conflict-slot (t .width) row) same-changes in
-      rw (by-firing-conflict (rules-of t) (t .width) (card-values card) (changes-of slip) (omega (arith, w, h)), w) (refl, refl)
+      let w : slot ≡ conflict-slot width row ends-with = e ∙ ap (conflict-slot width row) same-changes in
+      rw (by-firing-conflict rs width (card-values card) (changes-of slip) (omega (arith, w, h)), w) (refl, refl)
 
   -- The new card in its places, and its values.
-  pub next-values : card-values (record { values = new-places (t .width) (g .changes) (card .values); count = t .width }) ≡ new-card (t .width) row ends-with (card-values card)
+  pub next-values : card-values (record { values = new-places width bs (card .values); count = width }) ≡ new-card width row ends-with (card-values card)
   unfolding new-places
   next-values =
-      card-values-back (t .width) (new-card (t .width) row (set-of (g .changes)) (card .values)) (new-card-length (t .width) (set-of (g .changes)) (card .values))
-      ∙ new-card-same (t .width) (set-of (g .changes)) ends-with (card .values) (card-values card) same-changes (values-same card (O .rest-empty))
+      card-values-back width (new-card width row (set-of bs) (card .values)) (new-card-length width (set-of bs) (card .values))
+      ∙ new-card-same width (set-of bs) ends-with (card .values) (card-values card) same-changes (values-same card (O .rest-empty))
 
-  pub next-in-order : CardFits (record { values = new-places (t .width) (g .changes) (card .values); count = t .width })
+  pub next-in-order : CardFits (record { values = new-places width bs (card .values); count = width })
   unfolding new-places
   next-in-order =
-      next-fits (t .width) (new-card (t .width) row (set-of (g .changes)) (card .values)) (O .few-slots) (new-card-length (t .width) (set-of (g .changes)) (card .values))
-      (new-value-fits (t .width) (set-of (g .changes)) (card .values) (λ i h. O .card-fits .values-fit i (omega (arith, h, O .same-width))))
+      next-fits width (new-card width row (set-of bs) (card .values)) (O .few-slots) (new-card-length width (set-of bs) (card .values))
+      (new-value-fits width (set-of bs) (card .values) (λ i h. O .card-fits .values-fit i (omega (arith, h, O .same-width))))
 
   -- The answer is written.
-  pub answer-ends : (slot n m : ℕ) (a b c a′ b′ c′ : List ℕ) → slot ≡ conflict-slot (t .width) row (set-of (g .changes)) → t .width ≤ slot
-      → a′ ≡ card-bytes (card-values (record { values = new-places (t .width) (g .changes) (card .values); count = t .width })) ++ drop (byte-count (card-bits (t .width))) a
-      → (s : Slip) → s ≡ slip-of (changes-slip (t .width) row (set-of (g .changes)))
-      → n ≡ byte-count (slip-bits (s .count)) → b′ ≡ slip-bytes (changes-of s) ++ drop (byte-count (slip-bits (s .count))) b
-      → c′ ≡ flag-record (g .fired) (t .count) ++ drop (byte-count (t .count)) c → m ≡ ones-in (take (byte-count (t .count)) c′)
-      → Ends (answer-by-firing (rules-of t) (t .width) (card-values card) (changes-of slip)) (Answered n m) (outputs a b c) (outputs a′ b′ c′)
+  pub answer-ends : (slot l m : ℕ) (a b c a′ b′ c′ : List ℕ) → slot ≡ conflict-slot width row (set-of bs) → width ≤ slot
+      → a′ ≡ card-bytes (card-values (record { values = new-places width bs (card .values); count = width })) ++ drop (byte-count (card-bits width)) a
+      → (s : Slip) → s ≡ slip-of (changes-slip width row (set-of bs))
+      → l ≡ byte-count (slip-bits (s .count)) → b′ ≡ slip-bytes (changes-of s) ++ drop (byte-count (slip-bits (s .count))) b
+      → c′ ≡ flag-record ran n ++ drop (byte-count n) c → m ≡ ones-in (take (byte-count n) c′)
+      → Ends (answer-by-firing rs width (card-values card) (changes-of slip)) (Answered l m) (outputs a b c) (outputs a′ b′ c′)
   unfolding outcome-of outputs-after answer-of
-  answer-ends slot n m a b c a′ b′ c′ e h ea s es en eb ec em =
-      let w : slot ≡ conflict-slot (t .width) row ends-with = e ∙ ap (conflict-slot (t .width) row) same-changes in
-      let x = by-firing-answer (rules-of t) (t .width) (card-values card) (changes-of slip) (omega (arith, w, h)) in
+  answer-ends slot l m a b c a′ b′ c′ e h ea s es en eb ec em =
+      let w : slot ≡ conflict-slot width row ends-with = e ∙ ap (conflict-slot width row) same-changes in
+      let x = by-firing-answer rs width (card-values card) (changes-of slip) (omega (arith, w, h)) in
       rw x (ap₂ (λ (i j : ℕ). Answered i j) (en ∙ changes-size) (em ∙ ap ones-in fired-front), λ i. outputs (card-part i) (changes-part i) (fired-part i))
     where
-      listed : changes-of s ≡ changes-slip (t .width) row ends-with
-      listed = ap changes-of es ∙ slip-of-changes (changes-slip (t .width) row (set-of (g .changes))) ∙ ap (changes-slip (t .width) row) same-changes
+      listed : changes-of s ≡ changes-slip width row ends-with
+      listed = ap changes-of es ∙ slip-of-changes (changes-slip width row (set-of bs)) ∙ ap (changes-slip width row) same-changes
 
-      size : s .count ≡ length (changes-slip (t .width) row ends-with)
+      size : s .count ≡ length (changes-slip width row ends-with)
       size = sym (slip-length s) ∙ ap length listed
 
-      changes-size : byte-count (slip-bits (s .count)) ≡ length (slip-bytes (changes-slip (t .width) row ends-with))
-      changes-size = ap (λ (k : ℕ). byte-count (slip-bits k)) size ∙ sym (slip-bytes-length (changes-slip (t .width) row ends-with))
+      changes-size : byte-count (slip-bits (s .count)) ≡ length (slip-bytes (changes-slip width row ends-with))
+      changes-size = ap (λ (k : ℕ). byte-count (slip-bits k)) size ∙ sym (slip-bytes-length (changes-slip width row ends-with))
 
-      record-is : flag-record (g .fired) (t .count) ≡ fired-record (length (rules-of t)) fired-in-order
-      record-is = record-same fired-in-order (g .fired) (t .count) same-rules few-rules ∙ ap (λ (k : ℕ). fired-record k fired-in-order) (sym counted-rules)
+      record-is : flag-record ran n ≡ fired-record (length rs) fired-in-order
+      record-is = record-same fired-in-order ran n same-rules (O .rows-fit .few) ∙ ap (λ (k : ℕ). fired-record k fired-in-order) (sym (rules-counted rows n (O .rows-fit)))
 
-      record-size : length (flag-record (g .fired) (t .count)) ≡ byte-count (t .count)
-      record-size = record-length (g .fired) (t .count)
+      record-size : length (flag-record ran n) ≡ byte-count n
+      record-size = record-length ran n
 
-      fired-front : take (byte-count (t .count)) c′ ≡ fired-record (length (rules-of t)) fired-in-order
+      fired-front : take (byte-count n) c′ ≡ fired-record (length rs) fired-in-order
       fired-front =
-          ap (take (byte-count (t .count))) ec ∙ ap (λ (k : ℕ). take k (flag-record (g .fired) (t .count) ++ drop (byte-count (t .count)) c)) (sym record-size)
-          ∙ take-append-seam (flag-record (g .fired) (t .count)) (drop (byte-count (t .count)) c) ∙ record-is
+          ap (take (byte-count n)) ec ∙ ap (λ (k : ℕ). take k (flag-record ran n ++ drop (byte-count n) c)) (sym record-size)
+          ∙ take-append-seam (flag-record ran n) (drop (byte-count n) c) ∙ record-is
 
-      card-part : a′ ≡ written (card-bytes (new-card (t .width) row ends-with (card-values card))) a
+      card-part : a′ ≡ written (card-bytes (new-card width row ends-with (card-values card))) a
       card-part =
-          ea ∙ ap (λ (vs : List ℕ). card-bytes vs ++ drop (byte-count (card-bits (t .width))) a) next-values
-          ∙ front-is (card-bytes (new-card (t .width) row ends-with (card-values card))) a (byte-count (card-bits (t .width)))
-          (card-bytes-length (new-card (t .width) row ends-with (card-values card)) ∙ ap (λ (k : ℕ). byte-count (card-bits k)) (new-card-length (t .width) ends-with (card-values card)))
+          ea ∙ ap (λ (vs : List ℕ). card-bytes vs ++ drop (byte-count (card-bits width)) a) next-values
+          ∙ front-is (card-bytes (new-card width row ends-with (card-values card))) a (byte-count (card-bits width))
+          (card-bytes-length (new-card width row ends-with (card-values card)) ∙ ap (λ (k : ℕ). byte-count (card-bits k)) (new-card-length width ends-with (card-values card)))
 
-      changes-part : b′ ≡ written (slip-bytes (changes-slip (t .width) row ends-with)) b
+      changes-part : b′ ≡ written (slip-bytes (changes-slip width row ends-with)) b
       changes-part =
           eb ∙ ap (λ (ps : List Pair). slip-bytes ps ++ drop (byte-count (slip-bits (s .count))) b) listed
-          ∙ front-is (slip-bytes (changes-slip (t .width) row ends-with)) b (byte-count (slip-bits (s .count))) (sym changes-size)
+          ∙ front-is (slip-bytes (changes-slip width row ends-with)) b (byte-count (slip-bits (s .count))) (sym changes-size)
 
-      fired-part : c′ ≡ written (fired-record (length (rules-of t)) fired-in-order) c
+      fired-part : c′ ≡ written (fired-record (length rs) fired-in-order) c
       fired-part =
-          ec ∙ front-is (flag-record (g .fired) (t .count)) c (byte-count (t .count)) record-size ∙ ap (λ (ys : List ℕ). written ys c) record-is
+          ec ∙ front-is (flag-record ran n) c (byte-count n) record-size ∙ ap (λ (ys : List ℕ). written ys c) record-is

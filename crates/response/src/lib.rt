@@ -3,9 +3,18 @@ pub mod answering;
 pub mod slips;
 
 ghost use mathlib.Core.Path.{_≡_};
-ghost use Rattle.response.specs.Respond.{rooms-of, outputs, outputs-after, answer-by-table, answer-to, response-to};
-ghost use Rattle.response.specs.inner.InOrder.{Ends};
+ghost use mathlib.Core.Bool.{false};
+ghost use Rattle.table.specs.Link.{rules-of};
+ghost use Rattle.rows.specs.inner.Rows.{table-in};
+ghost use Rattle.cards.specs.inner.Fitting.{counts-in};
+ghost use Rattle.tally.specs.Counting.{is-full, one-refused};
+ghost use Rattle.response.specs.declared.Outcome.the-variants.{Refused};
+ghost use Rattle.response.specs.Respond.{rooms-of, outputs, outputs-after, answer-by-rules, answer-to, response-to};
+ghost use Rattle.response.specs.inner.InOrder.{Kept, Ends};
 use answering::finish;
+use rows::NUMBERS;
+use table::RULES;
+use table::SLOTS;
 use table::Table;
 use tally::Tally;
 use tally::is_full;
@@ -26,39 +35,51 @@ pub struct Response {
     pub tally: Tally,
 }
 
-// The response without its tally: 31, 20 to 28, 30, 40, or the answer.
+// The response by what is left of a table that passed 31, without its tally: 20 to 28, 30, 40, or the answer.
 fn work(
-    t: Table,
+    rows: &[[u16; NUMBERS]; RULES],
+    n: usize,
+    width: usize,
+    counts: &[usize; SLOTS],
     card: &[u8],
     slip: &[u8],
     renewed: &mut [u8],
     changes: &mut [u8],
     fired: &mut [u8],
 ) -> Outcome
-    ensures { λ r. ⌜ Ends (answer-by-table t (now (card .entry)) (now (slip .entry)) (rooms-of (now (renewed .entry)) (now (changes .entry)) (now (fired .entry)))) r
+    requires { ⌜ Kept (now rows) n width (now counts) ⌝ }
+    ensures { λ r. ⌜ Ends (answer-by-rules (counts-in width (now (counts .entry))) (rules-of (table-in (now (rows .entry)) n)) (now (card .entry)) (now (slip .entry)) (rooms-of (now (renewed .entry)) (now (changes .entry)) (now (fired .entry)))) r
         (outputs (now (renewed .entry)) (now (changes .entry)) (now (fired .entry))) (outputs (now (renewed .exit)) (now (changes .exit)) (now (fired .exit))) ⌝ }
 {
-    if !soundness::is_sound(t) {
-        return Outcome::Refused(31, 0);
-    }
-    let width = t.width;
-    let counts = cards::counts_of(t);
-    let first = read_card(card, width, &counts);
+    let first = read_card(card, width, counts);
     let of_card = first.outcome;
     if let cards::Outcome::Refused(number, second) = of_card {
         return Outcome::Refused(number, second);
     }
-    let next = read_slip(slip, width, &counts);
+    let next = read_slip(slip, width, counts);
     let of_slip = next.outcome;
     if let cards::Outcome::Refused(number, second) = of_slip {
         return Outcome::Refused(number, second);
     }
     let c = first.card;
     let s = next.slip;
-    finish(t, c, s, renewed, changes, fired)
+    finish(rows, n, width, c, s, renewed, changes, fired)
+}
+
+// A refusal that is counted.
+fn refuse(tally: Tally, number: u8, second: usize) -> Response
+    requires { ⌜ is-full tally ≡ false ⌝ }
+    ensures { λ r. ⌜ r ≡ record { outcome = Refused number second; tally = one-refused tally } ⌝ }
+{
+    let after = one_refused(tally);
+    Response {
+        outcome: Outcome::Refused(number, second),
+        tally: after,
+    }
 }
 
 // The response to a slip: any table, any tally, any bytes of any length, outputs of any length.
+// It reads the table once: 31 enters what passes into counts and rows, and what comes after goes by these.
 pub fn respond(
     t: Table,
     tally: Tally,
@@ -78,7 +99,27 @@ pub fn respond(
             tally: tally,
         };
     }
-    let outcome = work(t, card, slip, renewed, changes, fired);
+    let mut counts: [usize; SLOTS] = [0; SLOTS];
+    let mut rows: [[u16; NUMBERS]; RULES] = [[0; NUMBERS]; RULES];
+    let n = t.count as usize;
+    let width = t.width as usize;
+    if !soundness::enter(t, &mut counts, &mut rows) {
+        return refuse(tally, 31, 0);
+    }
+    if !leastness::is_least(&rows, n) {
+        return refuse(tally, 31, 0);
+    }
+    let outcome = work(
+        &rows,
+        n,
+        width,
+        &counts,
+        card,
+        slip,
+        renewed,
+        changes,
+        fired,
+    );
     match outcome {
         Outcome::Answered(length, count) => {
             let after = one_answered(tally);
@@ -88,11 +129,7 @@ pub fn respond(
             };
         }
         Outcome::Refused(number, second) => {
-            let after = one_refused(tally);
-            return Response {
-                outcome: Outcome::Refused(number, second),
-                tally: after,
-            };
+            return refuse(tally, number, second);
         }
     }
 }

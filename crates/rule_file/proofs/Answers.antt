@@ -1,10 +1,10 @@
 -- What the whole reading answers: accepted exactly where the text is a file whose rules have strata, and then with its table and the least strata; 18 exactly where the text is a file without strata.
 -- Assumes nothing.
 use mathlib.Core.Path.{_≡_, refl, sym, ap, _∙_}
-use mathlib.Core.Bool.{Bool, true, false, cond}
+use mathlib.Core.Bool.{Bool, true, false}
 use mathlib.Core.List.{List}
 use mathlib.Core.Logic.{_↔_, ⊎-elim}
-use Prim.Native.Nat.{ℕ, _≤_}
+use Prim.Native.Nat.{ℕ, _≤_, _<_}
 use native.Mathlib.Omega.{arith}
 use lib.Dec.{T, eqb}
 use borrow.Author.Tests.{eqb-true, eqb-false, eq-eqb, ne-eqb}
@@ -18,6 +18,7 @@ use Rattle.model.proofs.Steps.{through-not-i, lowest-through-not, one-lowest}
 use Rattle.table.specs.declared.Table.{Table}
 use Rattle.table.specs.Empty.{empty-table}
 use Rattle.table.specs.inner.Fits.{TableFits}
+use Rattle.table.specs.inner.Shape.{Shaped}
 use Rattle.table.specs.Link.{rules-of}
 use Rattle.grammar.specs.Files.{File}
 use Rattle.grammar.specs.Meaning.{Is-file}
@@ -28,42 +29,19 @@ use Rattle.grammar.proofs.Faults.{fault-range}
 use Rattle.grammar.proofs.Refusals.{refusal-stands}
 use Rattle.grammar.proofs.Stands.{file-stands}
 use Rattle.names.specs.Names.{show-slot, show-value}
-use Rattle.strata.specs.declared.Outcome as found
-use Rattle.strata.specs.declared.Outcome.the-variants.{Layered, Circle}
-use Rattle.strata.specs.declared.Layering.{Layering}
-use Rattle.strata.specs.Layered.{with-strata, layering}
+use Rattle.strata.specs.Layered.{with-strata}
 use Rattle.soundness.specs.Sound.{sound}
 use Rattle.soundness.proofs.WellFormed.{well-formed-fits}
 use Rattle.strata.proofs.Written.{same-rules, same-counts, stratum-now}
-use Rattle.soundness.proofs.Passes.{layer-passes, empty-passes}
-use Rattle.reader.specs.Tables.{file-read, reading-refusal}
+use Rattle.soundness.proofs.Passes.{layered-passes, empty-passes}
+use Rattle.reader.specs.Tables.{reading-refusal}
 use Rattle.grammar.specs.TableFor.{table-for}
-use Rattle.reader.specs.declared.Outcome.{Outcome}
 use Rattle.reader.specs.declared.Outcome.the-variants.{Accepted, Refused}
 use Rattle.reader.specs.declared.FileRead.{FileRead}
 use Rattle.rule_file.specs.Carries.{Carries}
 use Rattle.rule_file.specs.Whole.{layered, answered-whole, reading}
 use Rattle.rule_file.proofs.FileTable.{file-rules, file-counts, file-shaped, file-well-formed}
 use Rattle.rule_file.proofs.Shown.{slots-show, values-show}
-
--- The reading's answer for that of the strata.
-abbrev outcome-for : found.Outcome → Outcome
-outcome-for Layered = Accepted
-outcome-for (Circle k) = Refused 18 k
-
-abbrev answer-for : Layering → FileRead
-answer-for l = record { outcome = outcome-for (l .outcome); table = l .table }
-
--- A file's answer is that of its table's strata.
-layered-table : (f : File) → answer-for (layering (table-for f)) ≡ layered f
-unfolding layering layered
-layered-table f = rw (file-rules f) (go (eqb (circle-of weak (f .rules)) 0))
-  where
-    go : (b : Bool)
-        → answer-for (cond b (record { outcome = Layered; table = with-strata (table-for f) }) (record { outcome = Circle (circle-of weak (f .rules)); table = empty-table }))
-        ≡ cond b (record { outcome = Accepted; table = with-strata (table-for f) }) (record { outcome = Refused 18 (circle-of weak (f .rules)); table = empty-table })
-    go true = refl
-    go false = refl
 
 reading-file : (text : List ℕ) (f : File) → parse text ≡ accepted f → reading text ≡ layered f
 unfolding reading answered-whole
@@ -73,43 +51,6 @@ reading-refused : (text : List ℕ) (k n : ℕ) → parse text ≡ refused k n �
 unfolding reading answered-whole
 reading-refused text k n e = ap answered-whole e
 
--- Where the first part of the reading accepts, there is a file and this is its table.
-pub accepted-file : (text : List ℕ) (q : FileRead) → q ≡ file-read (parse text) → q .outcome ≡ Accepted → (f : File) × (parse text ≡ accepted f) × (q .table ≡ table-for f)
-unfolding file-read
-accepted-file text q e o = go (parse text) refl e
-  where
-    go : (a : Parsed) → parse text ≡ a → q ≡ file-read a → (f : File) × (parse text ≡ accepted f) × (q .table ≡ table-for f)
-    go (accepted f) r s = (f, r, ap (λ (x : FileRead). x .table) s)
-    go (refused k n) r s = absurd (clash (sym o ∙ ap (λ (x : FileRead). x .outcome) s))
-      where
-        clash : Accepted ≡ Refused k n → ⊥
-        clash c = let z : _≡_ {A = ℕ} 0 1 = cc in omega arith
-
-pub file-fits : (text : List ℕ) (q : FileRead) → q ≡ file-read (parse text) → q .outcome ≡ Accepted → TableFits (q .table)
-file-fits text q e o =
-    let w = accepted-file text q e o in
-    let D = file-declared text (w .0) (accepts-iff text (w .0) .0 (w .1)) in
-    rw (w .2) (well-formed-fits (table-for (w .0)) (file-shaped (w .0) D) (file-well-formed (w .0) D))
-
-pub whole-layered : (text : List ℕ) (q : FileRead) (l : Layering) (o : found.Outcome) → q ≡ file-read (parse text) → q .outcome ≡ Accepted → l ≡ layering (q .table) → l .outcome ≡ o
-    → record { outcome = outcome-for o; table = l .table } ≡ reading text
-whole-layered text q l o e a s t =
-    let w = accepted-file text q e a in
-    ap (λ (x : found.Outcome). record { outcome = outcome-for x; table = l .table }) (sym t)
-    ∙ ap answer-for (s ∙ ap layering (w .2)) ∙ layered-table (w .0) ∙ sym (reading-file text (w .0) (w .1))
-
-pub whole-refused : (text : List ℕ) (q : FileRead) (k n : ℕ) → q ≡ file-read (parse text) → q .outcome ≡ Refused k n → record { outcome = Refused k n; table = q .table } ≡ reading text
-unfolding file-read
-whole-refused text q k n e o = go (parse text) refl e
-  where
-    go : (a : Parsed) → parse text ≡ a → q ≡ file-read a → record { outcome = Refused k n; table = q .table } ≡ reading text
-    go (accepted f) r s = absurd (clash (sym o ∙ ap (λ (x : FileRead). x .outcome) s))
-      where
-        clash : Refused k n ≡ Accepted → ⊥
-        clash c = let z : _≡_ {A = ℕ} 0 1 = cc in omega arith
-    go (refused j m) r s =
-        ap (λ (x : Outcome). record { outcome = x; table = q .table }) (sym o) ∙ s ∙ sym (reading-refused text j m r)
-
 -- The two answers of a file as read.
 layered-zero : (f : File) → circle-of weak (f .rules) ≡ 0 → layered f ≡ record { outcome = Accepted; table = with-strata (table-for f) }
 unfolding layered
@@ -118,6 +59,27 @@ layered-zero f z = rw (eq-eqb (circle-of weak (f .rules)) 0 z) refl
 layered-circle : (f : File) → (circle-of weak (f .rules) ≡ 0 → ⊥) → layered f ≡ record { outcome = Refused 18 (circle-of weak (f .rules)); table = empty-table }
 unfolding layered
 layered-circle f n = rw (ne-eqb (circle-of weak (f .rules)) 0 n) refl
+
+-- The table of a file fits, and its arrays have their places.
+pub file-table-fits : (text : List ℕ) (f : File) → parse text ≡ accepted f → TableFits (table-for f)
+file-table-fits text f e =
+    let D = file-declared text f (accepts-iff text f .0 e) in
+    well-formed-fits (table-for f) (file-shaped f D) (file-well-formed f D)
+
+pub file-table-shaped : (text : List ℕ) (f : File) → parse text ≡ accepted f → Shaped (table-for f)
+file-table-shaped text f e = file-shaped f (file-declared text f (accepts-iff text f .0 e))
+
+-- What the code answers: a file's table with the least strata, 18, or the grammar's refusal.
+pub whole-layered : (text : List ℕ) (f : File) (u : Table) → parse text ≡ accepted f → circle-of weak (f .rules) ≡ 0 → u ≡ with-strata (table-for f)
+    → record { outcome = Accepted; table = u } ≡ reading text
+whole-layered text f u e z d = ap (λ (x : Table). record { outcome = Accepted; table = x }) d ∙ sym (reading-file text f e ∙ layered-zero f z)
+
+pub whole-circle : (text : List ℕ) (f : File) (k : ℕ) → parse text ≡ accepted f → k ≡ circle-of weak (f .rules) → 0 < k
+    → record { outcome = Refused 18 k; table = empty-table } ≡ reading text
+whole-circle text f k e z l = rw z (sym (reading-file text f e ∙ layered-circle f (λ (w : circle-of weak (f .rules) ≡ 0). omega arith)))
+
+pub whole-refused : (text : List ℕ) (k n : ℕ) → parse text ≡ refused k n → record { outcome = Refused k n; table = empty-table } ≡ reading text
+whole-refused text k n e = sym (reading-refused text k n e)
 
 -- The grammar's reading gives 10 to 17.
 pub refused-range : (text : List ℕ) (k n : ℕ) → parse text ≡ refused k n → (10 ≤ k) × (k ≤ 17)
@@ -234,8 +196,14 @@ reading-passes text = go (parse text) refl
   where
     go : (a : Parsed) → parse text ≡ a → T (sound (reading text .table))
     go (accepted f) e =
-        let D = file-declared text f (accepts-iff text f .0 e) in
-        rw (reading-file text f e ∙ sym (layered-table f)) (layer-passes (table-for f) (file-shaped f D) (file-well-formed f D))
+        rw (reading-file text f e) (by-circle (eqb (circle-of weak (f .rules)) 0) refl)
+      where
+        by-circle : (b : Bool) → eqb (circle-of weak (f .rules)) 0 ≡ b → T (sound (layered f .table))
+        by-circle true q =
+            let D = file-declared text f (accepts-iff text f .0 e) in
+            let z = eqb-true (circle-of weak (f .rules)) 0 q in
+            rw (layered-zero f z) (layered-passes (table-for f) (file-shaped f D) (file-well-formed f D) (rw (file-rules f) z))
+        by-circle false q = rw (layered-circle f (eqb-false (circle-of weak (f .rules)) 0 q)) empty-passes
     go (refused k n) e = rw (reading-refused text k n e) empty-passes
 
 -- A text is accepted exactly where the number of its refusal is 0.

@@ -1,5 +1,6 @@
 pub mod RuleTests
 pub mod WellFormed
+pub mod Admitted
 pub mod Passes
 pub mod Sound
 pub mod Cases

@@ -15,9 +15,8 @@ use Rattle.laws.specs.Limits.{slot-limit, value-limit}
 use Rattle.table.specs.Zero.{zero-slot}
 use Rattle.table.specs.inner.Shape.{Shaped}
 use Rattle.table.specs.Link.{rules-of, stratum-at}
-use Rattle.table.specs.inner.Fits.{TableFits}
 use Rattle.soundness.specs.Sound.{within-limits, well-formed, sound}
-use Rattle.soundness.proofs.WellFormed.{well-formed-e, well-formed-fits, sound-parts}
+use Rattle.soundness.proofs.WellFormed.{well-formed-e, sound-parts}
 use Rattle.leastness.proofs.Carried.{carries-iff}
 
 -- It has at most 32 slots.
@@ -31,10 +30,6 @@ pub sound-values : (t : Table) → Shaped t → sound t ≡ true → (i : ℕ) �
 sound-values t sh e i h =
     let w = well-formed-e t sh (sound-parts t (from-true (sound t) e) .0) in
     (w .some-value i h, w .few-values i h)
-
--- Every pair that its rules name has a place in an array indexed by pair.
-pub sound-fits : (t : Table) → Shaped t → sound t ≡ true → TableFits t
-sound-fits t sh e = well-formed-fits t sh (sound-parts t (from-true (sound t) e) .0)
 
 -- Its rules have strata, and it carries them.
 pub sound-strata : (t : Table) → sound t ≡ true → Strata weak (rules-of t) (stratum-at t)

@@ -27,6 +27,7 @@ use Rattle.table.specs.inner.Flat.{Placed}
 use Rattle.table.specs.inner.Fits.{RuleFits, TableFits}
 use Rattle.table.proofs.Link.{count-is}
 use Rattle.names.proofs.Names.{slot-inside, value-inside}
+use Rattle.rows.proofs.Laws.{at-last}
 use Rattle.soundness.specs.Sound.{within-limits, slots-have-values, has-pair, named, names-its-own, assigns-once, well-formed, sound}
 use Rattle.soundness.specs.inner.Right.{rule-right}
 use Rattle.leastness.specs.CarriesLeast.{carries-least}
@@ -111,12 +112,12 @@ module _ (t : Table) (sh : Shaped t) where
             (rules-e (λ r. each-once (assignments-of r)) n (and-r _ _ u) i h);
       }
 
--- A pair that a well-formed table has, has a place.
-pub has-placed : (t : Table) → WellFormed t → (p : Pair) → T (has-pair (t .width) (value-counts t) p) → Placed (p .slot) (p .value)
+-- A pair that a table has, has a place.
+has-placed : (width : ℕ) (counts : List ℕ) (p : Pair) → T (has-pair width counts p) → Placed (p .slot) (p .value)
 unfolding has-pair
-has-placed t w p u =
-    let a = slot-inside (t .width) (p .slot) (is-true _ (and-l _ _ u)) in
-    let b = value-inside (getD (value-counts t) (p .slot) 0) (p .value) (is-true _ (and-r _ _ u)) in
+has-placed width counts p u =
+    let a = slot-inside width (p .slot) (is-true _ (and-l _ _ u)) in
+    let b = value-inside (getD counts (p .slot) 0) (p .value) (is-true _ (and-r _ _ u)) in
     record { in-slots = a .0; in-row = omega (arith, b .1 .0) }
 
 -- The pairs that a rule names: of its trigger, of its literals, of its assignments.
@@ -126,21 +127,25 @@ named-parts f r u =
     let v = rw (all-append f (map (λ l. l .pair) (literals-of r)) (assignments-of r)) at (and-r _ _ u) in
     (and-l _ _ u, and-l _ _ v, and-r _ _ v)
 
-right-fits : (t : Table) → WellFormed t → (r : Rule) → RuleShaped r → RuleRight (t .width) (value-counts t) r → RuleFits r
-right-fits t w r sh g = record {
-  trigger = has-placed t w (rule-of r .trigger) (parts .0);
-  literals-fit = g .few-literals;
-  assignments-fit = g .few-assignments;
-  literal = λ j h. has-placed t w (literal-of (getD (r .literals) j zero-literal) .pair)
+-- A rule that is right fits.
+pub right-fits : (width : ℕ) (counts : List ℕ) (r : Rule) → RuleShaped r → T (rule-right width counts r) → RuleFits r
+right-fits width counts r sh u = record {
+  trigger = has-placed width counts (rule-of r .trigger) (parts .0);
+  literals-fit = own .few-literals;
+  assignments-fit = own .few-assignments;
+  literal = λ j h. has-placed width counts (literal-of (getD (r .literals) j zero-literal) .pair)
       (rw (List·getD-map (λ l. l .pair) (literals-of r) j (literal-of zero-literal), List·getD-map literal-of (take (r .tested) (r .literals)) j zero-literal, getD-take (r .tested) (r .literals) j zero-literal h)
-      at (all-e (has-pair (t .width) (value-counts t)) (map (λ l. l .pair) (literals-of r)) (literal-of zero-literal .pair) (parts .1) j (rw (length-map, length-map, length-take) (omega (arith, g .few-literals, sh .literal-places)))));
-  assignment = λ j h. has-placed t w (assignment-of (getD (r .assignments) j zero-assignment))
+      at (all-e (has-pair width counts) (map (λ l. l .pair) (literals-of r)) (literal-of zero-literal .pair) (parts .1) j (rw (length-map, length-map, length-take) (omega (arith, own .few-literals, sh .literal-places)))));
+  assignment = λ j h. has-placed width counts (assignment-of (getD (r .assignments) j zero-assignment))
       (rw (List·getD-map assignment-of (take (r .assigned) (r .assignments)) j zero-assignment, getD-take (r .assigned) (r .assignments) j zero-assignment h)
-      at (all-e (has-pair (t .width) (value-counts t)) (assignments-of r) (assignment-of zero-assignment) (parts .2) j (rw (length-map, length-take) (omega (arith, g .few-assignments, sh .assignment-places)))));
+      at (all-e (has-pair width counts) (assignments-of r) (assignment-of zero-assignment) (parts .2) j (rw (length-map, length-take) (omega (arith, own .few-assignments, sh .assignment-places)))));
 }
   where
-    parts : T (has-pair (t .width) (value-counts t) (rule-of r .trigger)) × T (all-of (has-pair (t .width) (value-counts t)) (map (λ l. l .pair) (literals-of r))) × T (all-of (has-pair (t .width) (value-counts t)) (assignments-of r))
-    parts = named-parts (has-pair (t .width) (value-counts t)) r (g .names-own)
+    own : RuleRight width counts r
+    own = right-e width counts r u
+
+    parts : T (has-pair width counts (rule-of r .trigger)) × T (all-of (has-pair width counts) (map (λ l. l .pair) (literals-of r))) × T (all-of (has-pair width counts) (assignments-of r))
+    parts = named-parts (has-pair width counts) r (own .names-own)
 
 -- A well-formed table fits.
 pub well-formed-fits : (t : Table) → Shaped t → T (well-formed t) → TableFits t
@@ -148,7 +153,7 @@ well-formed-fits t sh u =
     let w = well-formed-e t sh u in
     record {
       rules-fit = w .few-rules;
-      each-fits = λ i h. right-fits t w (getD (t .rules) i zero-rule) (sh .each-rule i (omega (arith, w .few-rules))) (right-e (t .width) (value-counts t) (getD (t .rules) i zero-rule) (w .each-right i h));
+      each-fits = λ i h. right-fits (t .width) (value-counts t) (getD (t .rules) i zero-rule) (sh .each-rule i (omega (arith, w .few-rules))) (w .each-right i h);
     }
 
 -- The array of counts that the code gathers: that of each of the first k slots, with what the slots are asked for.
@@ -161,18 +166,15 @@ pub record Counted (t : Table) (k : ℕ) (counts : List ℕ) : Type 0 where
 pub counted-start : (t : Table) (counts : List ℕ) → length counts ≡ slot-limit → Counted t 0 counts
 counted-start t counts l = record { places = l; same-count = λ i h. absurd (omega arith); not-none = λ i h. absurd (omega arith); not-many = λ i h. absurd (omega arith) }
 
-up-to : (P : ℕ → Type 0) (k : ℕ) → ((i : ℕ) → i < k → P i) → P k → (i : ℕ) → i < k + 1 → P i
-up-to P k f p i h = ⊎-elim (λ (e : i ≡ k). rw e p) (λ n. f i (⊎-elim (λ (l : k ≤ i). absurd (n (omega arith))) (λ (l : i < k). l) (le-or-lt k i))) (either i k)
-
 pub counted-step : (t : Table) (k : ℕ) (counts : List ℕ) → k < slot-limit → 1 ≤ getD (t .slots) k zero-slot .count → getD (t .slots) k zero-slot .count ≤ value-limit → Counted t k counts
     → Counted t (k + 1) (set counts k (getD (t .slots) k zero-slot .count))
 counted-step t k counts h lo hi g = record {
   places = length-set counts k _ ∙ g .places;
-  same-count = up-to (λ i. getD (set counts k (getD (t .slots) k zero-slot .count)) i 0 ≡ getD (t .slots) i zero-slot .count) k
+  same-count = at-last (λ i. getD (set counts k (getD (t .slots) k zero-slot .count)) i 0 ≡ getD (t .slots) i zero-slot .count) k
       (λ i l. getD-set-other counts k i _ 0 (λ (e : i ≡ k). omega arith) ∙ g .same-count i l)
       (getD-set-same counts k _ 0 (omega (arith, g .places)));
-  not-none = up-to (λ i. 1 ≤ getD (t .slots) i zero-slot .count) k (g .not-none) lo;
-  not-many = up-to (λ i. getD (t .slots) i zero-slot .count ≤ value-limit) k (g .not-many) hi;
+  not-none = at-last (λ i. 1 ≤ getD (t .slots) i zero-slot .count) k (g .not-none) lo;
+  not-many = at-last (λ i. getD (t .slots) i zero-slot .count ≤ value-limit) k (g .not-many) hi;
 }
 
 -- With it the tests of a rule are those with the table's own counts.
@@ -196,7 +198,7 @@ right-start t counts m h = absurd (omega arith)
 
 pub right-more : (t : Table) (counts : List ℕ) (i : ℕ) → rule-right (t .width) counts (getD (t .rules) i zero-rule) ≡ true → RightUpTo t counts i → RightUpTo t counts (i + 1)
 unfolding RightUpTo
-right-more t counts i e h = up-to (λ m. T (rule-right (t .width) counts (getD (t .rules) m zero-rule))) i h (from-true _ e)
+right-more t counts i e h = at-last (λ m. T (rule-right (t .width) counts (getD (t .rules) m zero-rule))) i h (from-true _ e)
 
 module _ (t : Table) (sh : Shaped t) where
   no : (T (well-formed t) → ⊥) → false ≡ well-formed t

@@ -34,7 +34,7 @@ fn literals_right(r: Rule, width: usize, counts: &[usize; SLOTS]) -> bool
     requires { ⌜ r .tested ≤ literal-limit ⌝ }
     ensures { λ b. ⌜ b ≡ all-of (has-pair width (now (counts .entry))) (map (λ l. l .pair) (literals-of r)) ⌝ }
 {
-    let m = r.tested;
+    let m = r.tested as usize;
     let mut j: usize = 0;
     while j < m {
         let l = r.literals[j];
@@ -53,7 +53,7 @@ fn assigned_from(r: Rule, k: usize, slot: u8) -> bool
     requires { ⌜ (r .assigned ≤ assignment-limit) × (k ≤ r .assigned) ⌝ }
     ensures { λ b. ⌜ b ≡ assigns (drop k (assignments-of r)) slot ⌝ }
 {
-    let m = r.assigned;
+    let m = r.assigned as usize;
     let mut j: usize = k;
     while j < m {
         let a = r.assignments[j];
@@ -71,7 +71,7 @@ fn assignments_right(r: Rule, width: usize, counts: &[usize; SLOTS]) -> bool
     requires { ⌜ r .assigned ≤ assignment-limit ⌝ }
     ensures { λ b. ⌜ b ≡ (all-of (has-pair width (now (counts .entry))) (assignments-of r) ∧ᵇ each-once (assignments-of r)) ⌝ }
 {
-    let m = r.assigned;
+    let m = r.assigned as usize;
     let mut k: usize = 0;
     while k < m {
         let a = r.assignments[k];
@@ -92,11 +92,11 @@ fn assignments_right(r: Rule, width: usize, counts: &[usize; SLOTS]) -> bool
 pub fn is_right(r: Rule, width: usize, counts: &[usize; SLOTS]) -> bool
     ensures { λ b. ⌜ b ≡ rule-right width (now (counts .entry)) r ⌝ }
 {
-    let tested = r.tested;
+    let tested = r.tested as usize;
     if LITERALS < tested {
         return false;
     }
-    let assigned = r.assigned;
+    let assigned = r.assigned as usize;
     if ASSIGNMENTS < assigned {
         return false;
     }

@@ -11,10 +11,25 @@ use lib.Seq.{drop-cons}
 use Rattle.text.specs.Tokens.{Name, Token, same-letters, place}
 use Rattle.grammar.specs.Files.{Slot, spellings, place-in, slot-names, values-of}
 use Rattle.grammar.specs.Reading.{Part, took, stop, _then_, a-name, known-value, known-slot, read-slot, read-value}
+use Rattle.text.proofs.Covering.{same-letters-eq}
 use Rattle.text.proofs.Steps.{counted, place-counted}
-use Rattle.steps.specs.inner.Spans.{span-letters, Span-lies, Listed, read-place, Number-lies}
-use Rattle.steps.specs.declared.names.Number.{Number}
-use Rattle.steps.specs.declared.names.Number.the-variants as number
+use Rattle.steps.specs.inner.Spans.{key-of, span-letters, Span-lies, Listed, read-place, Number-lies}
+use Rattle.steps.specs.declared.lookup.Number.{Number}
+use Rattle.steps.specs.declared.lookup.Number.the-variants as number
+
+-- The empty name has key 0.
+pub key-empty : (n : List ℕ) → length n ≡ 0 → 0 ≡ key-of n
+unfolding key-of
+key-empty [] e = refl
+key-empty (x ∷ xs) e = absurd (omega (arith, e))
+
+-- Names with other keys are other names.
+pub key-other : (a b : List ℕ) → (key-of b ≡ key-of a → ⊥) → same-letters a b ≡ false
+key-other a b n = go (same-letters a b) refl
+  where
+    go : (t : Bool) → same-letters a b ≡ t → same-letters a b ≡ false
+    go true e = absurd (n (ap key-of (sym (same-letters-eq a b e))))
+    go false e = e
 
 -- After `i` spans without the name, its place is its place among the names that are left, counted on.
 pub record Left (text spans letters : List ℕ) (names : List (List ℕ)) (i : ℕ) : Type 0 where

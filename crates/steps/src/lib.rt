@@ -1,3 +1,3 @@
 // The smallest steps of reading a statement: the word that must stand here, a new name, a name declared before.
-pub mod names;
+pub mod lookup;
 pub mod step;

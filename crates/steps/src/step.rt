@@ -1,9 +1,13 @@
 // One token, where a certain one must stand.
 ghost use mathlib.Core.Path.{_≡_};
 ghost use Prim.Native.Nat.{ℕ};
+ghost use mathlib.Core.List.{List};
 ghost use lib.ListN.{length};
+ghost use Rattle.classes.specs.Classes.{Classes};
+ghost use Rattle.text.specs.Next.{next-at};
 ghost use Rattle.grammar.specs.Reading.{expects, a-name};
 ghost use Rattle.steps.specs.inner.Places.{fault-of, tokens-past, step-part, Step-lies, which, choice, Fork-lies, named-part, Named-lies};
+use text::Next;
 use text::Token;
 
 // What must stand next stood there, and the position after it; or a refusal.
@@ -36,11 +40,11 @@ pub fn fault_of(token: Token, long: u8) -> u8
     }
 }
 
-// The word or mark `number` must stand at a position.
-pub fn word_next(rest: &[u8], at: usize, number: u8) -> Step
-    ensures { λ r. ⌜ ((base : ℕ) → expects number (tokens-past (now (rest .entry)) base at) ≡ step-part (now (rest .entry)) base r) × Step-lies (length (now (rest .entry))) at r ⌝ }
+// A token must be the word or mark `number`.
+pub fn word_of(next: Next, number: u8) -> Step
+    ensures { λ r. ⌜ ((rest : List ℕ) (at : ℕ) → next ≡ next-at rest at
+        → ((base : ℕ) → expects number (tokens-past rest base at) ≡ step-part rest base r) × Step-lies (length rest) at r) ⌝ }
 {
-    let next = text::token_at(rest, at);
     let after = next.at;
     let token = next.token;
     if let Token::Word(w) = token {
@@ -52,11 +56,21 @@ pub fn word_next(rest: &[u8], at: usize, number: u8) -> Step
     Step::Fault(fault_of(token, 12))
 }
 
+// The word or mark `number` must stand at a position.
+pub fn word_next(rest: &[u8], classes: &[u8; 256], at: usize, number: u8) -> Step
+    requires { ⌜ Classes (now classes) ⌝ }
+    ensures { λ r. ⌜ ((base : ℕ) → expects number (tokens-past (now (rest .entry)) base at) ≡ step-part (now (rest .entry)) base r) × Step-lies (length (now (rest .entry))) at r ⌝ }
+{
+    let next = text::token_by(rest, at, classes);
+    word_of(next, number)
+}
+
 // The word or mark `first` or the word or mark `second` must stand at a position.
-pub fn fork_next(rest: &[u8], at: usize, first: u8, second: u8) -> Fork
+pub fn fork_next(rest: &[u8], classes: &[u8; 256], at: usize, first: u8, second: u8) -> Fork
+    requires { ⌜ Classes (now classes) ⌝ }
     ensures { λ r. ⌜ ((base : ℕ) → which first second (tokens-past (now (rest .entry)) base at) ≡ choice (now (rest .entry)) base r) × Fork-lies (length (now (rest .entry))) at r ⌝ }
 {
-    let next = text::token_at(rest, at);
+    let next = text::token_by(rest, at, classes);
     let after = next.at;
     let token = next.token;
     if let Token::Word(w) = token {
@@ -71,15 +85,24 @@ pub fn fork_next(rest: &[u8], at: usize, first: u8, second: u8) -> Fork
     Fork::Fault(fault_of(token, 12))
 }
 
-// A name must stand at a position.
-pub fn name_next(rest: &[u8], at: usize) -> Named
-    ensures { λ r. ⌜ ((base : ℕ) → a-name (tokens-past (now (rest .entry)) base at) ≡ named-part (now (rest .entry)) base r) × Named-lies (length (now (rest .entry))) at r ⌝ }
+// A token must be a name.
+pub fn name_of(next: Next) -> Named
+    ensures { λ r. ⌜ ((rest : List ℕ) (at : ℕ) → next ≡ next-at rest at
+        → ((base : ℕ) → a-name (tokens-past rest base at) ≡ named-part rest base r) × Named-lies (length rest) at r) ⌝ }
 {
-    let next = text::token_at(rest, at);
     let after = next.at;
     let token = next.token;
     if let Token::Name(start, size) = token {
         return Named::At(start, size, after);
     }
     Named::Fault(fault_of(token, 13))
+}
+
+// A name must stand at a position.
+pub fn name_next(rest: &[u8], classes: &[u8; 256], at: usize) -> Named
+    requires { ⌜ Classes (now classes) ⌝ }
+    ensures { λ r. ⌜ ((base : ℕ) → a-name (tokens-past (now (rest .entry)) base at) ≡ named-part (now (rest .entry)) base r) × Named-lies (length (now (rest .entry))) at r ⌝ }
+{
+    let next = text::token_by(rest, at, classes);
+    name_of(next)
 }

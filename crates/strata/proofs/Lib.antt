@@ -1,5 +1,5 @@
 pub mod Heights
+pub mod Visits
 pub mod Rising
 pub mod Layered
 pub mod Written
-pub mod Answers

@@ -1,7 +1,7 @@
--- What the passes keep: no number exceeds any strata, and at rest the numbers are strata, so they are the least.
+-- What rounds and passes keep: no number exceeds any strata, and at rest the numbers are strata, so they are the least.
 -- Assumes nothing.
 use mathlib.Core.Path.{_≡_, refl, _∙_, ap}
-use mathlib.Core.Bool.{Bool, true, false, cond, true≢false}
+use mathlib.Core.Bool.{Bool, true, false, cond, false≢true}
 use mathlib.Core.List.{List, [], _∷_}
 use mathlib.Core.Logic.{_⊎_, inl, inr, ⊎-elim}
 use Prim.Native.Nat.{ℕ, zero, suc, _+_, _*_, _-_, _≤_, _<_}
@@ -10,7 +10,7 @@ use native.Mathlib.Nat.{eq-or-lt-of-le}
 use lib.Dec.{T, ltb}
 use lib.ListN.{length, getD, set, replicate, length-set, length-replicate}
 use lib.Seq.{getD-set-same, getD-set-other}
-use borrow.Author.Tests.{eq-eqb, ne-eqb, lt-ltb, le-ltb}
+use borrow.Author.Tests.{lt-ltb, le-ltb}
 use Rattle.laws.specs.Numbers.{Numbered}
 use Rattle.laws.proofs.Truth.{le-or-lt}
 use Rattle.laws.proofs.Equations.{either}
@@ -35,8 +35,7 @@ use Rattle.table.specs.inner.Fits.{RuleFits, TableFits}
 use Rattle.table.proofs.Link.{rule-at-is}
 use Rattle.table.proofs.Flat.{same-place, placed-inside}
 use Rattle.table.proofs.Fits.{assigned-placed, count-of, number, tested-in}
-use Rattle.strata.specs.declared.least.Found.{Found}
-use Rattle.strata.specs.inner.Heights.{asked-at, Small, raise-all, least-numbers, circled, found}
+use Rattle.strata.specs.inner.Heights.{asked-at, Small, raise-all, least-numbers}
 use Rattle.strata.proofs.Heights.{highest-ge, highest-lt, raise-ge, raise-hit, raise-below, raise-length}
 
 -- The sum of a list.
@@ -90,10 +89,9 @@ module _ (t : Table) where
   pub Quiet : ℕ → List ℕ → List ℕ → Type 0
   Quiet k ns hs = (m : ℕ) → m ≤ k → Numbered (length (rules-of t)) m → asked-at hs (rule-at (rules-of t) m) ≤ number-of ns m
 
-  -- What one pass keeps, from the numbers that it started at.
-  pub record Kept (ns₀ : List ℕ) (i : ℕ) (ns hs : List ℕ) (moved : Bool) : Type 0 where
+  -- What visits keep, from the numbers that they started at.
+  pub record Risen (ns₀ ns hs : List ℕ) (moved : Bool) : Type 0 where
     pub rising : Rising ns hs
-    pub quiet : moved ≡ false → Quiet i ns hs
     pub not-less : sum-of ns₀ ≤ sum-of ns
     pub more : moved ≡ true → sum-of ns₀ < sum-of ns
 
@@ -167,7 +165,8 @@ module _ (t : Table) (fits : TableFits t) (sh : Shaped t) where
   unfolding Quiet
   quiet-start ns hs m le i = absurd (omega (arith, i .first))
 
-  quiet-more : (i : ℕ) (ns hs : List ℕ) (s : ℕ) → i < t .count → s ≡ asked-at hs (rule-of (getD (t .rules) i zero-rule)) → s ≤ getD ns i 0
+  -- A rule that asks for no more is at rest.
+  pub quiet-more : (i : ℕ) (ns hs : List ℕ) (s : ℕ) → i < t .count → s ≡ asked-at hs (rule-of (getD (t .rules) i zero-rule)) → s ≤ getD ns i 0
       → Quiet t i ns hs → Quiet t (i + 1) ns hs
   unfolding Quiet number-of
   quiet-more i ns hs s l e lt q = λ m le im. ⊎-elim
@@ -175,25 +174,18 @@ module _ (t : Table) (fits : TableFits t) (sh : Shaped t) where
       (λ (z : m < suc i). q m (omega arith) im)
       (eq-or-lt-of-le (let w : m ≤ suc i = omega arith in w))
 
-  pub kept-raise : (ns₀ : List ℕ) (i s : ℕ) (ns hs : List ℕ) (moved : Bool) → i < t .count → s ≡ asked-at hs (rule-of (getD (t .rules) i zero-rule)) → s ≤ t .count → getD ns i 0 < s
-      → Kept t ns₀ i ns hs moved → Kept t ns₀ (i + 1) (set ns i s) (raise-all (assignments-of (getD (t .rules) i zero-rule)) s hs) true
-  kept-raise ns₀ i s ns hs moved l e top lt k =
+  pub risen-start : (ns hs : List ℕ) → Rising t ns hs → Risen t ns ns hs false
+  risen-start ns hs g = record { rising = g; not-less = omega arith; more = λ z. absurd (false≢true z) }
+
+  pub risen-step : (ns₀ : List ℕ) (i s : ℕ) (ns hs : List ℕ) (moved : Bool) → i < t .count → s ≡ asked-at hs (rule-of (getD (t .rules) i zero-rule)) → s ≤ t .count → getD ns i 0 < s
+      → Risen t ns₀ ns hs moved → Risen t ns₀ (set ns i s) (raise-all (assignments-of (getD (t .rules) i zero-rule)) s hs) true
+  risen-step ns₀ i s ns hs moved l e top lt k =
       let z = sum-set ns i s (omega (arith, k .rising .numbers-length, fits .rules-fit)) in
       record {
         rising = rising-step i ns hs s l e top (k .rising);
-        quiet = λ w. absurd (true≢false w);
         not-less = omega (arith, z, k .not-less);
         more = λ w. omega (arith, z, k .not-less);
       }
-
-  pub kept-over : (ns₀ : List ℕ) (i s : ℕ) (ns hs : List ℕ) (moved : Bool) → i < t .count → s ≡ asked-at hs (rule-of (getD (t .rules) i zero-rule)) → s ≤ getD ns i 0
-      → Kept t ns₀ i ns hs moved → Kept t ns₀ (i + 1) ns hs moved
-  kept-over ns₀ i s ns hs moved l e le k = record {
-    rising = k .rising;
-    quiet = λ z. quiet-more i ns hs s l e le (k .quiet z);
-    not-less = k .not-less;
-    more = k .more;
-  }
 
   -- The numbers at the pairs can be raised by one.
   pub rising-small : (ns hs : List ℕ) → Rising t ns hs → Small hs
@@ -215,12 +207,13 @@ module _ (t : Table) (fits : TableFits t) (sh : Shaped t) where
       last : (n : ℕ) → Numbered (length (rules-of t)) n → n ≤ t .count
       last n i = omega (arith, i .last, count-of t fits sh)
 
-  -- They are the least, since no strata are lower.
-  pub found-least : (ns hs : List ℕ) → Rising t ns hs → Quiet t (t .count) ns hs → _≡_ {A = Found} (record { circle = 0; numbers = ns }) (found t)
-  unfolding found least-numbers number-of
-  found-least ns hs g q =
-      rw (eq-eqb (circle-of weak (rules-of t)) 0 (no-circle weak (rules-of t) (number-of ns) (rest-strata ns hs g q)))
-      (ap (λ (xs : List ℕ). record { circle = 0; numbers = xs }) (is-tabulate (λ i. cond (ltb i (t .count)) (strata-of weak (rules-of t) (suc i)) 0) rule-limit 0 ns (g .numbers-length) (λ i h. by-count i (le-or-lt (t .count) i))))
+  -- Then there is no circle, and they are the least, since no strata are lower.
+  pub rest-least : (ns hs : List ℕ) → Rising t ns hs → Quiet t (t .count) ns hs → (circle-of weak (rules-of t) ≡ 0) × (ns ≡ least-numbers t)
+  unfolding least-numbers number-of
+  rest-least ns hs g q = (
+    no-circle weak (rules-of t) (number-of ns) (rest-strata ns hs g q),
+    is-tabulate (λ i. cond (ltb i (t .count)) (strata-of weak (rules-of t) (suc i)) 0) rule-limit 0 ns (g .numbers-length) (λ i h. by-count i (le-or-lt (t .count) i)),
+  )
     where
       by-count : (i : ℕ) → (t .count ≤ i) ⊎ (i < t .count) → getD ns i 0 ≡ cond (ltb i (t .count)) (strata-of weak (rules-of t) (suc i)) 0
       by-count i (inl le) = rw (le-ltb i (t .count) le) (g .beyond i le)
@@ -238,18 +231,13 @@ module _ (t : Table) (fits : TableFits t) (sh : Shaped t) where
         rw (rule-at-is t i l) at (asked-top ns hs g _ L (suc i) (number t fits sh i l)),
       )
 
--- Where there is a circle, its lowest rule is found.
-pub found-circle : (t : Table) (k : ℕ) → k ≡ circle-of weak (rules-of t) → (circle-of weak (rules-of t) ≡ 0 → ⊥) → circled k ≡ found t
-unfolding found
-found-circle t k e n = rw (ne-eqb (circle-of weak (rules-of t)) 0 n, e)
-
--- The measure of the passes: 255 numbers of at most 255 can rise 65,025 times in all; a pass that moves something raises the sum, and one that moves nothing is the last.
+-- The measure of rounds and passes: 255 numbers of at most 255 can rise 65,025 times in all; one that moves something raises the sum, and one that moves nothing is the last.
 unfoldable pub passes-left : List ℕ → Bool → ℕ
 passes-left ns moved = 2 * (65025 - sum-of ns) + cond moved 1 0
 
-pub pass-falls : (t : Table) (ns₀ : List ℕ) (i : ℕ) (ns hs : List ℕ) (moved : Bool) → Kept t ns₀ i ns hs moved → passes-left ns moved < passes-left ns₀ true
+pub pass-falls : (t : Table) (ns₀ ns hs : List ℕ) (moved : Bool) → Risen t ns₀ ns hs moved → passes-left ns moved < passes-left ns₀ true
 unfolding passes-left
-pass-falls t ns₀ i ns hs moved k = go moved (k .more)
+pass-falls t ns₀ ns hs moved k = go moved (k .more)
   where
     top : sum-of ns ≤ 65025
     top = omega (arith, sum-top ns rule-limit (k .rising .small), k .rising .numbers-length)

@@ -1,59 +1,51 @@
-// The least strata of a table's rules, by passes over an array indexed by pair.
+// The least strata of rules: numbers at the pairs, raised until nothing moves.
 ghost use mathlib.Core.Path.{_≡_};
-ghost use Rattle.table.specs.Link.{rule-of, assignments-of};
-ghost use Rattle.table.specs.inner.Fits.{RuleFits, TableFits};
-ghost use Rattle.strata.specs.inner.Heights.{asked-at, Small, raise-all, circled, found};
+ghost use lib.ListN.{replicate};
+ghost use Rattle.laws.specs.Limits.{rule-limit};
+ghost use Rattle.model.specs.Strata.{weak};
+ghost use Rattle.model.specs.Circles.{circle-of};
+ghost use Rattle.table.specs.Link.{rule-of, rules-of, assignments-of};
+ghost use Rattle.rows.specs.inner.Rows.{rule-in, table-in, RowFits, RowsFit};
+ghost use Rattle.strata.specs.inner.Heights.{asked-at, Small, raise-all, least-numbers};
+use crate::order::VISITS;
+use crate::order::order_of;
+use rows::NUMBERS;
 use table::PAIRS;
 use table::RULES;
-use table::Rule;
-use table::Table;
 
-// The least strata, that of rule 1 first, and circle 0; or the lowest rule on a circle through a NOT, and no numbers.
-pub struct Found {
-    pub circle: usize,
-    pub numbers: [usize; RULES],
-}
+// The round before which a circle is looked for.
+const SOUGHT: usize = 4;
 
 // The least number that a rule can have where these numbers stand at the pairs: it stays level with a pair that it needs, and stands above one that it bars.
-pub fn asked(r: Rule, high: &[usize; PAIRS]) -> usize
-    requires { ⌜ RuleFits r × Small (now high) ⌝ }
-    ensures { λ h. ⌜ h ≡ asked-at (now (high .entry)) (rule-of r) ⌝ }
+pub fn asked(row: &[u16; NUMBERS], high: &[u16; PAIRS]) -> u16
+    requires { ⌜ RowFits (now row) × Small (now high) ⌝ }
+    ensures { λ h. ⌜ h ≡ asked-at (now (high .entry)) (rule-of (rule-in (now (row .entry)))) ⌝ }
 {
-    let slot = r.slot;
-    let value = r.value;
-    let at = table::place(slot, value);
+    let at = rows::place(rows::trigger(row));
     let w = high[at];
-    let mut h = if w < 1 { 1 } else { w };
-    let m = r.tested;
+    let mut h: u16 = if w < 1 { 1 } else { w };
+    let m = rows::tested(row);
     let mut j: usize = 0;
     'literals: while j < m {
-        let l = r.literals[j];
+        let x = rows::literal(row, j);
         j += 1;
-        if !table::is_becomes(l) {
-            continue 'literals;
-        }
-        let s = l.slot;
-        let v = l.value;
-        let k = table::place(s, v);
-        let x = high[k];
-        let y = if l.negated { x + 1 } else { x };
+        let p = rows::place(x);
+        let z = high[p] + rows::above(x);
+        let y: u16 = if rows::is_becomes(x) { z } else { 0 };
         h = if h < y { y } else { h };
     }
     h
 }
 
 // The pairs that a rule assigns are raised to s.
-pub fn raise(r: Rule, s: usize, high: &mut [usize; PAIRS])
-    requires { ⌜ RuleFits r ⌝ }
-    ensures { λ _. ⌜ now (high .exit) ≡ raise-all (assignments-of r) s (now (high .entry)) ⌝ }
+pub fn raise(row: &[u16; NUMBERS], s: u16, high: &mut [u16; PAIRS])
+    requires { ⌜ RowFits (now row) ⌝ }
+    ensures { λ _. ⌜ now (high .exit) ≡ raise-all (assignments-of (rule-in (now (row .entry)))) s (now (high .entry)) ⌝ }
 {
-    let m = r.assigned;
+    let m = rows::assigned(row);
     let mut k: usize = 0;
     while k < m {
-        let a = r.assignments[k];
-        let slot = a.slot;
-        let value = a.value;
-        let at = table::place(slot, value);
+        let at = rows::place(rows::assignment(row, k));
         let h = high[at];
         let v = if h < s { s } else { h };
         high[at] = v;
@@ -61,59 +53,65 @@ pub fn raise(r: Rule, s: usize, high: &mut [usize; PAIRS])
     }
 }
 
-// What is found where k is the lowest rule on a circle through a NOT.
-fn circled(k: usize) -> Found
-    ensures { λ r. ⌜ r ≡ circled k ⌝ }
+// The least strata in `numbers`, that of rule 1 first, and 0; or the lowest rule on a circle through a NOT.
+// Rounds visit the rules in a good order until one raises nothing. The order is a hint, so passes over all rules follow until one moves nothing; that the first is the last is not proved.
+// Rounds and passes end: one that moves something raises the sum of the numbers, and a number that would pass the number of rules says that there is a circle.
+// Rounds along a circle with a NOT would count up to that, so before the fourth a circle is looked for; this bounds the cost and decides nothing.
+pub fn find(rows: &[[u16; NUMBERS]; RULES], n: usize, numbers: &mut [u16; RULES]) -> usize
+    requires { ⌜ RowsFit (now rows) n × (now numbers ≡ replicate rule-limit 0) ⌝ }
+    ensures { λ k. ⌜ (k ≡ circle-of weak (rules-of (table-in (now (rows .entry)) n))) × (k ≡ 0 → now (numbers .exit) ≡ least-numbers (table-in (now (rows .entry)) n)) ⌝ }
 {
-    let none: [usize; RULES] = [0; RULES];
-    Found {
-        circle: k,
-        numbers: none,
-    }
-}
-
-// Passes over the rules: each raises a rule to the number that those which assign the pairs it tests ask, until nothing moves.
-// The passes end: a pass that moves something raises the sum of the numbers, no number passes the number of rules (the least strata never do, so that
-// one that would says that there is a circle), and a pass that moves nothing is the last.
-// A circle is also looked for after one pass more than there are rules: a stratum is one more than the most NOTs on a walk of dependence, and without a
-// circle through a NOT such a walk needs no rule twice, so that as many passes find all strata. A circle raises its rules by no more than its NOTs each time round. This bounds the cost, and is not proved.
-pub fn find(t: Table) -> Found
-    requires { ⌜ TableFits t ⌝ }
-    ensures { λ r. ⌜ r ≡ found t ⌝ }
-{
-    let n = t.count;
-    let mut numbers: [usize; RULES] = [0; RULES];
-    let mut high: [usize; PAIRS] = [0; PAIRS];
-    let mut left = n + 1;
-    let mut moved = true;
-    'passes: while moved {
+    let mut high: [u16; PAIRS] = [0; PAIRS];
+    let mut order: [u16; VISITS] = [0; VISITS];
+    let tail = order_of(rows, n, &mut order);
+    let top = n as u16;
+    let mut left = SOUGHT;
+    let mut raised = true;
+    'rounds: while raised {
         if 0 < left {
             left -= 1;
-        } else {
-            let k = circles::lowest(t);
-            if 0 < k {
-                return circled(k);
+            if left == 0 {
+                let c = circles::lowest(rows, n);
+                if 0 < c {
+                    return c;
+                }
             }
         }
+        raised = false;
+        let mut k: usize = 0;
+        'visits: while k < tail {
+            let i = rows::wide(order[k]);
+            k += 1;
+            let s = asked(&rows[i], &high);
+            if top < s {
+                return circles::lowest(rows, n);
+            }
+            if s <= numbers[i] {
+                continue 'visits;
+            }
+            numbers[i] = s;
+            raise(&rows[i], s, &mut high);
+            raised = true;
+        }
+    }
+    let mut moved = true;
+    'passes: while moved {
         moved = false;
         let mut i: usize = 0;
         'rules: while i < n {
-            let r = t.rules[i];
-            let s = asked(r, &high);
-            if n < s {
-                let k = circles::lowest(t);
-                return circled(k);
-            }
-            if numbers[i] < s {
-                numbers[i] = s;
-                raise(r, s, &mut high);
-                moved = true;
-            }
+            let e = i;
             i += 1;
+            let s = asked(&rows[e], &high);
+            if top < s {
+                return circles::lowest(rows, n);
+            }
+            if s <= numbers[e] {
+                continue 'rules;
+            }
+            numbers[e] = s;
+            raise(&rows[e], s, &mut high);
+            moved = true;
         }
     }
-    Found {
-        circle: 0,
-        numbers: numbers,
-    }
+    0
 }

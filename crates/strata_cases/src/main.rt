@@ -1,6 +1,7 @@
 // Writes what the crate strata says of each table on standard input, then of chains of every length.
+ghost use Rattle.rows.specs.inner.Rows.{RowsFit};
 use libc::STDOUT_FILENO;
-use strata::Outcome;
+use rows::NUMBERS;
 use table::ASSIGNMENTS;
 use table::Assignment;
 use table::LITERALS;
@@ -8,6 +9,7 @@ use table::Literal;
 use table::RULES;
 use table::Rule;
 use table::SLOTS;
+use table::Stratum;
 use table::Table;
 
 // A byte of the input, 0 after its end.
@@ -37,7 +39,7 @@ fn read_literals(s: &[u8], start: usize, before: Rule, fill: u8) -> ReadRule {
     let size = s.len();
     let mut at = start;
     let mut r = before;
-    let tested = r.tested;
+    let tested = r.tested as usize;
     let mut j: usize = 0;
     while j < LITERALS {
         if j < tested {
@@ -71,7 +73,7 @@ fn read_assignments(s: &[u8], start: usize, before: Rule, fill: u8) -> ReadRule 
     let size = s.len();
     let mut at = start;
     let mut r = before;
-    let assigned = r.assigned;
+    let assigned = r.assigned as usize;
     let mut j: usize = 0;
     while j < ASSIGNMENTS {
         if j < assigned {
@@ -105,12 +107,12 @@ fn read_rule(s: &[u8], start: usize, fill: u8) -> ReadRule {
     at = next(at, size);
     r.stratum = byte(s, at);
     at = next(at, size);
-    r.tested = table::wide(byte(s, at));
+    r.tested = byte(s, at);
     at = next(at, size);
     let half = read_literals(s, at, r, fill);
     let mut q = half.rule;
     at = half.at;
-    q.assigned = table::wide(byte(s, at));
+    q.assigned = byte(s, at);
     at = next(at, size);
     read_assignments(s, at, q, fill)
 }
@@ -121,31 +123,31 @@ fn read_table(s: &[u8], start: usize) -> ReadTable {
     let mut at = start;
     let fill = byte(s, at);
     at = next(at, size);
-    let width = table::wide(byte(s, at));
+    let width = byte(s, at) as u16;
     at = next(at, size);
     let mut t = table::empty_table();
     t.width = width;
     let mut k: usize = 0;
     'slots: while k < SLOTS {
         let mut slot = t.slots[k];
-        if k < width {
-            slot.count = table::wide(byte(s, at));
+        if k < width as usize {
+            slot.count = byte(s, at) as u16;
             at = next(at, size);
         } else {
-            slot.count = table::wide(fill);
+            slot.count = fill as u16;
         }
         t.slots[k] = slot;
         k += 1;
     }
-    let high = table::wide(byte(s, at));
+    let high = byte(s, at) as u16;
     at = next(at, size);
-    let low = table::wide(byte(s, at));
+    let low = byte(s, at) as u16;
     at = next(at, size);
     let count = high * 256 + low;
     t.count = count;
     let mut i: usize = 0;
     'rules: while i < RULES {
-        if i < count {
+        if i < count as usize {
             let got = read_rule(s, at, fill);
             let r = got.rule;
             at = got.at;
@@ -173,7 +175,7 @@ fn write_answer(yes: bool) {
 
 // The strata that a table carries.
 fn write_strata(t: Table) {
-    let n = t.count;
+    let n = t.count as usize;
     let mut i: usize = 0;
     while i < RULES {
         if i < n {
@@ -185,24 +187,54 @@ fn write_strata(t: Table) {
     }
 }
 
+// The table with the least strata; or the lowest rule on a circle through a NOT, and the table without slots or rules.
+struct Layering {
+    circle: usize,
+    table: Table,
+}
+
+// The least strata of a table's rules, found from its rows and stored into it.
+fn layer(t: Table, rows: &[[u16; NUMBERS]; RULES]) -> Layering
+    requires { ⌜ RowsFit (now rows) (t .count) ⌝ }
+{
+    let n = t.count as usize;
+    let mut numbers: [u16; RULES] = [0; RULES];
+    let k = strata::least::find(rows, n, &mut numbers);
+    if 0 < k {
+        return Layering {
+            circle: k,
+            table: table::empty_table(),
+        };
+    }
+    let mut u = t;
+    let mut i: usize = 0;
+    while i < n {
+        let s = numbers[i];
+        u.rules[i].stratum = s as Stratum;
+        i += 1;
+    }
+    Layering {
+        circle: 0,
+        table: u,
+    }
+}
+
 // What `layer` says of a table, and whether the table that it hands out passes.
 fn write_layering(t: Table) {
-    let ok = soundness::is_well_formed(t);
-    if !ok {
+    let mut counts: [usize; SLOTS] = [0; SLOTS];
+    let mut rows: [[u16; NUMBERS]; RULES] = [[0; NUMBERS]; RULES];
+    if !soundness::enter(t, &mut counts, &mut rows) {
         return;
     }
-    let answer = strata::layer(t);
+    let answer = layer(t, &rows);
     let u = answer.table;
-    let outcome = answer.outcome;
-    match outcome {
-        Outcome::Layered => {
-            io::write_all(STDOUT_FILENO, b" layered");
-            write_strata(u);
-        }
-        Outcome::Circle(k) => {
-            io::write_all(STDOUT_FILENO, b" circle");
-            write_number(table::wide(k));
-        }
+    let k = answer.circle;
+    if 0 < k {
+        io::write_all(STDOUT_FILENO, b" circle");
+        write_number(k);
+    } else {
+        io::write_all(STDOUT_FILENO, b" layered");
+        write_strata(u);
     }
     io::write_all(STDOUT_FILENO, b" passes");
     write_answer(soundness::is_sound(u));
@@ -271,11 +303,12 @@ fn link_by(a: usize, b: usize, under_not: bool) -> Rule {
     link(a, b)
 }
 
-// A chain of n rules: each tests what the one before it assigns, or the one after it; plainly or under NOT.
-fn chain(n: usize, backward: bool, under_not: bool) -> Table {
+// A chain of so many rules: each tests what the one before it assigns, or the one after it; plainly or under NOT.
+fn chain(length: u8, backward: bool, under_not: bool) -> Table {
     let mut t = table::empty_table();
-    t.width = SLOTS;
-    t.count = n;
+    t.width = SLOTS as u16;
+    t.count = length as u16;
+    let n = table::wide(length);
     let mut k: usize = 0;
     'slots: while k < SLOTS {
         let mut slot = t.slots[k];
@@ -301,13 +334,14 @@ fn chain(n: usize, backward: bool, under_not: bool) -> Table {
 
 // What `layer` says of a chain: the strata of its first and its last rule, and whether the table then passes.
 fn write_chain(t: Table) {
-    let ok = soundness::is_well_formed(t);
-    if !ok {
+    let mut counts: [usize; SLOTS] = [0; SLOTS];
+    let mut rows: [[u16; NUMBERS]; RULES] = [[0; NUMBERS]; RULES];
+    if !soundness::enter(t, &mut counts, &mut rows) {
         return;
     }
-    let answer = strata::layer(t);
+    let answer = layer(t, &rows);
     let u = answer.table;
-    let n = u.count;
+    let n = u.count as usize;
     let first = u.rules[0];
     write_number(table::wide(first.stratum));
     if 0 < n {
@@ -321,21 +355,21 @@ fn write_chain(t: Table) {
 }
 
 // One chain under its name.
-fn write_named(name: &[u8], n: usize, backward: bool, under_not: bool) {
+fn write_named(name: &[u8], length: u8, backward: bool, under_not: bool) {
     io::write_all(STDOUT_FILENO, name);
-    write_number(n);
-    write_chain(chain(n, backward, under_not));
+    write_number(table::wide(length));
+    write_chain(chain(length, backward, under_not));
 }
 
 // Chains of every length, both ways, plain and under NOT.
 fn write_chains() {
-    let mut n: usize = 0;
-    while n < RULES {
-        n += 1;
-        write_named(b"forward", n, false, false);
-        write_named(b"backward", n, true, false);
-        write_named(b"forward-not", n, false, true);
-        write_named(b"backward-not", n, true, true);
+    let mut length: u8 = 0;
+    while table::wide(length) < RULES {
+        length += 1;
+        write_named(b"forward", length, false, false);
+        write_named(b"backward", length, true, false);
+        write_named(b"forward-not", length, false, true);
+        write_named(b"backward-not", length, true, true);
     }
 }
 

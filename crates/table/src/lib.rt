@@ -2,8 +2,6 @@
 ghost use mathlib.Core.Path.{_≡_};
 ghost use Rattle.table.specs.Empty.{unused-rule, empty-table};
 ghost use Rattle.table.specs.inner.Flat.{Placed, At};
-ghost use Rattle.table.specs.Link.{literal-of};
-ghost use Rattle.model.specs.Strata.{is-becomes, is-plain, is-under-not};
 
 // The limits of document 01; `laws/specs/Limits.antt` has the same numbers.
 pub const SLOTS: usize = 32;
@@ -20,9 +18,6 @@ pub const ASSIGNMENTS: usize = 4;
 pub const ROW: usize = VALUES + 1;
 
 pub const PAIRS: usize = SLOTS * ROW;
-
-// A rule's number, from 1.
-pub type RuleNumber = u8;
 
 // A stratum, from 1.
 pub type Stratum = u8;
@@ -49,17 +44,20 @@ pub struct Rule {
     pub slot: u8,
     pub value: u8,
     pub literals: [Literal; LITERALS],
-    pub tested: usize,
+    pub tested: u8,
     pub assignments: [Assignment; ASSIGNMENTS],
-    pub assigned: usize,
+    pub assigned: u8,
     pub stratum: Stratum,
 }
+
+// A place in a rule text, or a length of a part of it.
+pub type Offset = u16;
 
 // Where a name stands in the rule text.
 #[repr(C)]
 pub struct Name {
-    pub start: usize,
-    pub size: usize,
+    pub start: Offset,
+    pub size: Offset,
 }
 
 // A slot: its name, and the names of its values with the number used.
@@ -67,16 +65,16 @@ pub struct Name {
 pub struct Slot {
     pub name: Name,
     pub values: [Name; VALUES],
-    pub count: usize,
+    pub count: u16,
 }
 
 // The slots with the number used, and the rules with the number used.
 #[repr(C)]
 pub struct Table {
     pub slots: [Slot; SLOTS],
-    pub width: usize,
+    pub width: u16,
     pub rules: [Rule; RULES],
-    pub count: usize,
+    pub count: u16,
 }
 
 // A rule's place that is not used: zero throughout.
@@ -135,25 +133,4 @@ pub fn place(slot: u8, value: u8) -> usize
     let s = slot as usize;
     let v = value as usize;
     s * ROW + v
-}
-
-// Whether a literal is a `*=`, plain or under NOT; `|=` binds nothing.
-pub fn is_becomes(l: Literal) -> bool
-    ensures { λ b. ⌜ b ≡ is-becomes (literal-of l) ⌝ }
-{
-    l.becomes
-}
-
-// Whether a literal is a plain `*=`: along it strata may stay level.
-pub fn is_plain(l: Literal) -> bool
-    ensures { λ b. ⌜ b ≡ is-plain (literal-of l) ⌝ }
-{
-    l.becomes && !l.negated
-}
-
-// Whether a literal is a `*=` under NOT: along it strata must fall.
-pub fn is_under_not(l: Literal) -> bool
-    ensures { λ b. ⌜ b ≡ is-under-not (literal-of l) ⌝ }
-{
-    l.becomes && l.negated
 }

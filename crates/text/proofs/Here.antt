@@ -40,6 +40,11 @@ unfolding run-token
 run-word s a b w h k l e z =
     rw (part-length s a b h k, le-ltb name-limit (b - a) l, ← e) (coded-word (record { start = a; letters = take (b - a) (drop a s) }) w z)
 
+-- White passed over in part leaves the token.
+pub next-same : (s : List ℕ) (at i : ℕ) → i + white (drop i s) ≡ at + white (drop at s) → next-at s i ≡ next-at s at
+unfolding next-at
+next-same s at i e = rw e
+
 -- Nothing but white stands there.
 pub next-end : (s : List ℕ) (at p : ℕ) → p ≡ at + white (drop at s) → length s ≤ p → next-at s at ≡ record { token = v.End; at = p }
 unfolding next-at next-from

@@ -4,12 +4,12 @@ use Prim.Native.Nat.{ℕ, zero, suc, _+_, _≤_, _<_}
 use native.Mathlib.Omega.{arith}
 use native.Mathlib.Numerals.{add-one}
 use mathlib.Core.Path.{_≡_, refl, sym, _∙_}
-use mathlib.Core.Bool.{Bool, true, false, cond}
+use mathlib.Core.Bool.{Bool, true, false, cond, _&&_, true≢false}
 use mathlib.Core.List.{List, [], _∷_}
 use lib.Dec.{eqb}
 use lib.ListN.{length, drop, getD, drop-of-length-le}
 use lib.Seq.{drop-cons}
-use borrow.Author.Tests.{ne-eqb}
+use borrow.Author.Tests.{ne-eqb, eqb-true}
 use Rattle.classes.specs.Classes.{one-of, class-of}
 use Rattle.text.specs.Tokens.{Name, run, same-letters, one-further, place, word-or-name}
 use Rattle.text.specs.Next.{white, coded}
@@ -29,6 +29,24 @@ white-stops s i c h e f = white-at s i h ∙ rw (← e, ne-eqb c 1 f)
 pub white-ends : (s : List ℕ) (i : ℕ) → length s ≤ i → white (drop i s) ≡ 0
 unfolding white
 white-ends s i h = rw (drop-of-length-le s h)
+
+pub white-space : (s : List ℕ) (i : ℕ) → i < length s → getD s i 0 ≡ 32 → white (drop i s) ≡ suc (white (drop (i + 1) s))
+unfolding class-of
+white-space s i h e = white-one s i 1 h (rw e) refl
+
+-- No space yet.
+pub blank-none : (s : List ℕ) (at : ℕ) → white (drop at s) ≡ 0 + white (drop (at + 0) s)
+blank-none s at = let z : at + 0 ≡ at = omega arith in rw z (omega arith)
+
+-- One space more after `i` others.
+pub blank-next : (s : List ℕ) (at i : ℕ) (b : Bool) → at + i < length s → (b ≡ true → white (drop at s) ≡ i + white (drop (at + i) s)) → b && eqb (getD s (at + i) 0) 32 ≡ true
+    → white (drop at s) ≡ i + 1 + white (drop (at + (i + 1)) s)
+blank-next s at i true h f e =
+    let q : at + i + 1 ≡ at + (i + 1) = omega arith in
+    let z = rw q at (white-space s (at + i) h (eqb-true (getD s (at + i) 0) 32 e)) in
+    let w = f refl in
+    omega arith
+blank-next s at i false h f e = absurd (true≢false (sym e))
 
 -- The run of name bytes.
 run-at : (s : List ℕ) (i : ℕ) → i < length s → run (drop i s) ≡ cond (one-of (2 ∷ 3 ∷ []) (class-of (getD s i 0))) (suc (run (drop (i + 1) s))) 0

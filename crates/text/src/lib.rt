@@ -1,6 +1,6 @@
 // The text of rule files: one token at a position.
 ghost use mathlib.Core.Path.{_≡_};
-ghost use mathlib.Core.Bool.{cond};
+ghost use mathlib.Core.Bool.{true, cond};
 ghost use Prim.Native.Nat.{_+_, _-_, _≤_};
 ghost use lib.ListN.{length, take, drop};
 ghost use Rattle.classes.specs.Classes.{Classes};
@@ -57,6 +57,36 @@ pub enum Token {
 pub struct Next {
     pub token: Token,
     pub at: usize,
+}
+
+// Whether sixteen spaces stand from `at` on.
+fn is_blank(text: &[u8], at: usize) -> bool
+    requires { ⌜ at + 16 ≤ length (now text) ⌝ }
+    ensures { λ r. ⌜ (r ≡ true → white (drop at (now (text .entry))) ≡ 16 + white (drop (at + 16) (now (text .entry)))) ⌝ }
+{
+    let mut blank = true;
+    let mut i: usize = 0;
+    while i < 16 {
+        let space = text[at + i] == b' ';
+        blank = blank & space;
+        i += 1;
+    }
+    blank
+}
+
+// A position from which on the same token stands as from `at` on, where `at` lies in the text: spaces are passed over by sixteens.
+fn blank_end(text: &[u8], at: usize) -> usize
+    requires { ⌜ at ≤ length (now text) ⌝ }
+    ensures { λ r. ⌜ r + white (drop r (now (text .entry))) ≡ at + white (drop at (now (text .entry))) ⌝ }
+{
+    let mut i = at;
+    while 16 <= text.len() - i {
+        if !is_blank(text, i) {
+            return i;
+        }
+        i += 16;
+    }
+    i
 }
 
 // The position of the first byte from `at` on that is not white.
@@ -135,18 +165,26 @@ fn word_or(name: &[u8], word: &[u8], number: u8, otherwise: u8) -> u8
     otherwise
 }
 
-// The number of a reserved word, 0 for any other name.
+// The number of a reserved word, 0 for any other name; the first byte tells which words it can be.
 pub fn reserved_number(name: &[u8]) -> u8
     ensures { λ r. ⌜ r ≡ place (now (name .entry)) reserved ⌝ }
 {
-    let none = 0;
-    let from_true = word_or(name, b"TRUE", TRUE, none);
-    let from_not = word_or(name, b"NOT", NOT, from_true);
-    let from_and = word_or(name, b"AND", AND, from_not);
-    let from_then = word_or(name, b"THEN", THEN, from_and);
-    let from_if = word_or(name, b"IF", IF, from_then);
-    let from_when = word_or(name, b"WHEN", WHEN, from_if);
-    word_or(name, b"SLOT", SLOT, from_when)
+    if name.len() == 0 {
+        return 0;
+    }
+    let first = name[0];
+    match first {
+        b'S' => word_or(name, b"SLOT", SLOT, 0),
+        b'W' => word_or(name, b"WHEN", WHEN, 0),
+        b'I' => word_or(name, b"IF", IF, 0),
+        b'T' => {
+            let otherwise = word_or(name, b"TRUE", TRUE, 0);
+            word_or(name, b"THEN", THEN, otherwise)
+        }
+        b'A' => word_or(name, b"AND", AND, 0),
+        b'N' => word_or(name, b"NOT", NOT, 0),
+        _ => 0,
+    }
 }
 
 // The token of the run of name bytes from `start` to `end`.
@@ -165,12 +203,12 @@ fn run_token(text: &[u8], start: usize, end: usize) -> Token
     Token::Word(number)
 }
 
-// The token at a position, white before it passed over.
-pub fn token_at(text: &[u8], at: usize) -> Next
+// The token at a position, white before it passed over, by a table of the classes.
+pub fn token_by(text: &[u8], at: usize, classes: &[u8; 256]) -> Next
+    requires { ⌜ Classes (now classes) ⌝ }
     ensures { λ r. ⌜ r ≡ next-at (now (text .entry)) at ⌝ }
 {
-    let classes = classes::table();
-    let start = white_end(text, at, &classes);
+    let start = white_end(text, at, classes);
     if text.len() <= start {
         return Next {
             token: Token::End,
@@ -178,9 +216,9 @@ pub fn token_at(text: &[u8], at: usize) -> Next
         };
     }
     let b = text[start];
-    let class = classes::class_of(&classes, b);
+    let class = classes::class_of(classes, b);
     if class == classes::ALPHANUMERIC {
-        let end = run_end(text, start + 1, &classes);
+        let end = run_end(text, start + 1, classes);
         return Next {
             token: run_token(text, start, end),
             at: end,
@@ -206,4 +244,21 @@ pub fn token_at(text: &[u8], at: usize) -> Next
         token: Token::Bad,
         at: start + 1,
     }
+}
+
+// The token at a position.
+pub fn token_at(text: &[u8], at: usize) -> Next
+    ensures { λ r. ⌜ r ≡ next-at (now (text .entry)) at ⌝ }
+{
+    let classes = classes::table();
+    token_by(text, at, &classes)
+}
+
+// The first token of a text; much white may stand before it.
+pub fn first_token(text: &[u8], classes: &[u8; 256]) -> Next
+    requires { ⌜ Classes (now classes) ⌝ }
+    ensures { λ r. ⌜ r ≡ next-at (now (text .entry)) 0 ⌝ }
+{
+    let start = blank_end(text, 0);
+    token_by(text, start, classes)
 }

@@ -5,7 +5,9 @@ ghost use mathlib.Core.Path.{_≡_};
 ghost use Rattle.cards.specs.Cards.{unpacked-card, unpacked-slip, card-read, slip-read};
 use cards::CardRead;
 use cards::SlipRead;
-use cards::counts_of;
+use rows::NUMBERS;
+use table::RULES;
+use table::SLOTS;
 use table::Table;
 use unpack::read_card;
 use unpack::read_slip;
@@ -14,11 +16,12 @@ use unpack::read_slip;
 pub fn unpack_card(t: Table, bytes: &[u8]) -> CardRead
     ensures { λ r. ⌜ r ≡ card-read (unpacked-card t (now (bytes .entry))) ⌝ }
 {
-    if !soundness::is_sound(t) {
+    let mut counts: [usize; SLOTS] = [0; SLOTS];
+    let mut rows: [[u16; NUMBERS]; RULES] = [[0; NUMBERS]; RULES];
+    let width = t.width as usize;
+    if !soundness::admit(t, &mut counts, &mut rows) {
         return unpack::refused_card(31, 0);
     }
-    let width = t.width;
-    let counts = counts_of(t);
     read_card(bytes, width, &counts)
 }
 
@@ -26,10 +29,11 @@ pub fn unpack_card(t: Table, bytes: &[u8]) -> CardRead
 pub fn unpack_slip(t: Table, bytes: &[u8]) -> SlipRead
     ensures { λ r. ⌜ r ≡ slip-read (unpacked-slip t (now (bytes .entry))) ⌝ }
 {
-    if !soundness::is_sound(t) {
+    let mut counts: [usize; SLOTS] = [0; SLOTS];
+    let mut rows: [[u16; NUMBERS]; RULES] = [[0; NUMBERS]; RULES];
+    let width = t.width as usize;
+    if !soundness::admit(t, &mut counts, &mut rows) {
         return unpack::refused_slip(31, 0);
     }
-    let width = t.width;
-    let counts = counts_of(t);
     read_slip(bytes, width, &counts)
 }

@@ -69,13 +69,13 @@ pub fn put_file(
     requires { ⌜ TableFits t × LinesFit t × (length (spelled-file (now text) (now slotspans) (now valuespans) t) ≤ longest) ⌝ }
     ensures { λ r. ⌜ Puts (now (out .entry)) 0 (spelled-file (now (text .entry)) (now (slotspans .entry)) (now (valuespans .entry)) t) (now (out .exit)) r ⌝ }
 {
-    let width = t.width;
-    let n = t.count;
+    let width = t.width as usize;
+    let n = t.count as usize;
     let mut k: usize = 0;
     let mut i: usize = 0;
     while i < width {
         let s = t.slots[i];
-        k = put_line(out, k, text, slotspans, valuespans, i, s.count);
+        k = put_line(out, k, text, slotspans, valuespans, i, s.count as usize);
         i += 1;
     }
     let mut j: usize = 0;

@@ -3,6 +3,7 @@ ghost use Prim.Native.Nat.{_+_, _≤_};
 ghost use lib.ListN.{length};
 ghost use Rattle.writing.specs.inner.Puts.{longest, Puts};
 ghost use Rattle.writing.specs.inner.Spelled.{spelled};
+use steps::lookup::KEYED;
 
 // Puts a part at a place of the output, where it fits there; says the place after it.
 pub fn put(out: &mut [u8], at: usize, part: &[u8]) -> usize
@@ -26,7 +27,7 @@ pub fn put_name(out: &mut [u8], at: usize, text: &[u8], span: usize) -> usize
     requires { ⌜ at + length (spelled (now text) span) ≤ longest ⌝ }
     ensures { λ r. ⌜ Puts (now (out .entry)) at (spelled (now (text .entry)) span) (now (out .exit)) r ⌝ }
 {
-    let start = span / 32;
+    let start = span % KEYED / 32;
     let size = span % 32;
     if start <= text.len() {
         if size <= text.len() - start {

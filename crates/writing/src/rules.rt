@@ -105,7 +105,7 @@ fn put_condition(
     requires { ⌜ RuleFits r × (at + length (condition-bytes (spelled-pair (now text) (now slotspans) (now valuespans)) (rule-of r .literals)) ≤ longest) ⌝ }
     ensures { λ e. ⌜ Puts (now (out .entry)) at (condition-bytes (spelled-pair (now (text .entry)) (now (slotspans .entry)) (now (valuespans .entry))) (rule-of r .literals)) (now (out .exit)) e ⌝ }
 {
-    let n = r.tested;
+    let n = r.tested as usize;
     if n == 0 {
         return put(out, at, b"TRUE");
     }
@@ -133,7 +133,7 @@ fn put_assignments(
     requires { ⌜ RuleFits r × (1 ≤ r .assigned) × (at + length (separated (bytes ", ") (map (spelled-pair (now text) (now slotspans) (now valuespans) (bytes " := ")) (assignments-of r))) ≤ longest) ⌝ }
     ensures { λ e. ⌜ Puts (now (out .entry)) at (separated (bytes ", ") (map (spelled-pair (now (text .entry)) (now (slotspans .entry)) (now (valuespans .entry)) (bytes " := ")) (assignments-of r))) (now (out .exit)) e ⌝ }
 {
-    let n = r.assigned;
+    let n = r.assigned as usize;
     let first = r.assignments[0];
     let mut k = put_pair(
         out,

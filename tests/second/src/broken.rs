@@ -219,7 +219,7 @@ impl Engine for Broken {
     fn slot_name(&mut self, text: &[u8], table: &Table, slot: u8) -> Result<Name, Refusal> {
         let name = Second.slot_name(text, table, slot)?;
         match self.fault {
-            Fault::NameAtEnd if name.start + name.size == text.len() => Err(refusal(31, 0)),
+            Fault::NameAtEnd if name.range().end == text.len() => Err(refusal(31, 0)),
             Fault::NameTested => tested(table).map(|_| name),
             _ => Ok(name),
         }

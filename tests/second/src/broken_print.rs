@@ -60,7 +60,7 @@ fn walked(fault: Fault, text: &[u8]) -> Walk {
             let (slots, rules) = meaning(text, &walk);
             let values = walk.placed.iter_mut().filter(|at| is_value_in_rule(at));
             let named = values.zip(of_first_slots(&slots, &rules));
-            named.for_each(|(at, name)| (at.token.start, at.token.size) = (name.start, name.size));
+            named.for_each(|(at, name)| (at.token.start, at.token.size) = (name.range().start, name.range().len()));
         }
         _ => {}
     }
@@ -105,7 +105,7 @@ fn changed(fault: Fault, line: &str) -> String {
 fn by_strata(text: &[u8], lines: &mut Vec<Vec<u8>>) {
     let table = read(text).expect("the text is accepted");
     let strata = table.rules.iter().map(|rule| rule.stratum);
-    let mut rules: Vec<(u8, Vec<u8>)> = strata.zip(lines.split_off(table.width)).collect();
+    let mut rules: Vec<(u8, Vec<u8>)> = strata.zip(lines.split_off(table.width as usize)).collect();
     rules.sort_by_key(|(stratum, _)| *stratum);
     lines.extend(rules.into_iter().map(|(_, line)| line));
 }

@@ -102,7 +102,7 @@ pub fn read(fault: Fault, text: &[u8]) -> (Option<Refusal>, Box<Table>) {
     };
     if fault == Fault::UnusedOnes {
         for rule in table.rules.iter_mut().take(rules.len()) {
-            rule.literals[rule.tested..].fill(LiteralPlace { slot: 1, value: 1, ..LiteralPlace::default() });
+            rule.literals[rule.tested as usize..].fill(LiteralPlace { slot: 1, value: 1, ..LiteralPlace::default() });
         }
     }
     (numbers.err(), table)

@@ -4,7 +4,7 @@ use crate::fault::Fault;
 use crate::other_strata::{each_number, falling, on_any_circle, on_simple_circle};
 use crate::rule_set::RuleSet;
 use crate::strata::{least, on_circle, reached, waits, Waits};
-use crate::table::{Literal, LiteralPlace, Program, Rule, Table, LITERALS};
+use crate::table::{Literal, LiteralPlace, Program, Rule, Table};
 use crate::table31::{tested, unlayered};
 use crate::{refusal, Refusal};
 
@@ -95,9 +95,9 @@ pub fn strata(fault: Fault, rules: &[Rule]) -> Result<Vec<u8>, usize> {
 
 /// Whether some used rule has an unused literal place that is not zero.
 fn unused_literals(table: &Table) -> bool {
-    let used = &table.rules[..table.count];
-    used.iter()
-        .any(|rule| rule.literals[rule.tested.min(LITERALS)..].iter().any(|place| *place != LiteralPlace::default()))
+    let zero = LiteralPlace::default();
+    let used = table.rules.iter().take(table.count.into());
+    used.flat_map(|rule| rule.literals.iter().skip(rule.tested.into())).any(|place| *place != zero)
 }
 
 /// The test 31 with a fault.

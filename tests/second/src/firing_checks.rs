@@ -135,7 +135,7 @@ pub fn check_rearranged(
     entry: (&[u8], &[u8]),
     rng: &mut Rng,
 ) -> Result<(), String> {
-    let (moved, order) = rearranged(text, table.width, table.count, rng);
+    let (moved, order) = rearranged(text, table.width as usize, table.count.into(), rng);
     let (refused, other) = engine.read(&moved);
     if let Some(why) = refused {
         return Err(format!("a rearranged file is refused: {why:?}"));

@@ -23,36 +23,37 @@ fn any_literal(rng: &mut Rng) -> LiteralPlace {
 
 /// A name about the end of a text, or anywhere.
 pub fn any_name(rng: &mut Rng, length: usize) -> Name {
-    let start = *rng.pick(&[0, length / 2, length, length + 1, usize::MAX]);
+    let length = u16::try_from(length).unwrap_or(u16::MAX);
+    let start = *rng.pick(&[0, length / 2, length, length.saturating_add(1), u16::MAX]);
     let rest = length.saturating_sub(start);
-    Name { start, size: *rng.pick(&[0, rest, rest + 1, 3, usize::MAX]) }
+    Name { start, size: *rng.pick(&[0, rest, rest.saturating_add(1), 3, u16::MAX]) }
 }
 
 /// Changes a slot's place.
 fn damage_slot(rng: &mut Rng, table: &mut Table, length: usize) {
-    let slot = &mut table.slots[rng.below(SLOTS.min(table.width + 1))];
+    let slot = &mut table.slots[rng.below(SLOTS.min(table.width as usize + 1))];
     match rng.below(3) {
-        0 => slot.count = any_count(rng, slot.count, VALUES),
+        0 => slot.count = any_count(rng, slot.count as usize, VALUES) as u16,
         1 => slot.name = any_name(rng, length),
-        _ => slot.values[rng.below(VALUES.min(slot.count + 1))] = any_name(rng, length),
+        _ => slot.values[rng.below(VALUES.min(slot.count as usize + 1))] = any_name(rng, length),
     }
 }
 
 /// Changes a rule's place: trigger, counts, literals, assignments or stratum, used or not.
 fn damage_rule(rng: &mut Rng, rule: &mut RulePlace) {
-    let literal = rng.below(LITERALS.min(rule.tested + 1));
-    let assignment = rng.below(ASSIGNMENTS.min(rule.assigned + 1));
+    let literal = rng.below(LITERALS.min(rule.tested as usize + 1));
+    let assignment = rng.below(ASSIGNMENTS.min(rule.assigned as usize + 1));
     match rng.below(12) {
         0 => rule.slot = any_byte(rng),
         1 => rule.value = any_byte(rng),
-        2 => rule.tested = any_count(rng, rule.tested, LITERALS),
-        3 => rule.assigned = any_count(rng, rule.assigned, ASSIGNMENTS),
+        2 => rule.tested = any_count(rng, rule.tested.into(), LITERALS).min(255) as u8,
+        3 => rule.assigned = any_count(rng, rule.assigned.into(), ASSIGNMENTS).min(255) as u8,
         4 => rule.literals[literal] = any_literal(rng),
         5 => rule.literals[literal].becomes ^= true,
         6 => rule.literals[literal].negated ^= true,
         7 => rule.assignments[assignment] = AssignmentPlace { slot: any_byte(rng), value: any_byte(rng) },
         8 => rule.assignments[assignment].slot = rule.assignments[0].slot,
-        9 => rule.literals[rule.tested.min(LITERALS)..].fill(any_literal(rng)),
+        9 => rule.literals[LITERALS.min(rule.tested as usize)..].fill(any_literal(rng)),
         10 => rule.stratum = any_byte(rng),
         _ => rule.stratum = rule.stratum.wrapping_add(*rng.pick(&[1, 255])),
     }
@@ -82,10 +83,10 @@ fn damage_strata(rng: &mut Rng, table: &mut Table) {
 /// A table changed at one place or in its strata; a text of a length is what its names stand in.
 pub fn damaged(rng: &mut Rng, table: &Table, length: usize) -> Box<Table> {
     let mut changed = Box::new(*table);
-    let rule = rng.below(RULES.min(table.count + 1));
+    let rule = rng.below(RULES.min(table.count as usize + 1));
     match rng.below(12) {
-        0 => changed.width = any_count(rng, table.width, SLOTS),
-        1 => changed.count = any_count(rng, table.count, RULES),
+        0 => changed.width = any_count(rng, table.width as usize, SLOTS) as u16,
+        1 => changed.count = any_count(rng, table.count.into(), RULES) as u16,
         2 | 3 => damage_slot(rng, &mut changed, length),
         4..=6 => damage_strata(rng, &mut changed),
         _ => damage_rule(rng, &mut changed.rules[rule]),

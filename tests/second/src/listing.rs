@@ -17,7 +17,7 @@ struct Answered {
 
 /// The response on a fresh tally.
 fn answered(table: &Table, card: &[u8], slip: &[u8]) -> Result<Answered, Refusal> {
-    let mut new = vec![0; card_length(table.width)];
+    let mut new = vec![0; card_length(table.width as usize)];
     let mut changes = vec![0; slip_length(CHANGES)];
     let mut fired = vec![0; (RULES + 7) / 8];
     let outputs = Outputs { card: &mut new, changes: &mut changes, fired: &mut fired };
@@ -32,12 +32,12 @@ fn rule_lines(table: &Table, fired: &[u8]) -> String {
         let state = if fired[at / 8] >> (7 - at % 8) & 1 == 1 { "fired" } else { "idle" };
         format!("rule {} stratum {} {}\n", at + 1, table.rules[at].stratum, state)
     };
-    (0..table.count).map(line).collect()
+    (0..table.count as usize).map(line).collect()
 }
 
 /// A line for each change in slot order.
 fn change_lines(text: &[u8], table: &Table, changes: &[u8]) -> Result<String, Refusal> {
-    let word = |name: Name| String::from_utf8_lossy(&text[name.start..name.start + name.size]).into_owned();
+    let word = |name: Name| String::from_utf8_lossy(&text[name.range()]).into_owned();
     let line = |pair: (u8, u8)| {
         let slot = word(slot_name(text, table, pair.0)?);
         Ok(format!("change {} {}\n", slot, word(value_name(text, table, pair.0, pair.1)?)))

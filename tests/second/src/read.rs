@@ -224,14 +224,14 @@ fn declared<'a>(text: &'a [u8], walk: &Walk) -> HashMap<&'a [u8], Declared<'a>> 
 
 /// The stretch of text where a name stands.
 fn word(text: &[u8], name: Name) -> &[u8] {
-    &text[name.start..name.start + name.size]
+    &text[name.range()]
 }
 
 /// The slot lines among the placed tokens, the last perhaps unfinished.
 fn slot_lines(walk: &Walk) -> Vec<SlotLine> {
     let mut lines: Vec<SlotLine> = Vec::new();
     for at in &walk.placed {
-        let name = Name { start: at.token.start, size: at.token.size };
+        let name = Name { start: at.token.start as u16, size: at.token.size as u16 };
         match at.want {
             Want::SlotName => lines.push(SlotLine { name, values: Vec::new() }),
             Want::ValueName => lines.last_mut().expect("a slot's name comes before its values").values.push(name),

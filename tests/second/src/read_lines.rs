@@ -15,7 +15,7 @@ fn texts(mut input: &[u8]) -> Vec<&[u8]> {
 
 /// The line of a slot: its name and the names of the values that it has, cut from the text by their places.
 fn slot_line(engine: &mut dyn Engine, text: &[u8], table: &Table, slot: u8) -> Vec<u8> {
-    let word = |name: Name| [b" ", &text[name.start..name.start + name.size]].concat();
+    let word = |name: Name| [b" ", &text[name.range()]].concat();
     let name = engine.slot_name(text, table, slot);
     let values = (1..=VALUES as u8).map(|value| engine.value_name(text, table, slot, value));
     let words: Vec<Vec<u8>> = std::iter::once(name).chain(values).flatten().map(word).collect();
@@ -24,11 +24,12 @@ fn slot_line(engine: &mut dyn Engine, text: &[u8], table: &Table, slot: u8) -> V
 
 /// The line of a rule: stratum, trigger, literals, assignments.
 fn rule_line(rule: &RulePlace) -> String {
-    let literals = rule.literals[..rule.tested].iter().map(|literal| {
+    let literals = rule.literals[..rule.tested as usize].iter().map(|literal| {
         let (becomes, negated) = (u8::from(literal.becomes), u8::from(literal.negated));
         format!(" : {becomes} {negated} {} {}", literal.slot, literal.value)
     });
-    let assignments = rule.assignments[..rule.assigned].iter().map(|to| format!(" = {} {}", to.slot, to.value));
+    let assignments =
+        rule.assignments[..rule.assigned as usize].iter().map(|to| format!(" = {} {}", to.slot, to.value));
     let tail: String = literals.chain(assignments).collect();
     format!("rule {} {} {}{tail}\n", rule.stratum, rule.slot, rule.value)
 }
@@ -41,7 +42,7 @@ fn reading(engine: &mut dyn Engine, text: &[u8]) -> Vec<u8> {
         None => format!("accepted {} {}\n", table.width, table.count),
     };
     let slots: Vec<Vec<u8>> = (0..table.width as u8).map(|slot| slot_line(engine, text, &table, slot)).collect();
-    let rules: String = table.rules[..table.count].iter().map(rule_line).collect();
+    let rules: String = table.rules[..table.count as usize].iter().map(rule_line).collect();
     [outcome.into_bytes(), slots.concat(), rules.into_bytes()].concat()
 }
 

@@ -39,7 +39,7 @@ pub struct SlotLine {
 
 /// The place of a slot line.
 fn slot_place(line: &SlotLine) -> SlotPlace {
-    let mut place = SlotPlace { name: line.name, count: line.values.len(), ..SlotPlace::default() };
+    let mut place = SlotPlace { name: line.name, count: line.values.len() as u16, ..SlotPlace::default() };
     place.values[..line.values.len()].copy_from_slice(&line.values);
     place
 }
@@ -49,8 +49,8 @@ fn rule_place(rule: &Rule, stratum: u8) -> RulePlace {
     let mut place = RulePlace {
         slot: rule.trigger.0,
         value: rule.trigger.1,
-        tested: rule.literals.len(),
-        assigned: rule.assignments.len(),
+        tested: rule.literals.len() as u8,
+        assigned: rule.assignments.len() as u8,
         stratum,
         ..RulePlace::default()
     };
@@ -66,11 +66,11 @@ fn rule_place(rule: &Rule, stratum: u8) -> RulePlace {
 /// The table of slot lines and rules with their strata, all within the limits.
 pub fn table_of(lines: &[SlotLine], rules: &[Rule], strata: &[u8]) -> Box<Table> {
     let mut table = Table::empty();
-    table.width = lines.len();
+    table.width = lines.len() as u16;
     for (place, line) in table.slots.iter_mut().zip(lines) {
         *place = slot_place(line);
     }
-    table.count = rules.len();
+    table.count = rules.len() as u16;
     for ((place, rule), stratum) in table.rules.iter_mut().zip(rules).zip(strata) {
         *place = rule_place(rule, *stratum);
     }
@@ -84,18 +84,19 @@ fn rule_in(place: &RulePlace) -> Rule {
         negated: place.negated,
         pair: (place.slot, place.value),
     };
+    let pair = |place: &AssignmentPlace| (place.slot, place.value);
     Rule {
         trigger: (place.slot, place.value),
-        literals: place.literals[..place.tested].iter().map(literal).collect(),
-        assignments: place.assignments[..place.assigned].iter().map(|place| (place.slot, place.value)).collect(),
+        literals: place.literals[..place.tested as usize].iter().map(literal).collect(),
+        assignments: place.assignments[..place.assigned as usize].iter().map(pair).collect(),
     }
 }
 
 /// The program in the used places of a table whose counts are within the limits.
 pub fn program_in(table: &Table) -> Program {
-    let rules = &table.rules[..table.count];
+    let rules = &table.rules[..table.count as usize];
     Program {
-        lasts: table.slots[..table.width].iter().map(|slot| slot.count as u8).collect(),
+        lasts: table.slots[..table.width as usize].iter().map(|slot| slot.count as u8).collect(),
         rules: rules.iter().map(rule_in).collect(),
         strata: rules.iter().map(|place| place.stratum).collect(),
     }

@@ -1,16 +1,18 @@
 //! The test 31 of an arbitrary table, and the names a table shows.
 
 use crate::strata::strata;
-use crate::table::{program_in, Name, Pair, Program, SlotPlace, Table};
+use crate::table::{program_in, Name, Pair, Program, RulePlace, SlotPlace, Table};
 use crate::table::{ASSIGNMENTS, LITERALS, RULES, SLOTS, VALUES};
 use crate::{refusal, Refusal};
 
 /// Whether every count of a table is within its limit.
 fn within_limits(table: &Table) -> bool {
-    table.width <= SLOTS
-        && table.count <= RULES
-        && table.slots[..table.width].iter().all(|slot| slot.count <= VALUES)
-        && table.rules[..table.count].iter().all(|rule| rule.tested <= LITERALS && rule.assigned <= ASSIGNMENTS)
+    let (width, count) = (table.width as usize, table.count as usize);
+    let few = |rule: &RulePlace| rule.tested as usize <= LITERALS && rule.assigned as usize <= ASSIGNMENTS;
+    width <= SLOTS
+        && count <= RULES
+        && table.slots[..width].iter().all(|slot| slot.count as usize <= VALUES)
+        && table.rules[..count].iter().all(few)
 }
 
 /// Whether a program has the slot and the value of a pair.
@@ -59,15 +61,15 @@ pub fn tested(table: &Table) -> Result<Program, Refusal> {
 
 /// A name that lies inside the text, or 31.
 fn inside(text: &[u8], name: Name) -> Result<Name, Refusal> {
-    match name.start.checked_add(name.size) {
-        Some(end) if end <= text.len() => Ok(name),
-        _ => Err(refusal(31, 0)),
+    match text.get(name.range()) {
+        Some(_) => Ok(name),
+        None => Err(refusal(31, 0)),
     }
 }
 
 /// A slot's place among those a table uses, or 31.
 fn slot_place(table: &Table, slot: u8) -> Result<&SlotPlace, Refusal> {
-    let used = &table.slots[..table.width.min(SLOTS)];
+    let used = &table.slots[..SLOTS.min(table.width as usize)];
     used.get(slot as usize).ok_or(refusal(31, 0))
 }
 
@@ -79,7 +81,7 @@ pub fn slot_name(text: &[u8], table: &Table, slot: u8) -> Result<Name, Refusal> 
 /// Where a value's name stands in the text, or 31.
 pub fn value_name(text: &[u8], table: &Table, slot: u8, value: u8) -> Result<Name, Refusal> {
     let place = slot_place(table, slot)?;
-    let used = &place.values[..place.count.min(VALUES)];
+    let used = &place.values[..VALUES.min(place.count as usize)];
     let name = (value as usize).checked_sub(1).and_then(|at| used.get(at));
     inside(text, *name.ok_or(refusal(31, 0))?)
 }

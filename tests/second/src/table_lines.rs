@@ -24,14 +24,14 @@ fn rule(input: &mut &[u8], fill: u8) -> RulePlace {
     let mut place = RulePlace { slot: byte(input), value: byte(input), stratum: byte(input), ..RulePlace::default() };
     place.literals = [unused; LITERALS];
     place.assignments = [AssignmentPlace { slot: fill, value: fill }; ASSIGNMENTS];
-    place.tested = usize::from(byte(input));
-    for literal in place.literals.iter_mut().take(place.tested) {
+    place.tested = byte(input);
+    for literal in place.literals.iter_mut().take(place.tested.into()) {
         let kind = byte(input);
         *literal =
             LiteralPlace { becomes: kind & 1 == 1, negated: kind & 2 == 2, slot: byte(input), value: byte(input) };
     }
-    place.assigned = usize::from(byte(input));
-    for assignment in place.assignments.iter_mut().take(place.assigned) {
+    place.assigned = byte(input);
+    for assignment in place.assignments.iter_mut().take(place.assigned.into()) {
         *assignment = AssignmentPlace { slot: byte(input), value: byte(input) };
     }
     place
@@ -41,12 +41,12 @@ fn rule(input: &mut &[u8], fill: u8) -> RulePlace {
 fn table(input: &mut &[u8]) -> Box<Table> {
     let mut table = Table::empty();
     let fill = byte(input);
-    table.width = usize::from(byte(input));
-    for slot in table.slots.iter_mut().take(table.width) {
-        slot.count = usize::from(byte(input));
+    table.width = byte(input).into();
+    for slot in table.slots.iter_mut().take(table.width as usize) {
+        slot.count = byte(input).into();
     }
-    table.count = 256 * usize::from(byte(input)) + usize::from(byte(input));
-    for place in table.rules.iter_mut().take(table.count) {
+    table.count = u16::from_be_bytes([byte(input), byte(input)]);
+    for place in table.rules.iter_mut().take(table.count.into()) {
         *place = rule(input, fill);
     }
     table
@@ -60,25 +60,22 @@ pub fn tables(mut input: &[u8]) -> Vec<Box<Table>> {
 
 /// The bytes of a rule.
 fn rule_bytes(place: &RulePlace) -> Vec<u8> {
-    let mut bytes = vec![place.slot, place.value, place.stratum, place.tested as u8];
-    for literal in place.literals.iter().take(place.tested) {
+    let mut bytes = vec![place.slot, place.value, place.stratum, place.tested];
+    for literal in place.literals.iter().take(place.tested.into()) {
         bytes.extend([u8::from(literal.becomes) + 2 * u8::from(literal.negated), literal.slot, literal.value]);
     }
-    bytes.push(place.assigned as u8);
-    place.assignments.iter().take(place.assigned).for_each(|pair| bytes.extend([pair.slot, pair.value]));
+    bytes.push(place.assigned);
+    place.assignments.iter().take(place.assigned.into()).for_each(|pair| bytes.extend([pair.slot, pair.value]));
     bytes
 }
 
-/// The bytes of a table; counts above 255 become 255, that of rules apart.
+/// The bytes of a table; the numbers of slots and of values become 255 where they are above.
 fn table_bytes(table: &Table, fill: u8) -> Vec<u8> {
-    let small = |count: usize| count.min(255) as u8;
+    let small = |count: u16| count.min(255) as u8;
     let mut bytes = vec![fill, small(table.width)];
-    bytes.extend(table.slots.iter().take(table.width).map(|slot| small(slot.count)));
-    bytes.extend((table.count as u16).to_be_bytes());
-    for place in table.rules.iter().take(table.count) {
-        let counted = RulePlace { tested: place.tested.min(255), assigned: place.assigned.min(255), ..*place };
-        bytes.extend(rule_bytes(&counted));
-    }
+    bytes.extend(table.slots.iter().take(table.width as usize).map(|slot| small(slot.count)));
+    bytes.extend(table.count.to_be_bytes());
+    bytes.extend(table.rules.iter().take(table.count.into()).flat_map(rule_bytes));
     bytes
 }
 

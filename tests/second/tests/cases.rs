@@ -239,7 +239,7 @@ fn layered(rules: &[&str]) -> Result<Vec<u8>, usize> {
         assert_eq!(why.number, 18);
         why.second
     })?;
-    Ok(table.rules[..table.count].iter().map(|rule| rule.stratum).collect())
+    Ok(table.rules[..table.count as usize].iter().map(|rule| rule.stratum).collect())
 }
 
 #[test]

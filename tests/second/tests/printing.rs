@@ -143,10 +143,10 @@ fn the_reading_s_refusals_come_first_with_both_numbers() {
 
 /// A table with its names in place of where they stand.
 fn named(text: &[u8], table: &Table) -> (Vec<Vec<Vec<u8>>>, Table) {
-    let word = |name: &Name| text[name.start..name.start + name.size].to_vec();
+    let word = |name: &Name| text[name.range()].to_vec();
     let mut rest = *table;
-    let names = rest.slots[..table.width].iter_mut().map(|slot| {
-        let names = std::iter::once(&slot.name).chain(&slot.values[..slot.count]).map(word).collect();
+    let names = rest.slots[..table.width as usize].iter_mut().map(|slot| {
+        let names = std::iter::once(&slot.name).chain(&slot.values[..slot.count as usize]).map(word).collect();
         (slot.name, slot.values) = Default::default();
         names
     });

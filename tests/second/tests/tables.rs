@@ -58,7 +58,7 @@ fn tables_that_are_not_31() {
         |table| table.rules[0].literals[1] = LiteralPlace { slot: 200, value: 99, ..LiteralPlace::default() }
     ));
     assert!(!is_31(|table| table.rules[2].stratum = 9));
-    assert!(!is_31(|table| table.slots[0].name = Name { start: usize::MAX, size: usize::MAX }));
+    assert!(!is_31(|table| table.slots[0].name = Name { start: u16::MAX, size: u16::MAX }));
     assert!(!is_31(|table| table.rules[1].assigned = 0));
     assert!(!is_31(|table| table.count = 1));
     assert!(!is_31(|table| *table = *Table::empty()));

@@ -29,8 +29,8 @@ fn systems(rl: &Path, folder: &Path, made: &Path) -> Vec<System> {
     engine.read(&text).expect("the rules are accepted");
     let table = engine.table();
     let lasts = tested(table).expect("the table is in order");
-    let values = unpack_card(&lasts, table.width, &card).expect("the card is in order");
-    let changes = unpack_slip(&lasts, table.width, &slip).expect("the slip is in order");
+    let values = unpack_card(&lasts, table.width as usize, &card).expect("the card is in order");
+    let changes = unpack_slip(&lasts, table.width as usize, &slip).expect("the slip is in order");
     let numbered = |values: Vec<u8>| (0..32).zip(values).filter(|pair| pair.1 > 0).collect();
     let changed = changes.iter().map(|values| values.checked_ilog2().unwrap_or(0) as u8).collect();
     let case = Case { text: &text, table, card: numbered(values.to_vec()), slip: numbered(changed) };

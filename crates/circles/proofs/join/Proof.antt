@@ -3,17 +3,17 @@
 use native.Mathlib.Numerals.{add-one}
 use mathlib.Core.Path.{_≡_, refl}
 use Prim.Native.Nat.{_-_, _≤_}
-use Rattle.circles.specs.inner.Links.{row-words, join-words}
+use Rattle.circles.specs.inner.Links.{pair-words, join-words}
 use native.Mathlib.Omega.{arith}
 use borrow.Author.Needs.{needs}
 use Rattle.circles.proofs.join.Statement.{statement}
 use Rattle.circles.proofs.join.Tie as tie
 
 abbrev Inv-loop : tie.InvT-loop
-Inv-loop links₀ p k w₀ links w = (w ≤ row-words) × (links ≡ join-words links₀ p k w)
+Inv-loop links₀ p k w₀ links w = (w ≤ pair-words) × (links ≡ join-words links₀ p k w)
 
 abbrev μ-loop : tie.MeasureT-loop
-μ-loop links₀ p k w₀ links w = row-words - w
+μ-loop links₀ p k w₀ links w = pair-words - w
 
 loop-holds : tie.Need-loop-holds Inv-loop μ-loop
 unfolding join-words
@@ -60,7 +60,7 @@ unfolding join-words
 loop-again c = let a = c .before .before .before in (search needs, rw (a .loop .inv .1, add-one (a .loop .w)))
 
 returns : tie.Need-returns Inv-loop μ-loop
-returns c = let e : c .before .loop .w ≡ row-words = omega arith in rw e at (c .before .loop .inv .1)
+returns c = let e : c .before .loop .w ≡ pair-words = omega arith in rw e at (c .before .loop .inv .1)
 
 pub join-spec : {M : Type 1} → statement M
 join-spec =

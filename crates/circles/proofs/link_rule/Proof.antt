@@ -1,42 +1,48 @@
 -- `circles::link_rule` meets its contract.
 -- Assumes nothing.
 use mathlib.Core.Path.{_≡_, refl, _∙_, ap}
-use Prim.Native.Nat.{_-_, _≤_}
-use Rattle.table.proofs.Shape.{rule-shaped}
-use Rattle.table.specs.inner.Shape.{RuleShaped}
-use Rattle.table.proofs.Walks.{assigned-from, assigned-start, assigned-end, assigned-next}
 use mathlib.Core.List.{List}
+use Prim.Native.Nat.{_-_, _≤_, _<_}
+use lib.ListN.{getD}
 use Rattle.model.specs.Rules.{Pair}
 use Rattle.model.specs.Strata.{tested}
 use Rattle.table.specs.Link.{rule-of}
+use Rattle.table.proofs.Walks.{assigned-from, assigned-start, assigned-end}
+use Rattle.rows.specs.inner.Rows.{rule-in}
+use Rattle.rows.proofs.Laws.{row-assigned-next}
 use Rattle.circles.specs.inner.Links.{link-all}
+use native.Mathlib.Omega.{arith}
 use borrow.Author.Needs.{needs}
 use Rattle.circles.proofs.link_rule.Statement.{statement}
 use Rattle.circles.proofs.link_rule.Tie as tie
 
 abbrev Inv-loop : tie.InvT-loop
-Inv-loop links₀ r m k₀ links k = (k ≤ m) × (link-all (assigned-from r k) (tested (rule-of r)) links ≡ link-all (assigned-from r 0) (tested (rule-of r)) links₀)
+Inv-loop row links₀ m k₀ links k = (k ≤ m) × (link-all (assigned-from (rule-in row) k) (tested (rule-of (rule-in row))) links ≡ link-all (assigned-from (rule-in row) 0) (tested (rule-of (rule-in row))) links₀)
 
 abbrev μ-loop : tie.MeasureT-loop
-μ-loop links₀ r m k₀ links k = m - k
+μ-loop row links₀ m k₀ links k = m - k
 
-shape : (c : tie.Start Inv-loop μ-loop) → RuleShaped (c .args .t1)
-shape c = rule-shaped (c .args .t1) _ (c .good .0)
+-- The assignment at hand is used.
+used : (c : tie.In-loop Inv-loop μ-loop) → c .before .loop .k < getD (c .before .before .before .args .row .now) 2 0
+used c = omega (arith, c .before .before .assigned .ensures)
+
+assigned-requires : tie.Need-assigned-requires Inv-loop μ-loop
+assigned-requires c κs = search needs
 
 loop-holds : tie.Need-loop-holds Inv-loop μ-loop
 loop-holds c = (search needs, refl)
 
-mul-a : tie.Need-mul-a Inv-loop μ-loop
-mul-a c = search needs
-
-element-copy-out-a : tie.Need-element-copy-out-a Inv-loop μ-loop
-element-copy-out-a c = search needs
+assignment-requires : tie.Need-assignment-requires Inv-loop μ-loop
+assignment-requires c κs = omega (arith, used c, c .before .before .before .pre .few-assignments)
 
 place-requires : tie.Need-place-requires Inv-loop μ-loop
-place-requires c κs = c .before .before .before .pre .assignment (c .before .before .loop .k) (search needs)
+place-requires c κs = search needs
 
 link-tested-requires : tie.Need-link-tested-requires Inv-loop μ-loop
-link-tested-requires c κs = (c .before .before .before .before .before .pre, c .before .place .ensures .inside)
+link-tested-requires c κs =
+    let q = c .before in
+    let s = q .before .before .before .before .before in
+    (s .pre, q .place .ensures .1)
 
 add-k : tie.Need-add-k Inv-loop μ-loop
 add-k c = search needs
@@ -48,16 +54,20 @@ loop-again : tie.Need-loop-again Inv-loop μ-loop
 unfolding link-all
 loop-again c =
     let q = c .before .before in
-    let a = q .before .before .before in
-    let s = a .before in
-    let e = assigned-next (s .args .t1) (shape s) (a .loop .k) (search needs) (s .pre .assignments-fit) in
-    (search needs, rw (c .link-tested .ensures, q .place .ensures .is) (rw e at (a .loop .inv .1)))
+    let i = q .before .before in
+    let a = i .before in
+    let s = a .before .before in
+    let x = q .before .assignment in
+    let e = row-assigned-next (s .args .row .now) (s .pre) (a .loop .k) (x .result) (used i) (x .ensures) in
+    (search needs, rw (c .link-tested .ensures, q .place .ensures .0) (rw e at (a .loop .inv .1)))
 
 returns : tie.Need-returns Inv-loop μ-loop
 unfolding link-all
 returns c =
-    let s = c .before .before in
-    (rw (assigned-end (s .args .t1) (c .before .loop .k) (search needs)) at (c .before .loop .inv .1)) ∙ ap (λ (ps : List Pair). link-all ps (tested (rule-of (s .args .t1))) (s .args .links .now)) (assigned-start (s .args .t1))
+    let a = c .before in
+    let t = a .before in
+    let s = t .before in
+    (rw (assigned-end (rule-in (s .args .row .now)) (a .loop .k) (omega (arith, t .assigned .ensures))) at (a .loop .inv .1)) ∙ ap (λ (ps : List Pair). link-all ps (tested (rule-of (rule-in (s .args .row .now)))) (s .args .links .now)) (assigned-start (rule-in (s .args .row .now)))
 
 pub link-rule-spec : {M : Type 1} → statement M
 link-rule-spec =
@@ -65,9 +75,9 @@ link-rule-spec =
     (tie.spec
     Inv-loop
     μ-loop
+    assigned-requires
     loop-holds
-    mul-a
-    element-copy-out-a
+    assignment-requires
     place-requires
     link-tested-requires
     add-k

@@ -1,4 +1,4 @@
--- Links between pairs: a row of 512 bits for the place of each pair, in words of 64.
+-- Links between pairs: 512 bits for each pair, in words of 64.
 -- A reader need not believe what stands here: `circle-of` says what is found.
 use mathlib.Core.Bool.{Bool, true, false, cond}
 use mathlib.Core.List.{List, [], _∷_}
@@ -7,23 +7,22 @@ use lib.Bits.{bitOr}
 use lib.Dec.{eqb}
 use lib.ListN.{getD, set, replicate}
 use Rattle.laws.specs.Truth.{_∧ᵇ_, _∨ᵇ_}
-use Rattle.laws.specs.Tabulated.{tabulate}
 use Rattle.laws.specs.Words.{bit}
 use Rattle.model.specs.Rules.{Pair, Rule}
 use Rattle.model.specs.Strata.{tested}
 use Rattle.table.specs.inner.Flat.{place-of, pair-places}
 
--- Words to a row.
-abbrev pub row-words : ℕ
-row-words = pair-places / 64
+-- The words that a pair's links take.
+abbrev pub pair-words : ℕ
+pair-words = pair-places / 64
 
--- Words in all rows.
+-- The words of all pairs' links.
 abbrev pub all-words : ℕ
-all-words = pair-places * row-words
+all-words = pair-places * pair-words
 
--- The word that holds bit q of row p.
+-- The word that holds the link from p to q.
 abbrev pub word-at : ℕ → ℕ → ℕ
-word-at p q = p * row-words + q / 64
+word-at p q = p * pair-words + q / 64
 
 -- A link leads from the pair at p to the pair at q.
 unfoldable pub linked : List ℕ → ℕ → ℕ → Bool
@@ -47,18 +46,23 @@ unfoldable pub link-all : List Pair → List Pair → List ℕ → List ℕ
 link-all [] qs ws = ws
 link-all (p ∷ ps) qs ws = link-all ps qs (add-links (place-of p) qs ws)
 
--- The first w words of row k added to row p.
+-- The first w words of the links of k added to those of p.
 unfoldable pub join-words : List ℕ → ℕ → ℕ → ℕ → List ℕ
 join-words ws p k zero = ws
 join-words ws p k (suc w) =
-    set (join-words ws p k w) (p * row-words + w)
-    (bitOr (getD (join-words ws p k w) (p * row-words + w) 0) (getD (join-words ws p k w) (k * row-words + w) 0))
+    set (join-words ws p k w) (p * pair-words + w)
+    (bitOr (getD (join-words ws p k w) (p * pair-words + w) 0) (getD (join-words ws p k w) (k * pair-words + w) 0))
 
--- Row p gets the links of row k, if a link leads from p to k.
+-- No link leads from the pair at p by the first w words of its links.
+unfoldable pub is-empty : List ℕ → ℕ → ℕ → Bool
+is-empty ws p zero = true
+is-empty ws p (suc w) = eqb (getD ws (p * pair-words + w) 0) 0 ∧ᵇ is-empty ws p w
+
+-- The pair at p gets the links of the one at k, if a link leads from p to k.
 unfoldable pub join-linked : List ℕ → ℕ → ℕ → List ℕ
-join-linked ws p k = cond (linked ws p k) (join-words ws p k row-words) ws
+join-linked ws p k = cond (linked ws p k) (join-words ws p k pair-words) ws
 
--- The same for each of the first p rows.
+-- The same for each of the first p pairs.
 unfoldable pub join-through : List ℕ → ℕ → ℕ → List ℕ
 join-through ws k zero = ws
 join-through ws k (suc p) = join-linked (join-through ws k p) p k
@@ -82,14 +86,15 @@ flag-leading ws (p ∷ ps) qs bs = flag-leading ws ps qs (cond (leads-to ws (pla
 unfoldable pub connected : List ℕ → ℕ → ℕ → Bool
 connected ws p k = eqb p k ∨ᵇ (linked ws p k ∧ᵇ linked ws k p)
 
--- The place p is connected with a flagged one of the first k.
-unfoldable pub with-flagged : List ℕ → List Bool → ℕ → ℕ → Bool
-with-flagged ws bs p zero = false
-with-flagged ws bs p (suc k) = (getD bs k false ∧ᵇ connected ws p k) ∨ᵇ with-flagged ws bs p k
+-- Of the first p places those that are connected with k are flagged.
+unfoldable pub flag-connected : List ℕ → ℕ → List Bool → ℕ → List Bool
+flag-connected ws k bs zero = bs
+flag-connected ws k bs (suc p) = cond (connected ws p k) (set (flag-connected ws k bs p) p true) (flag-connected ws k bs p)
 
--- The flags carried to all that is connected with a flagged place.
-unfoldable pub spread : List ℕ → List Bool → List Bool
-spread ws bs = tabulate (λ p. with-flagged ws bs p pair-places) pair-places
+-- The flags of the first k places carried to all that is connected with a flagged one.
+unfoldable pub spread : List ℕ → List Bool → ℕ → List Bool
+spread ws bs zero = replicate pair-places false
+spread ws bs (suc k) = cond (getD bs k false) (flag-connected ws k (spread ws bs k) pair-places) (spread ws bs k)
 
 -- One of some pairs is flagged and leads to one of others.
 unfoldable pub some-leads : List ℕ → List Bool → List Pair → List Pair → Bool

@@ -11,24 +11,28 @@ use Rattle.laws.specs.Limits.{rule-limit}
 use Rattle.table.specs.Link.{rules-of, stratum-at}
 use Rattle.table.specs.inner.Flat.{flags-of, pairs-of}
 use Rattle.table.specs.inner.Fits.{TableFits}
-use Rattle.firing.specs.declared.Firing.{Firing}
 
 -- What firing asks of a table: every pair that its rules name has a place, and the numbers that it carries are strata. A table that 31 lets pass has it.
 pub record CanFire (t : Table) : Type 0 where
   pub fits : TableFits t
   pub strata : Strata weak (rules-of t) (stratum-at t)
 
+-- The changes, indexed by pair, and which rules fired, rule 1 first.
+pub record FiredFlags : Type 0 where
+  pub changes : List Bool
+  pub fired : List Bool
+
 -- The changes that a firing order ends with, and the rules that it names, rule 1 first; the slip is an array of flags.
-unfoldable pub fired-in : Table → List Bool → List ℕ → Firing
+unfoldable pub fired-in : Table → List Bool → List ℕ → FiredFlags
 fired-in t slip ns = record {
   changes = flags-of (changes (rules-of t) (pairs-of slip) ns);
   fired = tabulate (λ i. names ns (suc i)) rule-limit;
 }
 
 -- Firing by the numbers that the table carries.
-unfoldable pub carried-firing : Table → List ℕ → List Bool → Firing
+unfoldable pub carried-firing : Table → List ℕ → List Bool → FiredFlags
 carried-firing t S slip = fired-in t slip (response-by (rules-of t) S (pairs-of slip) (stratum-at t))
 
 -- Firing: the response, by the least strata.
-unfoldable pub table-firing : Table → List ℕ → List Bool → Firing
+unfoldable pub table-firing : Table → List ℕ → List Bool → FiredFlags
 table-firing t S slip = fired-in t slip (response weak (rules-of t) S (pairs-of slip))

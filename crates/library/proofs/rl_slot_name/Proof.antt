@@ -20,6 +20,9 @@ there c = sym (c .before .has-slot .ensures) ∙ not-false (c .before .has-slot 
 inside : (c : tie.Else1) → c .before .before .before .args .slot < slot-limit
 inside c = slot-inside _ _ (there c) .0
 
+cast-width : tie.Need-cast-width
+cast-width c = search needs
+
 has-slot-requires : tie.Need-has-slot-requires
 has-slot-requires c κs = search needs
 
@@ -48,6 +51,7 @@ pub rl-slot-name-spec : {M : Type 1} → statement M
 rl-slot-name-spec =
     tie.close
     (tie.spec
+    cast-width
     has-slot-requires
     returns
     mul-named

@@ -62,7 +62,7 @@ returns c =
     let h = v .before .before in
     let n = head-lies h in
     let m = subst (Step-lies _ _) (a .outcome .given .1) (v .values-next .ensures .1) in (
-      λ slots l. lines.line-end slots _ _ _ _ _ _ _ (c .word-next .result) (head-read h slots l) (values-read v _ (a .outcome .given .1)) (c .word-next .ensures .0 _),
+      λ ts slots w l. lines.line-end slots ts _ _ _ _ _ _ _ (c .word-next .result) w (head-read h slots l) (values-read v _ (a .outcome .given .1)) (c .word-next .ensures .0 _),
       places.step-earlier _ _ _ (c .word-next .result) (omega (arith, n .2, m .0)) (c .word-next .ensures .1),
       lines.line-lies _ _ _ _ (c .word-next .result) (n .0) (n .1) (v .values-next .ensures .2),
     )
@@ -71,13 +71,13 @@ returns-2 : tie.Need-returns-2
 returns-2 c =
     let a = c .before in
     let v = a .before .before .before in
-    (λ slots l. lines.line-values slots _ _ _ _ (head-read (v .before .before) slots l) (values-read v _ (a .outcome2 .given .1)), tt, tt)
+    (λ ts slots w l. lines.line-values slots ts _ _ _ _ w (head-read (v .before .before) slots l) (values-read v _ (a .outcome2 .given .1)), tt, tt)
 
 returns-3 : tie.Need-returns-3
 returns-3 c =
     let a = c .before in
     let k = a .before .before in
-    (λ slots l. lines.line-head slots _ _ (k .head-next .ensures .0 slots l ∙ ap (declared-part _ _ _) (a .head2 .given .1)), tt, tt)
+    (λ ts slots w l. lines.line-head slots ts _ _ w (k .head-next .ensures .0 slots l ∙ ap (declared-part _ _ _) (a .head2 .given .1)), tt, tt)
 
 pub line-next-spec : {M : Type 1} → statement M
 line-next-spec =

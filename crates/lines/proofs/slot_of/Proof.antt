@@ -59,6 +59,9 @@ loop-again c =
 name-of-requires-2 : tie.Need-name-of-requires-2 Inv-loop μ-loop
 name-of-requires-2 c κs = search needs
 
+cast-t18 : tie.Need-cast-t18 Inv-loop μ-loop
+cast-t18 c = search needs
+
 returns : tie.Need-returns Inv-loop μ-loop
 returns c =
     let l = c .before .before .loop in
@@ -84,4 +87,5 @@ slot-of-spec =
     loop-less
     loop-again
     name-of-requires-2
+    cast-t18
     returns)

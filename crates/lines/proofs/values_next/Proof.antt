@@ -21,11 +21,11 @@ use Rattle.lines.proofs.values_next.Tie as tie
 
 -- The values so far are those of the spans, and what is left of the reading gives what the whole gives.
 abbrev Inv-loop : tie.InvT-loop
-Inv-loop text rest base start spans₀ count₀ at₀ spans count at =
+Inv-loop text rest classes base start spans₀ count₀ at₀ spans count at =
     Values-lie text spans count × (start ≤ at) × (read-values (value-limit - count) (span-names text spans count) (tokens-past rest base at) ≡ read-values value-limit [] (tokens-past rest base start))
 
 abbrev μ-loop : tie.MeasureT-loop
-μ-loop text rest base start spans₀ count₀ at₀ spans count at = length rest - at
+μ-loop text rest classes base start spans₀ count₀ at₀ spans count at = length rest - at
 
 -- The name that was read is new, and lies in the text.
 name-read : (c : tie.After-declared Inv-loop μ-loop) → new-name (span-names (c .before .before .before .before .before .before .before .args .text .now) (c .before .before .before .before .loop .spans) (c .before .before .before .before .loop .count)) (tokens-past (c .before .before .before .before .before .before .before .args .rest .now) (c .before .before .before .before .before .before .before .args .base) (c .before .before .before .before .loop .at))

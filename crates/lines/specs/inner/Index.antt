@@ -1,5 +1,5 @@
 -- The spans of the slots and values declared so far, and a slot as the table has it.
-use Prim.Native.Nat.{ℕ, _+_, _*_, _/_, _%_, _≤_, _<_}
+use Prim.Native.Nat.{ℕ, _+_, _*_, _%_, _≤_, _<_}
 use mathlib.Core.Path.{_≡_}
 use mathlib.Core.List.{List, [], _∷_, map}
 use lib.ListN.{length, take, drop}
@@ -9,11 +9,11 @@ use Rattle.table.specs.declared.Name as stretch
 use Rattle.table.specs.declared.Slot as tabled
 use Rattle.laws.specs.Limits.{slot-limit, value-limit, row}
 use Rattle.table.specs.inner.Flat.{pair-places}
-use Rattle.steps.specs.inner.Spans.{span-letters, Span-lies}
+use Rattle.steps.specs.inner.Spans.{span-start, span-letters, Span-lies}
 
 -- The name at a span of the text.
 abbrev pub span-name : List ℕ → ℕ → Name
-span-name text k = record { start = k / 32; letters = span-letters text k }
+span-name text k = record { start = span-start k; letters = span-letters text k }
 
 -- The names at the first `count` spans.
 abbrev pub span-names : List ℕ → List ℕ → ℕ → List Name
@@ -44,7 +44,7 @@ pub record Indexed (text : List ℕ) (slots : List Slot) (slotspans valuespans :
 
 -- Where the name of a span stands.
 abbrev pub stretch-at : ℕ → stretch.Name
-stretch-at k = record { start = k / 32; size = k % 32 }
+stretch-at k = record { start = span-start k; size = k % 32 }
 
 -- A slot of the table by its spans.
 abbrev pub slot-by : ℕ → List ℕ → ℕ → tabled.Slot

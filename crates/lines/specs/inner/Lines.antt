@@ -3,10 +3,10 @@ use Prim.Native.Nat.{ℕ, _≤_, _<_}
 use mathlib.Core.Path.{_≡_}
 use mathlib.Core.List.{List}
 use lib.ListN.{length, drop}
-use Rattle.text.specs.Tokens.{Name, Token, SLOT, OPEN}
+use Rattle.text.specs.Tokens.{Name, Token, OPEN}
 use Rattle.grammar.specs.Files.{Slot, slot-names}
 use Rattle.grammar.specs.Reading.{Part, took, stop, _then_, expects, new-name}
-use Rattle.laws.specs.Limits.{value-limit}
+use Rattle.laws.specs.Limits.{text-limit, value-limit}
 use Rattle.steps.specs.inner.Places.{tokens-past}
 use Rattle.steps.specs.inner.Spans.{Span-lies}
 use Rattle.lines.specs.inner.Index.{span-name, span-names, Spanned}
@@ -15,14 +15,10 @@ use Rattle.steps.specs.declared.step.Step.the-variants as step
 use Rattle.lines.specs.declared.Declared.{Declared}
 use Rattle.lines.specs.declared.Declared.the-variants as declared
 
--- Bytes in a text all of whose spans are numbers of the machine; the limit of document 01 is below it.
-abbrev pub span-limit : ℕ
-span-limit = 16777216
-
--- The remainder begins at place `base` of the text, which is no longer than that.
+-- The remainder begins at place `base` of the text, which is no longer than a text may be.
 pub record Remainder (text rest : List ℕ) (base : ℕ) : Type 0 where
   pub begins : rest ≡ drop base text
-  pub short : length text ≤ span-limit
+  pub short : length text ≤ text-limit
 
 -- A name to be declared, by its span.
 abbrev pub declared-part : List ℕ → List ℕ → ℕ → Declared → Part Name
@@ -34,13 +30,12 @@ abbrev pub Declared-lies : List ℕ → ℕ → ℕ → Declared → Type 0
 Declared-lies text size from (declared.At name next) = (0 < name) × Span-lies text name × (from < next) × (next ≤ size)
 Declared-lies text size from (declared.Fault k) = Unit
 
--- A slot line up to its `{`: the slot's name.
+-- A slot line from after SLOT up to its `{`: the slot's name.
 unfoldable pub read-head : List Slot → List Token → Part Name
 read-head slots ts =
-    expects SLOT ts then λ u t1.
-    new-name (slot-names slots) t1 then λ n t2.
-    expects OPEN t2 then λ u t3.
-    took n t3
+    new-name (slot-names slots) ts then λ n t1.
+    expects OPEN t1 then λ u t2.
+    took n t2
 
 -- Of the 15 spans the first `count` are those of the names there, and the others are 0.
 pub record Values-lie (text spans : List ℕ) (count : ℕ) : Type 0 where

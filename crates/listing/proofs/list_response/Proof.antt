@@ -85,6 +85,9 @@ respond-requires c κs = search needs
 enum-known-outcome : tie.Need-enum-known-outcome
 enum-known-outcome c = search needs
 
+cast-bytes-for : tie.Need-cast-bytes-for
+cast-bytes-for c = search needs
+
 mul-bytes-for : tie.Need-mul-bytes-for
 mul-bytes-for c = record { fits = omega (arith, within (start (call (c .before .before))) .0) }
 
@@ -94,58 +97,61 @@ add-bytes-for c = record { fits = omega (arith, within (start (call (c .before .
 bytes-for-requires : tie.Need-bytes-for-requires
 bytes-for-requires c κs = omega (arith, within (start (call (c .before .before))) .0)
 
+cast-bytes-for-2 : tie.Need-cast-bytes-for-2
+cast-bytes-for-2 c = search needs
+
 bytes-for-requires-2 : tie.Need-bytes-for-requires-2
-bytes-for-requires-2 c κs = omega (arith, within (start (call (c .before .before .before))) .1)
+bytes-for-requires-2 c κs = omega (arith, within (start (call (c .before .before .before .before))) .1)
 
 array-share-prefix-renewed : tie.Need-array-share-prefix-renewed
-array-share-prefix-renewed c = let w = within (start (call (c .before .before .before .before))) .0 in search needs
+array-share-prefix-renewed c = let w = within (start (call (c .before .before .before .before .before))) .0 in search needs
 
 slice-aggregate-list-answer : tie.Need-slice-aggregate-list-answer
 slice-aggregate-list-answer c =
-    let b = c .before .before in
+    let b = c .before .before .before in
     let p = call (b .before .before .before) in
     sym (length-take-le (b .bytes-for .result) (card-out p) (omega (arith, b .bytes-for .ensures, within (start p) .0, p .respond .kept .1 .1 .1 .1 .0)))
 
 array-share-prefix-changes : tie.Need-array-share-prefix-changes
 array-share-prefix-changes c =
-    let q = c .before .before .before .before .before in
+    let q = c .before .before .before .before .before .before in
     let h = told q .length-is in
     let k = parts q .changes-short in
     search needs
 
 slice-aggregate-list-answer-2 : tie.Need-slice-aggregate-list-answer-2
 slice-aggregate-list-answer-2 c =
-    let q = c .before .before .before .before .before .before in
+    let q = c .before .before .before .before .before .before .before in
     let p = call q in
     sym (length-take-le (long q) (changes-out p) (omega (arith, told q .length-is, parts q .changes-short, p .respond .kept .1 .1 .1 .1 .1 .0)))
 
 array-share-prefix-bits : tie.Need-array-share-prefix-bits
 array-share-prefix-bits c =
     let b = c .before .before in
-    let w = within (start (call (b .before .before .before .before))) .1 in
+    let w = within (start (call (b .before .before .before .before .before))) .1 in
     search needs
 
 slice-aggregate-list-answer-3 : tie.Need-slice-aggregate-list-answer-3
 slice-aggregate-list-answer-3 c =
     let b = c .before .before .before in
-    let p = call (b .before .before .before .before) in
+    let p = call (b .before .before .before .before .before) in
     sym (length-take-le (b .bytes-for2 .result) (fired-out p) (omega (arith, b .bytes-for2 .ensures, within (start p) .1, p .respond .kept .1 .1 .1 .1 .1 .1 .0)))
 
 -- What is listed of the parts of the outputs.
-listed : (c : tie.After-bytes-for2) → let q = c .before .before .before .before in let p = call q in let g = start p .args in
-    list-answer (g .text .now) (g .t) (answer-bytes (take (c .before .bytes-for .result) (card-out p)) (take (long q) (changes-out p)) (take (c .bytes-for2 .result) (fired-out p))) (p .respond .result .tally)
+listed : (c : tie.After-bytes-for2) → let q = c .before .before .before .before .before in let p = call q in let g = start p .args in
+    list-answer (g .text .now) (g .t) (answer-bytes (take (c .before .before .bytes-for .result) (card-out p)) (take (long q) (changes-out p)) (take (c .bytes-for2 .result) (fired-out p))) (p .respond .result .tally)
     ≡ list-response (g .text .now) (g .t) (taken (told q .shown))
 listed c =
-    let q = c .before .before .before .before in
+    let q = c .before .before .before .before .before in
     let p = call q in
     let g = start p .args in
-    delivered-listed (g .text .now) (g .t) (g .card .now) (g .slip .now) (long q) (c .before .bytes-for .result) (c .bytes-for2 .result) (p .respond .result .tally) (card-out p) (changes-out p) (fired-out p) (told q)
-    (c .before .bytes-for .ensures ∙ sym (parts q .card-length)) (c .bytes-for2 .ensures ∙ sym (parts q .fired-there))
+    delivered-listed (g .text .now) (g .t) (g .card .now) (g .slip .now) (long q) (c .before .before .bytes-for .result) (c .bytes-for2 .result) (p .respond .result .tally) (card-out p) (changes-out p) (fired-out p) (told q)
+    (c .before .before .bytes-for .ensures ∙ sym (parts q .card-length)) (c .bytes-for2 .ensures ∙ sym (parts q .fired-there))
 
 list-answer-requires : tie.Need-list-answer-requires
 list-answer-requires c κs =
     let b = c .before .before .before .before in
-    let q = b .before .before .before .before in
+    let q = b .before .before .before .before .before in
     let s = start (call q) in
     let g = s .args in
     let w = parts q .changes-whole in
@@ -158,7 +164,7 @@ returns : tie.Need-returns
 returns c =
     let p = c .before .before in
     let b = p .before .before .before .before .before in
-    let q = b .before .before .before .before in
+    let q = b .before .before .before .before .before in
     rw (told q .is-taken, ← listed b) (p .list-answer .ensures)
 
 enum-known-outcome-2 : tie.Need-enum-known-outcome-2
@@ -187,9 +193,11 @@ list-response-spec =
     slice-aggregate-respond-3
     respond-requires
     enum-known-outcome
+    cast-bytes-for
     mul-bytes-for
     add-bytes-for
     bytes-for-requires
+    cast-bytes-for-2
     bytes-for-requires-2
     array-share-prefix-renewed
     slice-aggregate-list-answer

@@ -9,6 +9,12 @@ use borrow.Author.Needs.{needs}
 use Rattle.names.proofs.stretch.Statement.{statement}
 use Rattle.names.proofs.stretch.Tie as tie
 
+cast-start : tie.Need-cast-start
+cast-start c = search needs
+
+cast-size : tie.Need-cast-size
+cast-size c = search needs
+
 add-end : tie.Need-add-end
 add-end c = search needs
 
@@ -22,18 +28,20 @@ part-result-end : tie.Need-part-result-end
 part-result-end c = search needs
 
 returns : tie.Need-returns
-returns c = let s = c .before .before .before in rw (name-inside (s .args .text .now) (s .args .name) (omega arith), add-sub-cancel-left) (refl, refl, begins-at (s .args .text .ptr) (s .args .name .start))
+returns c = let s = c .before .before .before .before .before in rw (name-inside (s .args .text .now) (s .args .name) (omega arith), add-sub-cancel-left) (refl, refl, begins-at (s .args .text .ptr) (s .args .name .start))
 
 slice-aggregate-result : tie.Need-slice-aggregate-result
 slice-aggregate-result c = search needs
 
 returns-2 : tie.Need-returns-2
-returns-2 c = let s = c .before .before in rw (name-outside (s .args .text .now) (s .args .name) (⊎-elim (λ w. omega arith) (λ w. omega arith) (c .before .if1 .came))) (refl, refl, at-beginning (s .args .text .ptr))
+returns-2 c = let s = c .before .before .before .before in rw (name-outside (s .args .text .now) (s .args .name) (⊎-elim (λ w. omega arith) (λ w. omega arith) (c .before .if1 .came))) (refl, refl, at-beginning (s .args .text .ptr))
 
 pub stretch-spec : {M : Type 1} → statement M
 stretch-spec =
     tie.close
     (tie.spec
+    cast-start
+    cast-size
     add-end
     sub-result
     part-result-start

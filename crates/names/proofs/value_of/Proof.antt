@@ -18,6 +18,9 @@ there c = sym (c .before .has-value .ensures) ∙ not-false (c .before .has-valu
 inside : (c : tie.Else1) → (1 ≤ c .before .before .before .args .value) × (c .before .before .before .args .value ≤ value-limit)
 inside c = let h = value-inside _ _ (there c) in (h .0, h .1 .0)
 
+cast-count : tie.Need-cast-count
+cast-count c = search needs
+
 has-value-requires : tie.Need-has-value-requires
 has-value-requires c κs = search needs
 
@@ -46,6 +49,7 @@ pub value-of-spec : {M : Type 1} → statement M
 value-of-spec =
     tie.close
     (tie.spec
+    cast-count
     has-value-requires
     slice-aggregate-result
     returns

@@ -1,6 +1,6 @@
 -- `packing::pack_card` meets its contract.
 -- Assumes nothing.
-use mathlib.Core.Path.{_≡_, sym, ap, _∙_}
+use mathlib.Core.Path.{_≡_, refl, sym, ap, _∙_}
 use mathlib.Core.Bool.{true}
 use mathlib.Core.List.{List, _++_}
 use Prim.Native.Nat.{ℕ}
@@ -10,12 +10,13 @@ use Rattle.laws.specs.Packed.{byte-count}
 use Rattle.table.specs.inner.Shape.{Shaped}
 use Rattle.table.specs.Link.{value-counts}
 use Rattle.table.proofs.Shape.{shaped}
+use Rattle.rows.proofs.Laws.{zero-shaped}
 use Rattle.soundness.specs.Sound.{sound}
 use Rattle.soundness.proofs.Sound.{sound-width}
 use Rattle.laws.specs.Answers.{passed}
 use Rattle.cards.specs.Forms.{card-bits, card-test, card-bytes}
 use Rattle.cards.specs.Cards.{card-values}
-use Rattle.cards.specs.inner.Fitting.{counts-in, verdict-outcome}
+use Rattle.cards.specs.inner.Fitting.{verdict-outcome}
 use Rattle.cards.proofs.Formed.{card-length}
 use Rattle.cards.proofs.Written.{card-bytes-length}
 use Rattle.cards.proofs.Passed.{slots-length, card-pass, sound-slots, counts-all, outcome-fault, outcome-passed, card-fits}
@@ -29,39 +30,37 @@ shape : (c : tie.Start) → Shaped (c .args .t)
 shape c = shaped (c .args .t) _ (c .good .0)
 
 -- The table is sound.
-right : (c : tie.Else1) → sound (c .before .before .before .args .t) ≡ true
-right c = sym (c .before .is-sound .ensures) ∙ not-false (c .before .is-sound .result) (c .if1 .left)
+right : (c : tie.Else1) → sound (c .before .before .before .before .before .before .args .t) ≡ true
+right c = sym (c .before .admit .ensures .0) ∙ not-false (c .before .admit .result) (c .if1 .left)
 
--- The counts are those of its slots.
-counted : (c : tie.After-counts-of) → counts-in (c .before .before .before .before .args .t .width) (c .counts-of .result) ≡ value-counts (c .before .before .before .before .args .t)
-counted c =
-    let e = c .before in
-    let a = e .before .before .before in
-    ap (counts-in (a .args .t .width)) (c .counts-of .ensures) ∙ counts-all (a .args .t) (shape a) (right e)
-
--- The test is one by those counts.
-tested : (c : tie.After-check-card) → c .check-card .result ≡ verdict-outcome (card-test (value-counts (c .before .before .before .before .before .before .args .t)) (card-values (c .before .before .before .before .before .before .args .c)))
-tested c = c .check-card .ensures ∙ ap (λ (ns : List ℕ). verdict-outcome (card-test ns (card-values (c .before .before .before .before .before .before .args .c)))) (counted (c .before .before))
+-- The test is one by the counts of its slots.
+tested : (c : tie.After-check-card) → c .check-card .result ≡ verdict-outcome (card-test (value-counts (c .before .before .before .before .before .before .before .before .args .t)) (card-values (c .before .before .before .before .before .before .before .before .args .c)))
+tested c =
+    let e = c .before .before in
+    let g = e .before in
+    let a = c .before .before .before .before .before .before .before .before in
+    let k = counts-all (a .args .t) (shape a) (right e) _ _ (g .admit .ensures .1 (not-false (g .admit .result) (e .if1 .left))) in
+    c .check-card .ensures ∙ ap (λ (ns : List ℕ). verdict-outcome (card-test ns (card-values (a .args .c)))) k
 
 -- The form passed.
-passes : (c : tie.After-enum-told) → card-test (value-counts (c .before .before .before .before .before .before .before .before .args .t)) (card-values (c .before .before .before .before .before .before .before .before .args .c)) ≡ passed
+passes : (c : tie.After-enum-told) → card-test (value-counts (c .before .before .before .before .before .before .before .before .before .before .args .t)) (card-values (c .before .before .before .before .before .before .before .before .before .before .args .c)) ≡ passed
 passes c = outcome-passed _ (sym (tested (c .before .before)) ∙ c .enum-told .given .1)
 
-is-sound-requires : tie.Need-is-sound-requires
-is-sound-requires c κs = search needs
+cast-width : tie.Need-cast-width
+cast-width c = search needs
+
+admit-requires : tie.Need-admit-requires
+admit-requires c κs = (zero-shaped, refl)
 
 returns : tie.Need-returns
 returns c =
     let g = c .before in
-    let a = g .before .before in
-    let e = unsound-card (a .args .t) (sym (g .is-sound .ensures) ∙ not-true (g .is-sound .result) (c .if1 .taken)) (a .args .c) (length (a .args .out .now)) in
+    let a = c .before .before .before .before .before .before in
+    let e = unsound-card (a .args .t) (sym (g .admit .ensures .0) ∙ not-true (g .admit .result) (c .if1 .taken)) (a .args .c) (length (a .args .out .now)) in
     answer-refused _ 31 0 (a .args .out .now) e
 
-counts-of-requires : tie.Need-counts-of-requires
-counts-of-requires c κs = let e = c in sound-width (e .before .before .before .args .t) (right e)
-
 check-card-requires : tie.Need-check-card-requires
-check-card-requires c κs = let e = c .before .before in sound-width (e .before .before .before .args .t) (right e)
+check-card-requires c κs = sound-width (c .before .before .before .before .before .before .before .args .t) (right (c .before))
 
 enum-known-checked : tie.Need-enum-known-checked
 enum-known-checked c = search needs
@@ -69,8 +68,8 @@ enum-known-checked c = search needs
 returns-2 : tie.Need-returns-2
 returns-2 c =
     let d = c .before .before .before in
-    let e = d .before .before .before in
-    let a = e .before .before .before in
+    let e = c .before .before .before .before .before in
+    let a = c .before .before .before .before .before .before .before .before .before .before .before in
     let k = c .before .checked .given .0 .0 in
     let s = c .before .checked .given .0 .1 .0 in
     let f = outcome-fault _ k s (sym (tested d) ∙ c .before .checked .given .1) in
@@ -80,30 +79,30 @@ enum-told : tie.Need-enum-told
 enum-told c = search needs
 
 -- A card that passed counts the slots.
-counts : (c : tie.After-enum-told) → c .before .before .before .before .before .before .before .before .args .c .count ≡ c .before .before .before .before .before .before .before .before .args .t .width
+counts : (c : tie.After-enum-told) → c .before .before .before .before .before .before .before .before .before .before .args .c .count ≡ c .before .before .before .before .before .before .before .before .before .before .args .t .width
 counts c =
-    let e = c .before .before .before .before .before in
-    let a = e .before .before .before in
+    let e = c .before .before .before .before in
+    let a = c .before .before .before .before .before .before .before .before .before .before in
     sym (card-length (a .args .c)) ∙ card-pass (value-counts (a .args .t)) (card-values (a .args .c)) (passes c) .0 ∙ slots-length (a .args .t) (shape a) (right e)
 
 mul-bytes-for : tie.Need-mul-bytes-for
-mul-bytes-for c = record { fits = (let e = c .before .before .before .before .before in omega (arith, sound-width (e .before .before .before .args .t) (right e))) }
+mul-bytes-for c = record { fits = omega (arith, sound-width (c .before .before .before .before .before .before .before .before .before .before .args .t) (right (c .before .before .before .before))) }
 
 add-bytes-for : tie.Need-add-bytes-for
-add-bytes-for c = record { fits = (let e = c .before .before .before .before .before in omega (arith, sound-width (e .before .before .before .args .t) (right e))) }
+add-bytes-for c = record { fits = omega (arith, sound-width (c .before .before .before .before .before .before .before .before .before .before .args .t) (right (c .before .before .before .before))) }
 
 bytes-for-requires : tie.Need-bytes-for-requires
-bytes-for-requires c κs = (let e = c .before .before .before .before .before in omega (arith, sound-width (e .before .before .before .args .t) (right e)))
+bytes-for-requires c κs = omega (arith, sound-width (c .before .before .before .before .before .before .before .before .before .before .args .t) (right (c .before .before .before .before)))
 
 -- The packed length.
-size : (c : tie.After-bytes-for) → c .bytes-for .result ≡ byte-count (card-bits (c .before .before .before .before .before .before .before .before .before .args .c .count))
+size : (c : tie.After-bytes-for) → c .bytes-for .result ≡ byte-count (card-bits (c .before .before .before .before .before .before .before .before .before .before .before .args .c .count))
 size b = let p = b .before in b .bytes-for .ensures ∙ ap (λ (n : ℕ). byte-count (card-bits n)) (sym (counts p))
 
 returns-3 : tie.Need-returns-3
 returns-3 c =
     let p = c .before .before in
-    let e = p .before .before .before .before .before in
-    let a = e .before .before .before in
+    let e = c .before .before .before .before .before .before in
+    let a = c .before .before .before .before .before .before .before .before .before .before .before .before in
     let r = card-without-room (a .args .t) (right e) (a .args .c) (length (a .args .out .now)) (passes p) (omega (arith, size (c .before), c .if2 .taken)) in
     answer-refused _ 30 1 (a .args .out .now) r
 
@@ -111,8 +110,8 @@ write-card-requires : tie.Need-write-card-requires
 write-card-requires c κs =
     let b = c .before .before in
     let p = b .before in
-    let e = p .before .before .before .before .before in
-    let a = e .before .before .before in
+    let e = c .before .before .before .before .before .before .before in
+    let a = c .before .before .before .before .before .before .before .before .before .before .before .before .before in
     let S = sound-slots (a .args .t) (shape a) (right e) in
     (card-fits (value-counts (a .args .t)) (a .args .c) S (passes p), omega (arith, size b, c .before .if2 .left))
 
@@ -124,8 +123,8 @@ returns-4 c =
     let g = c .before .before in
     let b = g .before .before .before in
     let p = b .before in
-    let e = p .before .before .before .before .before in
-    let a = e .before .before .before in
+    let e = c .before .before .before .before .before .before .before .before .before .before in
+    let a = c .before .before .before .before .before .before .before .before .before .before .before .before .before .before .before .before in
     let vs = card-values (a .args .c) in
     let r = card-with-room (a .args .t) (right e) (a .args .c) (length (a .args .out .now)) (passes p) (omega (arith, size b, g .before .before .if2 .left)) in
     let l : g .write-card .result ≡ length (card-bytes vs) = g .write-card .ensures .0 ∙ sym (card-bytes-length vs ∙ ap (λ (n : ℕ). byte-count (card-bits n)) (card-length (a .args .c))) in
@@ -135,9 +134,9 @@ pub pack-card-spec : {M : Type 1} → statement M
 pack-card-spec =
     tie.close
     (tie.spec
-    is-sound-requires
+    cast-width
+    admit-requires
     returns
-    counts-of-requires
     check-card-requires
     enum-known-checked
     returns-2

@@ -1,6 +1,6 @@
 -- `packing::pack_slip` meets its contract.
 -- Assumes nothing.
-use mathlib.Core.Path.{_≡_, sym, ap, _∙_}
+use mathlib.Core.Path.{_≡_, refl, sym, ap, _∙_}
 use mathlib.Core.Bool.{true}
 use mathlib.Core.List.{List, _++_}
 use Prim.Native.Nat.{ℕ}
@@ -10,12 +10,13 @@ use Rattle.laws.specs.Packed.{byte-count}
 use Rattle.table.specs.inner.Shape.{Shaped}
 use Rattle.table.specs.Link.{value-counts}
 use Rattle.table.proofs.Shape.{shaped}
+use Rattle.rows.proofs.Laws.{zero-shaped}
 use Rattle.soundness.specs.Sound.{sound}
 use Rattle.soundness.proofs.Sound.{sound-width}
 use Rattle.laws.specs.Answers.{passed}
 use Rattle.cards.specs.Forms.{slip-bits, slip-test, slip-bytes}
 use Rattle.cards.specs.Cards.{changes-of}
-use Rattle.cards.specs.inner.Fitting.{counts-in, verdict-outcome}
+use Rattle.cards.specs.inner.Fitting.{verdict-outcome}
 use Rattle.cards.proofs.Formed.{slip-length}
 use Rattle.cards.proofs.Written.{slip-bytes-length}
 use Rattle.cards.proofs.Passed.{sound-slots, counts-all, outcome-fault, outcome-passed, slip-fits}
@@ -29,45 +30,43 @@ shape : (c : tie.Start) → Shaped (c .args .t)
 shape c = shaped (c .args .t) _ (c .good .0)
 
 -- The table is sound.
-right : (c : tie.Else1) → sound (c .before .before .before .args .t) ≡ true
-right c = sym (c .before .is-sound .ensures) ∙ not-false (c .before .is-sound .result) (c .if1 .left)
+right : (c : tie.Else1) → sound (c .before .before .before .before .before .before .args .t) ≡ true
+right c = sym (c .before .admit .ensures .0) ∙ not-false (c .before .admit .result) (c .if1 .left)
 
--- The counts are those of its slots.
-counted : (c : tie.After-counts-of) → counts-in (c .before .before .before .before .before .args .t .width) (c .counts-of .result) ≡ value-counts (c .before .before .before .before .before .args .t)
-counted c =
-    let e = c .before .before in
-    let a = e .before .before .before in
-    ap (counts-in (a .args .t .width)) (c .counts-of .ensures) ∙ counts-all (a .args .t) (shape a) (right e)
-
--- The test is one by those counts.
-tested : (c : tie.After-check-slip) → c .check-slip .result ≡ verdict-outcome (slip-test (value-counts (c .before .before .before .before .before .before .before .args .t)) (changes-of (c .before .before .before .before .before .before .before .args .s)))
-tested c = c .check-slip .ensures ∙ ap (λ (ns : List ℕ). verdict-outcome (slip-test ns (changes-of (c .before .before .before .before .before .before .before .args .s)))) (counted (c .before .before))
+-- The test is one by the counts of its slots.
+tested : (c : tie.After-check-slip) → c .check-slip .result ≡ verdict-outcome (slip-test (value-counts (c .before .before .before .before .before .before .before .before .before .args .t)) (changes-of (c .before .before .before .before .before .before .before .before .before .args .s)))
+tested c =
+    let e = c .before .before .before in
+    let g = e .before in
+    let a = c .before .before .before .before .before .before .before .before .before in
+    let k = counts-all (a .args .t) (shape a) (right e) _ _ (g .admit .ensures .1 (not-false (g .admit .result) (e .if1 .left))) in
+    c .check-slip .ensures ∙ ap (λ (ns : List ℕ). verdict-outcome (slip-test ns (changes-of (a .args .s)))) k
 
 -- The form passed.
-passes : (c : tie.After-enum-told) → slip-test (value-counts (c .before .before .before .before .before .before .before .before .before .args .t)) (changes-of (c .before .before .before .before .before .before .before .before .before .args .s)) ≡ passed
+passes : (c : tie.After-enum-told) → slip-test (value-counts (c .before .before .before .before .before .before .before .before .before .before .before .args .t)) (changes-of (c .before .before .before .before .before .before .before .before .before .before .before .args .s)) ≡ passed
 passes c = outcome-passed _ (sym (tested (c .before .before)) ∙ c .enum-told .given .1)
 
-is-sound-requires : tie.Need-is-sound-requires
-is-sound-requires c κs = search needs
+cast-width : tie.Need-cast-width
+cast-width c = search needs
+
+admit-requires : tie.Need-admit-requires
+admit-requires c κs = (zero-shaped, refl)
 
 returns : tie.Need-returns
 returns c =
     let g = c .before in
-    let a = g .before .before in
-    let e = unsound-slip (a .args .t) (sym (g .is-sound .ensures) ∙ not-true (g .is-sound .result) (c .if1 .taken)) (a .args .s) (length (a .args .out .now)) in
+    let a = c .before .before .before .before .before .before in
+    let e = unsound-slip (a .args .t) (sym (g .admit .ensures .0) ∙ not-true (g .admit .result) (c .if1 .taken)) (a .args .s) (length (a .args .out .now)) in
     answer-refused _ 31 0 (a .args .out .now) e
 
 returns-2 : tie.Need-returns-2
 returns-2 c =
     let e = c .before in
-    let a = e .before .before .before in
+    let a = c .before .before .before .before .before .before .before in
     answer-refused _ 24 0 (a .args .out .now) (slip-too-many (a .args .t) (right e) (a .args .s) (length (a .args .out .now)) (c .if2 .taken))
 
-counts-of-requires : tie.Need-counts-of-requires
-counts-of-requires c κs = let e = c .before in sound-width (e .before .before .before .args .t) (right e)
-
 check-slip-requires : tie.Need-check-slip-requires
-check-slip-requires c κs = let x = c .before .before in let e = x .before in (sound-width (e .before .before .before .args .t) (right e), x .if2 .left)
+check-slip-requires c κs = (sound-width (c .before .before .before .before .before .before .before .before .args .t) (right (c .before .before)), c .before .if2 .left)
 
 enum-known-checked : tie.Need-enum-known-checked
 enum-known-checked c = search needs
@@ -75,35 +74,35 @@ enum-known-checked c = search needs
 returns-3 : tie.Need-returns-3
 returns-3 c =
     let d = c .before .before .before in
-    let e = d .before .before .before .before in
-    let a = e .before .before .before in
+    let e = c .before .before .before .before .before .before in
+    let a = c .before .before .before .before .before .before .before .before .before .before .before .before in
     let k = c .before .checked .given .0 .0 in
     let s = c .before .checked .given .0 .1 .0 in
     let f = outcome-fault _ k s (sym (tested d) ∙ c .before .checked .given .1) in
-    answer-refused _ k s (a .args .out .now) (slip-faulty (a .args .t) (right e) (a .args .s) (length (a .args .out .now)) (d .before .before .before .if2 .left) k s f)
+    answer-refused _ k s (a .args .out .now) (slip-faulty (a .args .t) (right e) (a .args .s) (length (a .args .out .now)) (c .before .before .before .before .before .if2 .left) k s f)
 
 enum-told : tie.Need-enum-told
 enum-told c = search needs
 
 mul-bytes-for : tie.Need-mul-bytes-for
-mul-bytes-for c = record { fits = omega (arith, c .before .before .before .before .before .if2 .left) }
+mul-bytes-for c = record { fits = omega (arith, c .before .before .before .before .if2 .left) }
 
 add-bytes-for : tie.Need-add-bytes-for
-add-bytes-for c = record { fits = omega (arith, c .before .before .before .before .before .if2 .left) }
+add-bytes-for c = record { fits = omega (arith, c .before .before .before .before .if2 .left) }
 
 bytes-for-requires : tie.Need-bytes-for-requires
-bytes-for-requires c κs = omega (arith, c .before .before .before .before .before .if2 .left)
+bytes-for-requires c κs = omega (arith, c .before .before .before .before .if2 .left)
 
 -- The packed length.
-size : (c : tie.After-bytes-for) → c .bytes-for .result ≡ byte-count (slip-bits (c .before .before .before .before .before .before .before .before .before .before .args .s .count))
+size : (c : tie.After-bytes-for) → c .bytes-for .result ≡ byte-count (slip-bits (c .before .before .before .before .before .before .before .before .before .before .before .before .args .s .count))
 size b = let p = b .before in b .bytes-for .ensures
 
 returns-4 : tie.Need-returns-4
 returns-4 c =
     let p = c .before .before in
-    let x = p .before .before .before .before .before in
+    let x = c .before .before .before .before .before .before in
     let e = x .before in
-    let a = e .before .before .before in
+    let a = c .before .before .before .before .before .before .before .before .before .before .before .before .before in
     let r = slip-without-room (a .args .t) (right e) (a .args .s) (length (a .args .out .now)) (x .if2 .left) (passes p) (omega (arith, size (c .before), c .if3 .taken)) in
     answer-refused _ 30 2 (a .args .out .now) r
 
@@ -111,9 +110,9 @@ write-slip-requires : tie.Need-write-slip-requires
 write-slip-requires c κs =
     let b = c .before .before in
     let p = b .before in
-    let x = p .before .before .before .before .before in
+    let x = c .before .before .before .before .before .before .before in
     let e = x .before in
-    let a = e .before .before .before in
+    let a = c .before .before .before .before .before .before .before .before .before .before .before .before .before .before in
     let S = sound-slots (a .args .t) (shape a) (right e) in
     (slip-fits (value-counts (a .args .t)) (a .args .s) S (x .if2 .left) (passes p), omega (arith, size b, c .before .if3 .left))
 
@@ -125,9 +124,9 @@ returns-5 c =
     let g = c .before .before in
     let b = g .before .before .before in
     let p = b .before in
-    let x = p .before .before .before .before .before in
+    let x = c .before .before .before .before .before .before .before .before .before .before in
     let e = x .before in
-    let a = e .before .before .before in
+    let a = c .before .before .before .before .before .before .before .before .before .before .before .before .before .before .before .before .before in
     let vs = changes-of (a .args .s) in
     let r = slip-with-room (a .args .t) (right e) (a .args .s) (length (a .args .out .now)) (x .if2 .left) (passes p) (omega (arith, size b, g .before .before .if3 .left)) in
     let l : g .write-slip .result ≡ length (slip-bytes vs) = g .write-slip .ensures .0 ∙ sym (slip-bytes-length vs ∙ ap (λ (n : ℕ). byte-count (slip-bits n)) (slip-length (a .args .s))) in
@@ -137,10 +136,10 @@ pub pack-slip-spec : {M : Type 1} → statement M
 pack-slip-spec =
     tie.close
     (tie.spec
-    is-sound-requires
+    cast-width
+    admit-requires
     returns
     returns-2
-    counts-of-requires
     check-slip-requires
     enum-known-checked
     returns-3

@@ -32,7 +32,7 @@ slots-tabled s = rw (s .pre .1) (tabled (s .args .text .now) (s .pre .0))
 enter-slots-requires : tie.Need-enter-slots-requires
 enter-slots-requires c κs =
     let s = c .before .before .before .before in
-    (refl, refl, (s .args .text .now, file (s .args .text .now) (s .pre .0) .slots, slots-tabled s))
+    (refl, refl, (file (s .args .text .now) (s .pre .0) .slots, slots-tabled s))
 
 slice-aggregate-put-file : tie.Need-slice-aggregate-put-file
 slice-aggregate-put-file c = search needs
@@ -42,7 +42,7 @@ put-file-requires c κs =
     let e = c .before .before .before in
     let s = e .before .before .before .before .before in
     let text = s .args .text .now in
-    let I = e .enter-slots .ensures text (file text (s .pre .0) .slots) (slots-tabled s) in
+    let I = e .enter-slots .ensures (file text (s .pre .0) .slots) (slots-tabled s) in
     rw (s .pre .1) (table-fits text (s .pre .0) (shape s), lines-fit text (s .pre .0) (shape s), spelled-bounded text (s .pre .0) _ _ I)
 
 -- The lines of the table are the print of the text.
@@ -56,7 +56,7 @@ size c =
     let e = p .before .before .before .before in
     let s = e .before .before .before .before .before in
     let text = s .args .text .now in
-    let I = e .enter-slots .ensures text (file text (s .pre .0) .slots) (slots-tabled s) in
+    let I = e .enter-slots .ensures (file text (s .pre .0) .slots) (slots-tabled s) in
     let z = ap length (is-print text (s .pre .0) (s .args .t) (s .pre .1) I) in
     omega (arith, z, p .put-file .ensures .ends)
 
@@ -79,7 +79,7 @@ put-file-requires-2 c κs =
     let e = n .before .before .before .before .before in
     let s = e .before .before .before .before .before in
     let text = s .args .text .now in
-    let I = e .enter-slots .ensures text (file text (s .pre .0) .slots) (slots-tabled s) in
+    let I = e .enter-slots .ensures (file text (s .pre .0) .slots) (slots-tabled s) in
     rw (s .pre .1) (table-fits text (s .pre .0) (shape s), lines-fit text (s .pre .0) (shape s), spelled-bounded text (s .pre .0) _ _ I)
 
 same-length : tie.Need-same-length
@@ -94,7 +94,7 @@ returns-3 c =
     let s = e .before .before .before .before .before in
     let text = s .args .text .now in
     let out = s .args .out .now in
-    let I = e .enter-slots .ensures text (file text (s .pre .0) .slots) (slots-tabled s) in
+    let I = e .enter-slots .ensures (file text (s .pre .0) .slots) (slots-tabled s) in
     let is = is-print text (s .pre .0) (s .args .t) (s .pre .1) I in
     let l = size n in
     let z = ap length is in

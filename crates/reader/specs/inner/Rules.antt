@@ -2,7 +2,7 @@
 use Prim.Native.Nat.{ℕ, _≤_, _<_}
 use mathlib.Core.Path.{_≡_}
 use mathlib.Core.List.{List}
-use Rattle.text.specs.Tokens.{Token, WHEN, IF, BECOMES, SEMICOLON}
+use Rattle.text.specs.Tokens.{Token, IF, BECOMES, SEMICOLON}
 use Rattle.model.specs.Rules.{Pair, Rule}
 use Rattle.grammar.specs.Files.{Slot}
 use Rattle.grammar.specs.Reading.{Part, took, stop, _then_, expects, read-slot, read-value, read-condition, read-assign}
@@ -25,13 +25,12 @@ trigger-pair slots ts =
     read-value slots s t2 then λ v t3.
     took (pair s v) t3
 
--- The beginning of a rule: WHEN, its trigger, IF.
+-- The beginning of a rule after its WHEN: its trigger, IF.
 unfoldable pub read-trigger : List Slot → List Token → Part Pair
 read-trigger slots ts =
-    expects WHEN ts then λ u t1.
-    trigger-pair slots t1 then λ p t2.
-    expects IF t2 then λ u t3.
-    took p t3
+    trigger-pair slots ts then λ p t1.
+    expects IF t1 then λ u t2.
+    took p t2
 
 -- A pair read.
 abbrev pub pair-part : List ℕ → ℕ → PairRead → Part Pair

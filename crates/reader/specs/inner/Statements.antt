@@ -1,7 +1,7 @@
 -- The reading from the middle of a file on, one statement at a time.
 use Prim.Native.Nat.{ℕ, _-_, _≤_, _<_}
 use mathlib.Core.Path.{_≡_}
-use mathlib.Core.Bool.{true, false}
+use mathlib.Core.Bool.{false}
 use mathlib.Core.List.{List, [], _∷_, _++_}
 use lib.ListN.{length}
 use Rattle.text.specs.Tokens.{Token, SLOT}
@@ -25,10 +25,6 @@ use Rattle.reader.specs.declared.statements.Statement.{Statement}
 unfoldable pub read-on : List Slot → List Rule → List Token → Parsed
 read-on slots [] ts = read-lines (slot-limit - length slots) slots ts
 read-on slots (r ∷ rs) ts = read-rules (rule-limit - length (r ∷ rs)) slots (r ∷ rs) ts
-
--- A slot line must stand next.
-abbrev pub Slot-next : List Token → Type 0
-Slot-next ts = begins-with SLOT ts ≡ true
 
 -- A rule must stand next: something stands there, and no SLOT where no rule came before.
 abbrev pub Rule-next : List Rule → List Token → Type 0

@@ -1,10 +1,11 @@
 -- What is in order when the rules fire: the table, the card and the slip passed their tests, the outputs have room.
-use Prim.Native.Nat.{ℕ, _≤_}
+use mathlib.Core.List.{List}
+use Prim.Native.Nat.{ℕ, _≤_, _<_}
 use mathlib.Core.Path.{_≡_}
 use lib.ListN.{getD}
 use Rattle.laws.specs.Packed.{byte-count}
-use Rattle.table.specs.declared.Table.{Table}
-use Rattle.laws.specs.Limits.{slot-limit}
+use Rattle.laws.specs.Limits.{slot-limit, value-limit}
+use Rattle.rows.specs.inner.Rows.{table-in, RowsFit}
 use Rattle.cards.specs.declared.Card.{Card}
 use Rattle.cards.specs.declared.Slip.{Slip}
 use Rattle.cards.specs.Forms.{card-bits}
@@ -15,11 +16,19 @@ use Rattle.laws.specs.Answers.{OrRefused}
 use Rattle.response.specs.declared.Outcome.{Outcome}
 use Rattle.response.specs.Ending.{Answer}
 
--- The table passed 31, and so can be fired; the card counts its slots, in 4 bits each, and is empty beyond them; the slip's changes go into 5 and 4 bits.
-pub record InOrder (t : Table) (card : Card) (slip : Slip) : Type 0 where
-  pub fireable : CanFire t
-  pub few-slots : t .width ≤ slot-limit
-  pub same-width : card .count ≡ t .width
+-- What is left of a table that passed 31: rows of its rules, which can be fired, its number of slots, and how many values each of these has.
+pub record Kept (rows : List (List ℕ)) (n width : ℕ) (counts : List ℕ) : Type 0 where
+  pub rows-fit : RowsFit rows n
+  pub fireable : CanFire (table-in rows n)
+  pub few-slots : width ≤ slot-limit
+  pub few-values : (i : ℕ) → i < width → getD counts i 0 ≤ value-limit
+
+-- The rows can be fired; the card counts as many slots, in 4 bits each, and is empty beyond them; the slip's changes go into 5 and 4 bits.
+pub record InOrder (rows : List (List ℕ)) (n width : ℕ) (card : Card) (slip : Slip) : Type 0 where
+  pub rows-fit : RowsFit rows n
+  pub fireable : CanFire (table-in rows n)
+  pub few-slots : width ≤ slot-limit
+  pub same-width : card .count ≡ width
   pub card-fits : CardFits card
   pub rest-empty : (s : ℕ) → card .count ≤ s → getD (card .values) s 0 ≡ 0
   pub slip-fits : SlipFits slip

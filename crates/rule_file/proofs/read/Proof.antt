@@ -1,65 +1,420 @@
 -- `rule_file::read` meets its contract.
 -- Assumes nothing.
-use Rattle.strata.specs.declared.Outcome.the-variants.{Layered, Circle}
-use Rattle.rule_file.proofs.Answers.{file-fits, whole-layered, whole-refused}
+use Prim.Native.Nat.{ℕ, _-_, _≤_}
+use native.Mathlib.Omega.{arith}
+use mathlib.Core.Path.{_≡_, refl, sym, ap, subst, _∙_}
+use Rattle.laws.specs.Limits.{rule-limit}
+use lib.ListN.{length, length-take, length-drop}
 use borrow.Author.Needs.{needs}
+use Rattle.text.specs.Tokens.{tokens}
+use Rattle.grammar.specs.Reading.{parse, accepted, refused, read-tokens}
+use Rattle.grammar.specs.Files.{File}
+use Rattle.grammar.proofs.Forward.{read-short, read-long}
+use Rattle.table.specs.inner.Fits.{TableFits}
+use Rattle.table.specs.inner.Shape.{Shaped}
+use Rattle.lines.proofs.LineLaws.{remainder-place}
+use Rattle.reader.specs.inner.Statements.{kind-answer, Kind-lies}
+use Rattle.reader.proofs.ReadLaws.{Halfway, halfway-start, halfway-width, halfway-count, halfway-slot, halfway-rule}
+use Rattle.reader.specs.declared.statements.Kind.{Kind}
+use Rattle.reader.specs.declared.statements.Kind.the-variants as kind
+use Rattle.rows.specs.inner.Rows.{table-in, Entered}
+use Rattle.rows.proofs.Laws.{zero-shaped, entered-start, entered-next, entered-fits, entered-rules, rows-count}
+use Rattle.strata.specs.Layered.{with-strata}
+use Rattle.strata.specs.inner.Heights.{least-numbers}
+use Rattle.model.specs.Strata.{weak}
+use Rattle.model.specs.Circles.{circle-of}
+use Rattle.table.specs.Link.{rules-of}
+use Rattle.rule_file.proofs.FileTable.{file-rules}
+use Rattle.strata.proofs.Layered.{same-numbers, number-small, Numbering, numbering-start, numbering-step, numbering-end}
+use Rattle.rule_file.proofs.Answers.{file-table-fits, file-table-shaped, whole-layered, whole-circle, whole-refused}
 use Rattle.rule_file.proofs.read.Statement.{statement}
 use Rattle.rule_file.proofs.read.Tie as tie
 
-read-text-requires : tie.Need-read-text-requires
-read-text-requires c κs = search needs
+abbrev Inv-rows : tie.InvT-rows
+Inv-rows text t base width count rows₀ i₀ rows i = (count ≤ rule-limit) × (i ≤ count) × Entered (t .rules) rows i
 
-enum-told : tie.Need-enum-told
+abbrev μ-rows : tie.MeasureT-rows
+μ-rows text t base width count rows₀ i₀ rows i = count - i
+
+abbrev Inv-strata : tie.InvT-strata
+Inv-strata text t₀ base width count i numbers k j₀ t j = (count ≤ rule-limit) × (j ≤ count) × Numbering numbers t₀ j t
+
+abbrev μ-strata : tie.MeasureT-strata
+μ-strata text t₀ base width count i numbers k j₀ t j = count - j
+
+abbrev Inv-statements : tie.InvT-statements
+Inv-statements text classes t₀ slotspans₀ valuespans₀ rest₀ base₀ t slotspans valuespans rest base = Halfway text t slotspans valuespans rest base
+
+abbrev μ-statements : tie.MeasureT-statements
+μ-statements text classes t₀ slotspans₀ valuespans₀ rest₀ base₀ t slotspans valuespans rest base = length rest
+
+-- Before a statement, and what the reading comes to by it.
+halfway : (c : tie.After-statement-next Inv-rows μ-rows Inv-strata μ-strata Inv-statements μ-statements) → Halfway (c .before .before .before .before .before .before .before .before .before .args .text .now) (c .before .before .before .before .statements .t) (c .before .before .before .before .statements .slotspans) (c .before .before .before .before .statements .valuespans) (c .before .before .before .before .statements .rest .now) (c .before .before .before .before .statements .base)
+halfway c = c .before .before .before .before .statements .inv
+
+answer : (c : tie.After-statement-next Inv-rows μ-rows Inv-strata μ-strata Inv-statements μ-statements) {x : Kind} → c .statement-next .result .kind ≡ x
+    → read-tokens (tokens (c .before .before .before .before .before .before .before .before .before .args .text .now)) ≡ kind-answer (c .before .before .before .before .before .before .before .before .before .args .text .now) (c .before .before .before .before .statements .rest .now) (c .before .before .before .before .statements .base) (halfway c .slots) (halfway c .rules) x (c .statement-next .result .line) (c .statement-next .result .rule)
+answer c e =
+    let H = halfway c in
+    sym (H .same) ∙ c .statement-next .ensures .0 (H .slots) (H .rules) (H .indexed) (halfway-width H) (halfway-count H)
+    ∙ ap (λ x. kind-answer (c .before .before .before .before .before .before .before .before .before .args .text .now) (c .before .before .before .before .statements .rest .now) (c .before .before .before .before .statements .base) (H .slots) (H .rules) x (c .statement-next .result .line) (c .statement-next .result .rule)) e
+
+-- Where the statement lies.
+lies : (c : tie.After-statement-next Inv-rows μ-rows Inv-strata μ-strata Inv-statements μ-statements) {x : Kind} → c .statement-next .result .kind ≡ x
+    → Kind-lies (c .before .before .before .before .before .before .before .before .before .args .text .now) (length (c .before .before .before .before .statements .rest .now)) (c .before .before .before .before .statements .t .width) (c .before .before .before .before .statements .t .count) x (c .statement-next .result .line) (c .statement-next .result .rule)
+lies c e = subst (λ x. Kind-lies (c .before .before .before .before .before .before .before .before .before .args .text .now) (length (c .before .before .before .before .statements .rest .now)) (c .before .before .before .before .statements .t .width) (c .before .before .before .before .statements .t .count) x (c .statement-next .result .line) (c .statement-next .result .rule)) e (c .statement-next .ensures .1)
+
+slot-lies : (c : tie.After-kind Inv-rows μ-rows Inv-strata μ-strata Inv-statements μ-statements) → Kind-lies (c .before .before .before .before .before .before .before .before .before .before .before .args .text .now) (length (c .before .before .before .before .before .before .statements .rest .now)) (c .before .before .before .before .before .before .statements .t .width) (c .before .before .before .before .before .before .statements .t .count) (kind.Slot (c .kind .given .0 .0)) (c .before .before .statement-next .result .line) (c .before .before .statement-next .result .rule)
+slot-lies c = lies (c .before .before) (c .kind .given .1)
+
+rule-lies : (c : tie.After-kind2 Inv-rows μ-rows Inv-strata μ-strata Inv-statements μ-statements) → Kind-lies (c .before .before .before .before .before .before .before .before .before .before .before .args .text .now) (length (c .before .before .before .before .before .before .statements .rest .now)) (c .before .before .before .before .before .before .statements .t .width) (c .before .before .before .before .before .before .statements .t .count) (kind.Rule (c .kind2 .given .0 .0)) (c .before .before .statement-next .result .line) (c .before .before .statement-next .result .rule)
+rule-lies c = lies (c .before .before) (c .kind2 .given .1)
+
+-- At the end of the text: the file that it is.
+abbrev file-of : tie.After-enum-told Inv-rows μ-rows Inv-strata μ-strata Inv-statements μ-statements → File
+file-of e = record { slots = halfway (e .before .before) .slots; rules = halfway (e .before .before) .rules }
+
+ended : (e : tie.After-enum-told Inv-rows μ-rows Inv-strata μ-strata Inv-statements μ-statements) → parse (e .before .before .before .before .before .before .before .before .before .before .before .args .text .now) ≡ accepted (file-of e)
+ended e = read-short (e .before .before .before .before .before .before .before .before .before .before .before .args .text .now) (omega (arith, e .before .before .before .before .before .before .before .before .before .if1 .left)) ∙ answer (e .before .before) (e .enum-told .given .1)
+
+-- Its table fits, has its places and has the file's rules.
+fits : (e : tie.After-enum-told Inv-rows μ-rows Inv-strata μ-strata Inv-statements μ-statements) → TableFits (e .before .before .before .before .before .before .statements .t)
+fits e = rw (halfway (e .before .before) .tabled) (file-table-fits (e .before .before .before .before .before .before .before .before .before .before .before .args .text .now) (file-of e) (ended e))
+
+shape : (e : tie.After-enum-told Inv-rows μ-rows Inv-strata μ-strata Inv-statements μ-statements) → Shaped (e .before .before .before .before .before .before .statements .t)
+shape e = rw (halfway (e .before .before) .tabled) (file-table-shaped (e .before .before .before .before .before .before .before .before .before .before .before .args .text .now) (file-of e) (ended e))
+
+rules-are : (e : tie.After-enum-told Inv-rows μ-rows Inv-strata μ-strata Inv-statements μ-statements) → rules-of (e .before .before .before .before .before .before .statements .t) ≡ file-of e .rules
+rules-are e = ap rules-of (halfway (e .before .before) .tabled) ∙ file-rules (file-of e)
+
+-- Its rules are entered.
+entered : (c : tie.After-numbers Inv-rows μ-rows Inv-strata μ-strata Inv-statements μ-statements) → Entered (c .before .before .before .before .before .before .before .before .before .before .statements .t .rules) (c .before .before .before .rows .rows) (c .before .before .before .before .before .before .before .before .before .before .statements .t .count)
+entered c =
+    let a = c .before .before .before in
+    let e : a .rows .i ≡ c .before .before .before .before .before .before .before .before .before .before .statements .t .count = omega (arith, a .rows .inv .1, c .before .before .rows-test .left) in
+    rw e at (a .rows .inv .2)
+
+-- What is found of them is what the table's rules have.
+circle-is : (c : tie.After-find Inv-rows μ-rows Inv-strata μ-strata Inv-statements μ-statements) → c .find .result ≡ circle-of weak (rules-of (c .before .before .before .before .before .before .before .before .before .before .before .statements .t))
+circle-is c =
+    let n = c .before in
+    let e = n .before .before .before .before in
+    c .find .ensures .0 ∙ ap (circle-of weak) (entered-rules (e .before .before .before .before .before .before .statements .t) (n .before .before .before .rows .rows) (shape e) (fits e .rules-fit) (entered n))
+
+numbers-are : (c : tie.After-find Inv-rows μ-rows Inv-strata μ-strata Inv-statements μ-statements) → c .find .result ≡ 0 → c .find .last .1 .1 .0 ≡ least-numbers (c .before .before .before .before .before .before .before .before .before .before .before .statements .t)
+numbers-are c z =
+    let n = c .before in
+    let e = n .before .before .before .before in
+    let rows = n .before .before .before .rows .rows in
+    let t = e .before .before .before .before .before .before .statements .t in
+    c .find .ensures .1 z ∙ same-numbers (table-in rows (t .count)) t (rows-count rows (t .count)) (entered-rules t rows (shape e) (fits e .rules-fit) (entered n))
+
+refused-requires :
+    tie.Need-refused-requires Inv-rows μ-rows Inv-strata μ-strata Inv-statements μ-statements
+refused-requires c κs = search needs
+
+returns : tie.Need-returns Inv-rows μ-rows Inv-strata μ-strata Inv-statements μ-statements
+returns c = let t = c .before .before .before .args .text .now in c .refused .ensures ∙ whole-refused t 10 0 (read-long t (c .before .if1 .taken))
+
+table-requires : tie.Need-table-requires Inv-rows μ-rows Inv-strata μ-strata Inv-statements μ-statements
+table-requires c κs = search needs
+
+empty-table-requires :
+    tie.Need-empty-table-requires Inv-rows μ-rows Inv-strata μ-strata Inv-statements μ-statements
+empty-table-requires c κs = search needs
+
+statements-holds :
+    tie.Need-statements-holds Inv-rows μ-rows Inv-strata μ-strata Inv-statements μ-statements
+statements-holds c = rw (c .empty-table .ensures) (halfway-start (c .before .before .before .before .args .text .now) (omega (arith, c .before .before .if1 .left)))
+
+cast-width : tie.Need-cast-width Inv-rows μ-rows Inv-strata μ-strata Inv-statements μ-statements
+cast-width c = let H = c .statements .inv in record { fits = omega (arith, halfway-width H, H .indexed .few) }
+
+cast-count : tie.Need-cast-count Inv-rows μ-rows Inv-strata μ-strata Inv-statements μ-statements
+cast-count c = let H = c .statements .inv in record { fits = omega (arith, halfway-count H, H .few) }
+
+slice-aggregate-statement-next :
+    tie.Need-slice-aggregate-statement-next
+    Inv-rows
+    μ-rows
+    Inv-strata
+    μ-strata
+    Inv-statements
+    μ-statements
+slice-aggregate-statement-next c = search needs
+
+statement-next-requires :
+    tie.Need-statement-next-requires
+    Inv-rows
+    μ-rows
+    Inv-strata
+    μ-strata
+    Inv-statements
+    μ-statements
+statement-next-requires c κs = let l = c .before .before .before in let H = l .statements .inv in (l .before .before .table .ensures, H .remainder, H .indexed .body-places)
+
+enum-told : tie.Need-enum-told Inv-rows μ-rows Inv-strata μ-strata Inv-statements μ-statements
 enum-told c = search needs
 
-layer-requires : tie.Need-layer-requires
-layer-requires c κs =
-    let k = c .before .before .before in
-    file-fits (k .before .before .args .text .now) (k .read-text .result) (k .read-text .ensures) (c .enum-told .given .1)
+rows-holds : tie.Need-rows-holds Inv-rows μ-rows Inv-strata μ-strata Inv-statements μ-statements
+rows-holds c = (fits c .rules-fit, search needs, entered-start _ _ zero-shaped)
 
-enum-told-2 : tie.Need-enum-told-2
-enum-told-2 c = search needs
+mul-r : tie.Need-mul-r Inv-rows μ-rows Inv-strata μ-strata Inv-statements μ-statements
+mul-r c = record { fits = omega (arith, c .rows-test .taken, c .before .rows .inv .0) }
 
-returns : tie.Need-returns
-returns c =
-    let l = c .before .before .before in
-    let k = l .before .before .before .before in
-    whole-layered (k .before .before .args .text .now) (k .read-text .result) (l .layer .result) Layered (k .read-text .ensures) (l .before .enum-told .given .1) (l .layer .ensures) (c .enum-told2 .given .1)
+element-copy-out-r :
+    tie.Need-element-copy-out-r Inv-rows μ-rows Inv-strata μ-strata Inv-statements μ-statements
+element-copy-out-r c = omega (arith, c .rows-test .taken, c .before .rows .inv .0)
 
-enum-known-found : tie.Need-enum-known-found
-enum-known-found c = search needs
+mul-enter-rule :
+    tie.Need-mul-enter-rule Inv-rows μ-rows Inv-strata μ-strata Inv-statements μ-statements
+mul-enter-rule c = record { fits = omega (arith, c .before .rows-test .taken, c .before .before .rows .inv .0) }
 
-wide-requires : tie.Need-wide-requires
-wide-requires c κs = search needs
+index-1-enter-rule :
+    tie.Need-index-1-enter-rule Inv-rows μ-rows Inv-strata μ-strata Inv-statements μ-statements
+index-1-enter-rule c = omega (arith, c .before .rows-test .taken, c .before .before .rows .inv .0)
 
-returns-2 : tie.Need-returns-2
-returns-2 c =
-    let a = c .before .before in
-    let l = a .before .before .before in
-    let k = l .before .before .before .before in
-    rw (c .wide .ensures)
-    (whole-layered (k .before .before .args .text .now) (k .read-text .result) (l .layer .result) (Circle _) (k .read-text .ensures) (l .before .enum-told .given .1) (l .layer .ensures) (a .found .given .1))
+enter-rule-requires :
+    tie.Need-enter-rule-requires Inv-rows μ-rows Inv-strata μ-strata Inv-statements μ-statements
+enter-rule-requires c κs = let a = c .before .before .before in (fits (a .before) .each-fits (a .rows .i) (c .before .before .rows-test .taken), a .rows .inv .2 .shaped .each-row (a .rows .i) (omega (arith, c .before .before .rows-test .taken, a .rows .inv .0)))
 
-enum-known-outcome : tie.Need-enum-known-outcome
-enum-known-outcome c = search needs
+add-i : tie.Need-add-i Inv-rows μ-rows Inv-strata μ-strata Inv-statements μ-statements
+add-i c = record { fits = omega (arith, c .before .before .before .rows-test .taken, c .before .before .before .before .rows .inv .0) }
 
-returns-3 : tie.Need-returns-3
-returns-3 c =
-    let a = c .before in
-    let k = a .before .before .before in
-    whole-refused (k .before .before .args .text .now) (k .read-text .result) _ _ (k .read-text .ensures) (a .outcome .given .1)
+rows-less : tie.Need-rows-less Inv-rows μ-rows Inv-strata μ-strata Inv-statements μ-statements
+rows-less c = omega (arith, c .before .before .before .rows-test .taken)
+
+rows-again : tie.Need-rows-again Inv-rows μ-rows Inv-strata μ-strata Inv-statements μ-statements
+rows-again c = let a = c .before .before .before .before in (a .rows .inv .0, omega (arith, c .before .before .before .rows-test .taken), entered-next _ (a .rows .rows) (a .rows .i) _ (omega (arith, c .before .before .before .rows-test .taken, a .rows .inv .0)) (c .enter-rule .ensures) (a .rows .inv .2))
+
+find-requires :
+    tie.Need-find-requires Inv-rows μ-rows Inv-strata μ-strata Inv-statements μ-statements
+find-requires c κs = (entered-fits _ _ _ (c .before .before .before .rows .inv .0) (entered c), refl)
+
+refused-requires-2 :
+    tie.Need-refused-requires-2 Inv-rows μ-rows Inv-strata μ-strata Inv-statements μ-statements
+refused-requires-2 c κs = search needs
+
+returns-2 : tie.Need-returns-2 Inv-rows μ-rows Inv-strata μ-strata Inv-statements μ-statements
+returns-2 c = let d = c .before .before in let e = d .before .before .before .before .before in c .refused2 .ensures ∙ whole-circle (e .before .before .before .before .before .before .before .before .before .before .before .args .text .now) (file-of e) (d .find .result) (ended e) (circle-is d ∙ ap (circle-of weak) (rules-are e)) (c .before .if2 .taken)
+
+strata-holds :
+    tie.Need-strata-holds Inv-rows μ-rows Inv-strata μ-strata Inv-statements μ-statements
+strata-holds c = (c .before .before .before .before .before .rows .inv .0, search needs, numbering-start _ _)
+
+mul-s : tie.Need-mul-s Inv-rows μ-rows Inv-strata μ-strata Inv-statements μ-statements
+mul-s c = record { fits = omega (arith, c .strata-test .taken, c .before .strata .inv .0) }
+
+array-read-s :
+    tie.Need-array-read-s Inv-rows μ-rows Inv-strata μ-strata Inv-statements μ-statements
+array-read-s c = omega (arith, c .strata-test .taken, c .before .strata .inv .0)
+
+cast-t : tie.Need-cast-t Inv-rows μ-rows Inv-strata μ-strata Inv-statements μ-statements
+cast-t c = let d = c .before .before .before in
+    let e = d .before .before .before .before .before in
+    let t = e .before .before .before .before .before .before .statements .t in
+    let z : d .find .result ≡ 0 = omega (arith, c .before .before .if2 .left) in
+    record { fits = omega (arith, rw (← (numbers-are d z)) at (number-small t (fits e) (shape e) (sym (circle-is d) ∙ z) (c .before .strata .j) (c .strata-test .taken))) }
+
+mul-t : tie.Need-mul-t Inv-rows μ-rows Inv-strata μ-strata Inv-statements μ-statements
+mul-t c = record { fits = omega (arith, c .strata-test .taken, c .before .strata .inv .0) }
+
+way-write-given-t :
+    tie.Need-way-write-given-t Inv-rows μ-rows Inv-strata μ-strata Inv-statements μ-statements
+way-write-given-t c = (omega (arith, c .strata-test .taken, c .before .strata .inv .0), tt)
+
+add-j : tie.Need-add-j Inv-rows μ-rows Inv-strata μ-strata Inv-statements μ-statements
+add-j c = record { fits = omega (arith, c .before .strata-test .taken, c .before .before .strata .inv .0) }
+
+strata-less : tie.Need-strata-less Inv-rows μ-rows Inv-strata μ-strata Inv-statements μ-statements
+strata-less c = omega (arith, c .before .strata-test .taken)
+
+strata-again :
+    tie.Need-strata-again Inv-rows μ-rows Inv-strata μ-strata Inv-statements μ-statements
+strata-again c = let a = c .before .before in
+    let e = a .before .before .before .before .before .before .before in
+    (a .strata .inv .0, omega (arith, c .before .strata-test .taken), numbering-step _ (e .before .before .before .before .before .before .statements .t) (a .strata .j) (a .strata .t) (omega (arith, shape e .rule-places, c .before .strata-test .taken, a .strata .inv .0)) (a .strata .inv .2))
+
+returns-3 : tie.Need-returns-3 Inv-rows μ-rows Inv-strata μ-strata Inv-statements μ-statements
+returns-3 c = let a = c .before in
+    let d = a .before .before in
+    let e = d .before .before .before .before .before in
+    let t = e .before .before .before .before .before .before .statements .t in
+    let z : d .find .result ≡ 0 = omega (arith, a .before .if2 .left) in
+    let w : a .strata .j ≡ t .count = omega (arith, a .strata .inv .1, c .strata-test .left) in
+    let u = numbering-end t (fits e) (shape e) _ (a .strata .t) (numbers-are d z) (rw w at (a .strata .inv .2)) in
+    whole-layered (e .before .before .before .before .before .before .before .before .before .before .before .args .text .now) (file-of e) (a .strata .t) (ended e) (ap (circle-of weak) (sym (rules-are e)) ∙ sym (circle-is d) ∙ z) (u ∙ ap with-strata (halfway (e .before .before) .tabled))
+
+enum-known-kind :
+    tie.Need-enum-known-kind Inv-rows μ-rows Inv-strata μ-strata Inv-statements μ-statements
+enum-known-kind c = search needs
+
+enter-requires :
+    tie.Need-enter-requires Inv-rows μ-rows Inv-strata μ-strata Inv-statements μ-statements
+enter-requires c κs = slot-lies (c .before .before .before .before .before) .2
+
+slot-of-requires :
+    tie.Need-slot-of-requires Inv-rows μ-rows Inv-strata μ-strata Inv-statements μ-statements
+slot-of-requires c κs = slot-lies (c .before .before .before .before .before .before) .6 .few
+
+mul-t62 : tie.Need-mul-t62 Inv-rows μ-rows Inv-strata μ-strata Inv-statements μ-statements
+mul-t62 c = let l = slot-lies (c .before .before .before .before .before .before .before) .2 in record { fits = omega arith }
+
+element-set-from-t :
+    tie.Need-element-set-from-t Inv-rows μ-rows Inv-strata μ-strata Inv-statements μ-statements
+element-set-from-t c = slot-lies (c .before .before .before .before .before .before .before) .2
+
+add-t : tie.Need-add-t Inv-rows μ-rows Inv-strata μ-strata Inv-statements μ-statements
+add-t c = let l = slot-lies (c .before .before .before .before .before .before .before) .2 in record { fits = omega arith }
+
+sub-rest : tie.Need-sub-rest Inv-rows μ-rows Inv-strata μ-strata Inv-statements μ-statements
+sub-rest c = slot-lies (c .before .before .before .before .before .before .before) .1
+
+part-rest-start :
+    tie.Need-part-rest-start Inv-rows μ-rows Inv-strata μ-strata Inv-statements μ-statements
+part-rest-start c = slot-lies (c .before .before .before .before .before .before .before) .1
+
+part-rest-end :
+    tie.Need-part-rest-end Inv-rows μ-rows Inv-strata μ-strata Inv-statements μ-statements
+part-rest-end c = search needs
+
+add-base : tie.Need-add-base Inv-rows μ-rows Inv-strata μ-strata Inv-statements μ-statements
+add-base c = let a = c .before .before .before .before .before .before .before .before in let k = a .before .before in let l = slot-lies a in record { fits = omega (arith, remainder-place _ _ _ 0 _ (halfway k .remainder) (l .0) (l .1)) }
+
+statements-less :
+    tie.Need-statements-less Inv-rows μ-rows Inv-strata μ-strata Inv-statements μ-statements
+statements-less c = let l = slot-lies (c .before .before .before .before .before .before .before .before) in simp (length-take, length-drop) (omega (arith, l .0, l .1))
+
+statements-again :
+    tie.Need-statements-again Inv-rows μ-rows Inv-strata μ-strata Inv-statements μ-statements
+statements-again c =
+    let a = c .before .before .before .before .before .before .before .before in
+    let k = a .before .before in
+    let H = halfway k in
+    let l = slot-lies a in
+    let e = c .before .before .enter .ensures in
+    rw (e .0, e .1, c .before .slot-of .ensures) (halfway-slot _ _ _ _ _ _ _ _ _ _ H (l .2) (l .4) (l .5) (l .6) (H .same ∙ answer k (a .kind .given .1)))
+
+enum-known-kind-2 :
+    tie.Need-enum-known-kind-2 Inv-rows μ-rows Inv-strata μ-strata Inv-statements μ-statements
+enum-known-kind-2 c = search needs
+
+mul-rule : tie.Need-mul-rule Inv-rows μ-rows Inv-strata μ-strata Inv-statements μ-statements
+mul-rule c = let l = rule-lies (c .before .before) .2 in record { fits = omega arith }
+
+element-set-from-rule :
+    tie.Need-element-set-from-rule Inv-rows μ-rows Inv-strata μ-strata Inv-statements μ-statements
+element-set-from-rule c = rule-lies (c .before .before) .2
+
+add-t-2 : tie.Need-add-t-2 Inv-rows μ-rows Inv-strata μ-strata Inv-statements μ-statements
+add-t-2 c = let l = rule-lies (c .before .before) .2 in record { fits = omega arith }
+
+sub-rest-2 : tie.Need-sub-rest-2 Inv-rows μ-rows Inv-strata μ-strata Inv-statements μ-statements
+sub-rest-2 c = rule-lies (c .before .before) .1
+
+part-rest-start-2 :
+    tie.Need-part-rest-start-2 Inv-rows μ-rows Inv-strata μ-strata Inv-statements μ-statements
+part-rest-start-2 c = rule-lies (c .before .before) .1
+
+part-rest-end-2 :
+    tie.Need-part-rest-end-2 Inv-rows μ-rows Inv-strata μ-strata Inv-statements μ-statements
+part-rest-end-2 c = search needs
+
+add-base-2 : tie.Need-add-base-2 Inv-rows μ-rows Inv-strata μ-strata Inv-statements μ-statements
+add-base-2 c = let a = c .before .before .before in let k = a .before .before in let l = rule-lies a in record { fits = omega (arith, remainder-place _ _ _ 0 _ (halfway k .remainder) (l .0) (l .1)) }
+
+statements-less-2 :
+    tie.Need-statements-less-2 Inv-rows μ-rows Inv-strata μ-strata Inv-statements μ-statements
+statements-less-2 c = let l = rule-lies (c .before .before .before) in simp (length-take, length-drop) (omega (arith, l .0, l .1))
+
+statements-again-2 :
+    tie.Need-statements-again-2 Inv-rows μ-rows Inv-strata μ-strata Inv-statements μ-statements
+statements-again-2 c =
+    let a = c .before .before .before in
+    let k = a .before .before in
+    let H = halfway k in
+    let l = rule-lies a in
+    halfway-rule _ _ _ _ _ _ _ _ H (l .2) (l .3) (H .same ∙ answer k (a .kind2 .given .1))
+
+enum-known-kind-3 :
+    tie.Need-enum-known-kind-3 Inv-rows μ-rows Inv-strata μ-strata Inv-statements μ-statements
+enum-known-kind-3 c = search needs
+
+refused-requires-3 :
+    tie.Need-refused-requires-3 Inv-rows μ-rows Inv-strata μ-strata Inv-statements μ-statements
+refused-requires-3 c κs = search needs
+
+returns-4 : tie.Need-returns-4 Inv-rows μ-rows Inv-strata μ-strata Inv-statements μ-statements
+returns-4 c = let a = c .before .before in
+    let k = a .before .before in
+    let H = halfway k in
+    let t = k .before .before .before .before .before .before .before .before .before .args .text .now in
+    c .refused3 .ensures ∙ whole-refused t _ _ (read-short t (omega (arith, k .before .before .before .before .before .before .before .if1 .left)) ∙ answer k (a .kind3 .given .1) ∙ ap (λ (n : ℕ). refused (a .kind3 .given .0 .0) n) (sym (halfway-count H)))
 
 pub read-spec : {M : Type 1} → statement M
 read-spec =
     tie.close
     (tie.spec
-    read-text-requires
-    enum-told
-    layer-requires
-    enum-told-2
+    Inv-rows
+    μ-rows
+    Inv-strata
+    μ-strata
+    Inv-statements
+    μ-statements
+    refused-requires
     returns
-    enum-known-found
-    wide-requires
+    table-requires
+    empty-table-requires
+    statements-holds
+    cast-width
+    cast-count
+    slice-aggregate-statement-next
+    statement-next-requires
+    enum-told
+    rows-holds
+    mul-r
+    element-copy-out-r
+    mul-enter-rule
+    index-1-enter-rule
+    enter-rule-requires
+    add-i
+    rows-less
+    rows-again
+    find-requires
+    refused-requires-2
     returns-2
-    enum-known-outcome
-    returns-3)
+    strata-holds
+    mul-s
+    array-read-s
+    cast-t
+    mul-t
+    way-write-given-t
+    add-j
+    strata-less
+    strata-again
+    returns-3
+    enum-known-kind
+    enter-requires
+    slot-of-requires
+    mul-t62
+    element-set-from-t
+    add-t
+    sub-rest
+    part-rest-start
+    part-rest-end
+    add-base
+    statements-less
+    statements-again
+    enum-known-kind-2
+    mul-rule
+    element-set-from-rule
+    add-t-2
+    sub-rest-2
+    part-rest-start-2
+    part-rest-end-2
+    add-base-2
+    statements-less-2
+    statements-again-2
+    enum-known-kind-3
+    refused-requires-3
+    returns-4)

@@ -1,27 +1,40 @@
 -- Where names were declared, each stretch of the text as one number.
-use Prim.Native.Nat.{ℕ, _+_, _*_, _/_, _%_, _≤_, _<_}
+use Prim.Native.Nat.{ℕ, _+_, _-_, _*_, _/_, _%_, _≤_, _<_}
 use mathlib.Core.Path.{_≡_}
 use mathlib.Core.List.{List, [], _∷_}
-use lib.ListN.{length, take, drop}
-use Rattle.laws.specs.Limits.{slot-limit}
+use lib.ListN.{length, take, drop, getD}
+use Rattle.laws.specs.Limits.{text-limit, slot-limit}
 use Rattle.text.specs.Tokens.{Name, Token}
 use Rattle.grammar.specs.Files.{place-in}
 use Rattle.grammar.specs.Reading.{Part, took, stop, _then_, a-name, known-value}
 use Rattle.steps.specs.inner.Places.{tokens-past}
-use Rattle.steps.specs.declared.names.Number.{Number}
-use Rattle.steps.specs.declared.names.Number.the-variants as number
+use Rattle.steps.specs.declared.lookup.Number.{Number}
+use Rattle.steps.specs.declared.lookup.Number.the-variants as number
 
--- A span: the place of a name times 32, and its length, which is at most 24.
-abbrev pub span : ℕ → ℕ → ℕ
-span start size = start * 32 + size
+-- The key of a name: its first, its middle and its last byte, and its length.
+unfoldable pub key-of : List ℕ → ℕ
+key-of n = ((getD n 0 0 * 256 + getD n (length n / 2) 0) * 256 + getD n (length n - 1) 0) * 32 + length n
+
+-- What a key is multiplied by in a span: more than every place times 32.
+abbrev pub keyed : ℕ
+keyed = (text-limit + 1) * 32
+
+-- A span: the key of a name, its place times 32, and its length, which is at most 24.
+abbrev pub span : ℕ → ℕ → ℕ → ℕ
+span key start size = key * keyed + start * 32 + size
+
+-- The place of the name at a span.
+abbrev pub span-start : ℕ → ℕ
+span-start k = k % keyed / 32
 
 -- The bytes at a span.
 abbrev pub span-letters : List ℕ → ℕ → List ℕ
-span-letters text k = take (k % 32) (drop (k / 32) text)
+span-letters text k = take (k % 32) (drop (span-start k) text)
 
--- A span lies in the text.
-abbrev pub Span-lies : List ℕ → ℕ → Type 0
-Span-lies text k = k / 32 + k % 32 ≤ length text
+-- A span lies in the text and has the key of the name there.
+pub record Span-lies (text : List ℕ) (k : ℕ) : Type 0 where
+  pub within : span-start k + k % 32 ≤ length text
+  pub key : k / keyed ≡ key-of (span-letters text k)
 
 -- The spans are those of these names, in their order, and then 0 or the end.
 abbrev pub Listed : List ℕ → List ℕ → List (List ℕ) → Type 0

@@ -1,20 +1,18 @@
 -- Numbers at pairs, in an array indexed by pair.
--- A reader need not believe what stands here: `layering` says what is found.
+-- A reader need not believe what stands here: `least-numbers` of a table and `circle-of` say what is found.
 use mathlib.Core.Bool.{cond}
 use mathlib.Core.List.{List, [], _∷_}
 use Prim.Native.Nat.{ℕ, suc, _+_, _<_, max}
-use lib.Dec.{eqb, ltb}
-use lib.ListN.{getD, set, replicate}
+use lib.Dec.{ltb}
+use lib.ListN.{getD, set}
 use Rattle.laws.specs.Tabulated.{tabulate}
 use Rattle.model.specs.Rules.{Pair, Rule}
 use Rattle.model.specs.Strata.{weak, needed, barred}
-use Rattle.model.specs.Circles.{circle-of}
 use Rattle.model.specs.Least.{strata-of}
 use Rattle.table.specs.declared.Table.{Table}
 use Rattle.laws.specs.Limits.{rule-limit}
 use Rattle.table.specs.Link.{rules-of}
 use Rattle.table.specs.inner.Flat.{place-of}
-use Rattle.strata.specs.declared.least.Found.{Found}
 
 -- The highest number at the places of some pairs.
 unfoldable pub highest-at : List ℕ → List Pair → ℕ
@@ -27,7 +25,7 @@ asked-at hs r = max (highest-at hs (needed r)) (highest-at hs (barred r) + 1)
 
 -- All numbers are small enough to be raised by one.
 pub record Small (hs : List ℕ) : Type 0 where
-  pub below : (k : ℕ) → getD hs k 0 < 65536
+  pub below : (k : ℕ) → getD hs k 0 < 65535
 
 -- The places of some pairs raised to s.
 unfoldable pub raise-all : List Pair → ℕ → List ℕ → List ℕ
@@ -37,11 +35,3 @@ raise-all (p ∷ ps) s hs = raise-all ps s (set hs (place-of p) (max (getD hs (p
 -- The least strata of a table's rules, with 0 beyond the rules used.
 unfoldable pub least-numbers : Table → List ℕ
 least-numbers t = tabulate (λ i. cond (ltb i (t .count)) (strata-of weak (rules-of t) (suc i)) 0) rule-limit
-
--- What is found where k is the lowest rule on a circle through a NOT: no numbers.
-abbrev pub circled : ℕ → Found
-circled k = record { circle = k; numbers = replicate rule-limit 0 }
-
--- What is found: the least strata, or the lowest rule on a circle.
-unfoldable pub found : Table → Found
-found t = cond (eqb (circle-of weak (rules-of t)) 0) (record { circle = 0; numbers = least-numbers t }) (circled (circle-of weak (rules-of t)))

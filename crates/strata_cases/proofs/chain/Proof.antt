@@ -6,19 +6,25 @@ use Rattle.strata_cases.proofs.chain.Statement.{statement}
 use Rattle.strata_cases.proofs.chain.Tie as tie
 
 abbrev Inv-slots : tie.InvT-slots
-Inv-slots n backward under t₀ k₀ t k = k ≤ 32
+Inv-slots length backward under t₀ n k₀ t k = k ≤ 32
 
 abbrev μ-slots : tie.MeasureT-slots
-μ-slots n backward under t₀ k₀ t k = 32 - k
+μ-slots length backward under t₀ n k₀ t k = 32 - k
 
 abbrev Inv-rules : tie.InvT-rules
-Inv-rules n backward under t₀ k i₀ t i = i ≤ 255
+Inv-rules length backward under t₀ n k i₀ t i = i ≤ 255
 
 abbrev μ-rules : tie.MeasureT-rules
-μ-rules n backward under t₀ k i₀ t i = 255 - i
+μ-rules length backward under t₀ n k i₀ t i = 255 - i
 
 empty-table-requires : tie.Need-empty-table-requires Inv-slots μ-slots Inv-rules μ-rules
 empty-table-requires c κs = search needs
+
+cast-t : tie.Need-cast-t Inv-slots μ-slots Inv-rules μ-rules
+cast-t c = search needs
+
+wide-requires : tie.Need-wide-requires Inv-slots μ-slots Inv-rules μ-rules
+wide-requires c κs = search needs
 
 slots-holds : tie.Need-slots-holds Inv-slots μ-slots Inv-rules μ-rules
 slots-holds c = search needs
@@ -92,6 +98,8 @@ chain-spec =
     Inv-rules
     μ-rules
     empty-table-requires
+    cast-t
+    wide-requires
     slots-holds
     mul-slot
     element-copy-out-slot

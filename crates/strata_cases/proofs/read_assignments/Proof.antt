@@ -11,6 +11,9 @@ Inv-loop s start fill size at₀ r₀ assigned j₀ at r j = j ≤ 4
 abbrev μ-loop : tie.MeasureT-loop
 μ-loop s start fill size at₀ r₀ assigned j₀ at r j = 4 - j
 
+cast-assigned : tie.Need-cast-assigned Inv-loop μ-loop
+cast-assigned c = search needs
+
 loop-holds : tie.Need-loop-holds Inv-loop μ-loop
 loop-holds c = search needs
 
@@ -26,14 +29,14 @@ byte-requires-2 c κs = search needs
 next-requires-2 : tie.Need-next-requires-2 Inv-loop μ-loop
 next-requires-2 c κs = search needs
 
-mul-t14 : tie.Need-mul-t14 Inv-loop μ-loop
-mul-t14 c = search needs
+mul-t15 : tie.Need-mul-t15 Inv-loop μ-loop
+mul-t15 c = search needs
 
 element-set-from-r : tie.Need-element-set-from-r Inv-loop μ-loop
 element-set-from-r c = search needs
 
-mul-t18 : tie.Need-mul-t18 Inv-loop μ-loop
-mul-t18 c = search needs
+mul-t19 : tie.Need-mul-t19 Inv-loop μ-loop
+mul-t19 c = search needs
 
 element-set-from-r-2 : tie.Need-element-set-from-r-2 Inv-loop μ-loop
 element-set-from-r-2 c = search needs
@@ -56,14 +59,15 @@ read-assignments-spec =
     (tie.spec
     Inv-loop
     μ-loop
+    cast-assigned
     loop-holds
     byte-requires
     next-requires
     byte-requires-2
     next-requires-2
-    mul-t14
+    mul-t15
     element-set-from-r
-    mul-t18
+    mul-t19
     element-set-from-r-2
     add-j
     loop-less

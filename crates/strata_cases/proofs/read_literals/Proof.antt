@@ -11,6 +11,9 @@ Inv-loop s start fill size at₀ r₀ tested j₀ at r j = j ≤ 8
 abbrev μ-loop : tie.MeasureT-loop
 μ-loop s start fill size at₀ r₀ tested j₀ at r j = 8 - j
 
+cast-tested : tie.Need-cast-tested Inv-loop μ-loop
+cast-tested c = search needs
+
 loop-holds : tie.Need-loop-holds Inv-loop μ-loop
 loop-holds c = search needs
 
@@ -32,14 +35,14 @@ byte-requires-3 c κs = search needs
 next-requires-3 : tie.Need-next-requires-3 Inv-loop μ-loop
 next-requires-3 c κs = search needs
 
-mul-t18 : tie.Need-mul-t18 Inv-loop μ-loop
-mul-t18 c = search needs
+mul-t19 : tie.Need-mul-t19 Inv-loop μ-loop
+mul-t19 c = search needs
 
 element-set-from-r : tie.Need-element-set-from-r Inv-loop μ-loop
 element-set-from-r c = search needs
 
-mul-t22 : tie.Need-mul-t22 Inv-loop μ-loop
-mul-t22 c = search needs
+mul-t23 : tie.Need-mul-t23 Inv-loop μ-loop
+mul-t23 c = search needs
 
 element-set-from-r-2 : tie.Need-element-set-from-r-2 Inv-loop μ-loop
 element-set-from-r-2 c = search needs
@@ -62,6 +65,7 @@ read-literals-spec =
     (tie.spec
     Inv-loop
     μ-loop
+    cast-tested
     loop-holds
     byte-requires
     next-requires
@@ -69,9 +73,9 @@ read-literals-spec =
     next-requires-2
     byte-requires-3
     next-requires-3
-    mul-t18
+    mul-t19
     element-set-from-r
-    mul-t22
+    mul-t23
     element-set-from-r-2
     add-j
     loop-less

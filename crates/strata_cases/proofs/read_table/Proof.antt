@@ -26,8 +26,8 @@ next-requires c κs = search needs
 byte-requires-2 : tie.Need-byte-requires-2 Inv-slots μ-slots Inv-rules μ-rules
 byte-requires-2 c κs = search needs
 
-wide-requires : tie.Need-wide-requires Inv-slots μ-slots Inv-rules μ-rules
-wide-requires c κs = search needs
+cast-width : tie.Need-cast-width Inv-slots μ-slots Inv-rules μ-rules
+cast-width c = search needs
 
 next-requires-2 : tie.Need-next-requires-2 Inv-slots μ-slots Inv-rules μ-rules
 next-requires-2 c κs = search needs
@@ -44,17 +44,20 @@ mul-slot c = search needs
 element-copy-out-slot : tie.Need-element-copy-out-slot Inv-slots μ-slots Inv-rules μ-rules
 element-copy-out-slot c = search needs
 
+cast-if1 : tie.Need-cast-if1 Inv-slots μ-slots Inv-rules μ-rules
+cast-if1 c = search needs
+
 byte-requires-3 : tie.Need-byte-requires-3 Inv-slots μ-slots Inv-rules μ-rules
 byte-requires-3 c κs = search needs
 
-wide-requires-2 : tie.Need-wide-requires-2 Inv-slots μ-slots Inv-rules μ-rules
-wide-requires-2 c κs = search needs
+cast-slot : tie.Need-cast-slot Inv-slots μ-slots Inv-rules μ-rules
+cast-slot c = search needs
 
 next-requires-3 : tie.Need-next-requires-3 Inv-slots μ-slots Inv-rules μ-rules
 next-requires-3 c κs = search needs
 
-wide-requires-3 : tie.Need-wide-requires-3 Inv-slots μ-slots Inv-rules μ-rules
-wide-requires-3 c κs = search needs
+cast-slot-2 : tie.Need-cast-slot-2 Inv-slots μ-slots Inv-rules μ-rules
+cast-slot-2 c = search needs
 
 mul-slot-2 : tie.Need-mul-slot-2 Inv-slots μ-slots Inv-rules μ-rules
 mul-slot-2 c = search needs
@@ -74,8 +77,8 @@ slots-again c = search needs
 byte-requires-4 : tie.Need-byte-requires-4 Inv-slots μ-slots Inv-rules μ-rules
 byte-requires-4 c κs = search needs
 
-wide-requires-4 : tie.Need-wide-requires-4 Inv-slots μ-slots Inv-rules μ-rules
-wide-requires-4 c κs = search needs
+cast-high : tie.Need-cast-high Inv-slots μ-slots Inv-rules μ-rules
+cast-high c = search needs
 
 next-requires-4 : tie.Need-next-requires-4 Inv-slots μ-slots Inv-rules μ-rules
 next-requires-4 c κs = search needs
@@ -83,8 +86,8 @@ next-requires-4 c κs = search needs
 byte-requires-5 : tie.Need-byte-requires-5 Inv-slots μ-slots Inv-rules μ-rules
 byte-requires-5 c κs = search needs
 
-wide-requires-5 : tie.Need-wide-requires-5 Inv-slots μ-slots Inv-rules μ-rules
-wide-requires-5 c κs = search needs
+cast-low : tie.Need-cast-low Inv-slots μ-slots Inv-rules μ-rules
+cast-low c = search needs
 
 next-requires-5 : tie.Need-next-requires-5 Inv-slots μ-slots Inv-rules μ-rules
 next-requires-5 c κs = search needs
@@ -97,6 +100,9 @@ add-count c = search needs
 
 rules-holds : tie.Need-rules-holds Inv-slots μ-slots Inv-rules μ-rules
 rules-holds c = search needs
+
+cast-if2 : tie.Need-cast-if2 Inv-slots μ-slots Inv-rules μ-rules
+cast-if2 c = search needs
 
 read-rule-requires : tie.Need-read-rule-requires Inv-slots μ-slots Inv-rules μ-rules
 read-rule-requires c κs = search needs
@@ -130,30 +136,32 @@ read-table-spec =
     byte-requires
     next-requires
     byte-requires-2
-    wide-requires
+    cast-width
     next-requires-2
     empty-table-requires
     slots-holds
     mul-slot
     element-copy-out-slot
+    cast-if1
     byte-requires-3
-    wide-requires-2
+    cast-slot
     next-requires-3
-    wide-requires-3
+    cast-slot-2
     mul-slot-2
     element-set-from-slot
     add-k
     slots-less
     slots-again
     byte-requires-4
-    wide-requires-4
+    cast-high
     next-requires-4
     byte-requires-5
-    wide-requires-5
+    cast-low
     next-requires-5
     mul-count
     add-count
     rules-holds
+    cast-if2
     read-rule-requires
     mul-r
     element-set-from-r

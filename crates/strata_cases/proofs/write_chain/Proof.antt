@@ -1,25 +1,23 @@
 -- `strata_cases::write_chain` is safe and ends.
 -- Assumes nothing.
-use mathlib.Core.Path.{sym, _∙_}
+use mathlib.Core.Path.{refl}
 use borrow.Author.Tests.{not-false}
-use Rattle.laws.proofs.Equations.{from-true}
-use Rattle.table.proofs.Shape.{shaped}
-use Rattle.soundness.proofs.WellFormed.{well-formed-fits}
+use Rattle.rows.proofs.Laws.{zero-shaped}
 use borrow.Author.Needs.{needs}
 use Rattle.strata_cases.proofs.write_chain.Statement.{statement}
 use Rattle.strata_cases.proofs.write_chain.Tie as tie
 
-is-well-formed-requires : tie.Need-is-well-formed-requires
-is-well-formed-requires c κs = search needs
+enter-requires : tie.Need-enter-requires
+enter-requires c κs = (zero-shaped, refl)
 
 returns : tie.Need-returns
 returns c = search needs
 
 layer-requires : tie.Need-layer-requires
-layer-requires c κs =
-    let g = c .before in
-    let s = g .before in
-    well-formed-fits (s .args .t) (shaped (s .args .t) _ (s .good .0)) (from-true _ (sym (g .is-well-formed .ensures) ∙ not-false (g .is-well-formed .result) (c .if1 .left)))
+layer-requires c κs = let g = c .before .before in g .enter .ensures .1 (not-false (g .enter .result) (c .before .if1 .left)) .rows-fit
+
+cast-n : tie.Need-cast-n
+cast-n c = search needs
 
 element-copy-out-first : tie.Need-element-copy-out-first
 element-copy-out-first c = search needs
@@ -64,9 +62,10 @@ pub write-chain-spec : {M : Type 1} → statement M
 write-chain-spec =
     tie.close
     (tie.spec
-    is-well-formed-requires
+    enter-requires
     returns
     layer-requires
+    cast-n
     element-copy-out-first
     wide-requires
     write-number-requires

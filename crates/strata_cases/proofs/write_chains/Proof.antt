@@ -6,16 +6,19 @@ use Rattle.strata_cases.proofs.write_chains.Statement.{statement}
 use Rattle.strata_cases.proofs.write_chains.Tie as tie
 
 abbrev Inv-loop : tie.InvT-loop
-Inv-loop n₀ t2 t3 t4 t5 n = n ≤ 255
+Inv-loop length₀ t2 t3 t4 t5 length = length ≤ 255
 
 abbrev μ-loop : tie.MeasureT-loop
-μ-loop n₀ t2 t3 t4 t5 n = 255 - n
+μ-loop length₀ t2 t3 t4 t5 length = 255 - length
 
 loop-holds : tie.Need-loop-holds Inv-loop μ-loop
 loop-holds c = search needs
 
-add-n : tie.Need-add-n Inv-loop μ-loop
-add-n c = search needs
+wide-requires : tie.Need-wide-requires Inv-loop μ-loop
+wide-requires c κs = search needs
+
+add-length : tie.Need-add-length Inv-loop μ-loop
+add-length c = search needs
 
 slice-aggregate-write-named : tie.Need-slice-aggregate-write-named Inv-loop μ-loop
 slice-aggregate-write-named c = search needs
@@ -57,7 +60,8 @@ write-chains-spec =
     Inv-loop
     μ-loop
     loop-holds
-    add-n
+    wide-requires
+    add-length
     slice-aggregate-write-named
     write-named-requires
     slice-aggregate-write-named-2

@@ -1,28 +1,20 @@
 -- `strata_cases::write_layering` is safe and ends.
 -- Assumes nothing.
-use mathlib.Core.Path.{sym, _∙_}
+use mathlib.Core.Path.{refl}
 use borrow.Author.Tests.{not-false}
-use Rattle.laws.proofs.Equations.{from-true}
-use Rattle.table.proofs.Shape.{shaped}
-use Rattle.soundness.proofs.WellFormed.{well-formed-fits}
+use Rattle.rows.proofs.Laws.{zero-shaped}
 use borrow.Author.Needs.{needs}
 use Rattle.strata_cases.proofs.write_layering.Statement.{statement}
 use Rattle.strata_cases.proofs.write_layering.Tie as tie
 
-is-well-formed-requires : tie.Need-is-well-formed-requires
-is-well-formed-requires c κs = search needs
+enter-requires : tie.Need-enter-requires
+enter-requires c κs = (zero-shaped, refl)
 
 returns : tie.Need-returns
 returns c = search needs
 
 layer-requires : tie.Need-layer-requires
-layer-requires c κs =
-    let g = c .before in
-    let s = g .before in
-    well-formed-fits (s .args .t) (shaped (s .args .t) _ (s .good .0)) (from-true _ (sym (g .is-well-formed .ensures) ∙ not-false (g .is-well-formed .result) (c .if1 .left)))
-
-enum-told : tie.Need-enum-told
-enum-told c = search needs
+layer-requires c κs = let g = c .before .before in g .enter .ensures .1 (not-false (g .enter .result) (c .before .if1 .left)) .rows-fit
 
 slice-aggregate-write-all : tie.Need-slice-aggregate-write-all
 slice-aggregate-write-all c = search needs
@@ -30,11 +22,8 @@ slice-aggregate-write-all c = search needs
 write-all-requires : tie.Need-write-all-requires
 write-all-requires c κs = search needs
 
-write-strata-requires : tie.Need-write-strata-requires
-write-strata-requires c κs = search needs
-
-enum-known-outcome : tie.Need-enum-known-outcome
-enum-known-outcome c = search needs
+write-number-requires : tie.Need-write-number-requires
+write-number-requires c κs = search needs
 
 slice-aggregate-write-all-2 : tie.Need-slice-aggregate-write-all-2
 slice-aggregate-write-all-2 c = search needs
@@ -42,11 +31,8 @@ slice-aggregate-write-all-2 c = search needs
 write-all-requires-2 : tie.Need-write-all-requires-2
 write-all-requires-2 c κs = search needs
 
-wide-requires : tie.Need-wide-requires
-wide-requires c κs = search needs
-
-write-number-requires : tie.Need-write-number-requires
-write-number-requires c κs = search needs
+write-strata-requires : tie.Need-write-strata-requires
+write-strata-requires c κs = search needs
 
 slice-aggregate-write-all-3 : tie.Need-slice-aggregate-write-all-3
 slice-aggregate-write-all-3 c = search needs
@@ -67,18 +53,15 @@ pub write-layering-spec : {M : Type 1} → statement M
 write-layering-spec =
     tie.close
     (tie.spec
-    is-well-formed-requires
+    enter-requires
     returns
     layer-requires
-    enum-told
     slice-aggregate-write-all
     write-all-requires
-    write-strata-requires
-    enum-known-outcome
+    write-number-requires
     slice-aggregate-write-all-2
     write-all-requires-2
-    wide-requires
-    write-number-requires
+    write-strata-requires
     slice-aggregate-write-all-3
     write-all-requires-3
     is-sound-requires

@@ -11,6 +11,9 @@ Inv-loop t n i₀ i = i ≤ 255
 abbrev μ-loop : tie.MeasureT-loop
 μ-loop t n i₀ i = 255 - i
 
+cast-n : tie.Need-cast-n Inv-loop μ-loop
+cast-n c = search needs
+
 loop-holds : tie.Need-loop-holds Inv-loop μ-loop
 loop-holds c = search needs
 
@@ -44,6 +47,7 @@ write-strata-spec =
     (tie.spec
     Inv-loop
     μ-loop
+    cast-n
     loop-holds
     mul-r
     element-copy-out-r

@@ -1,17 +1,17 @@
 -- `unpacking::unpack_slip` meets its contract.
 -- Assumes nothing.
-use mathlib.Core.Path.{_≡_, sym, ap, _∙_}
+use mathlib.Core.Path.{_≡_, refl, sym, ap, _∙_}
 use mathlib.Core.Bool.{true}
 use mathlib.Core.List.{List}
 use Prim.Native.Nat.{ℕ}
 use borrow.Author.Tests.{not-true, not-false}
 use Rattle.table.specs.inner.Shape.{Shaped}
 use Rattle.table.proofs.Shape.{shaped}
+use Rattle.rows.proofs.Laws.{zero-shaped}
 use Rattle.soundness.specs.Sound.{sound}
 use Rattle.soundness.proofs.Sound.{sound-width}
 use Rattle.cards.specs.Forms.{read-slip}
 use Rattle.cards.specs.Cards.{slip-read}
-use Rattle.cards.specs.inner.Fitting.{counts-in}
 use Rattle.cards.proofs.Passed.{counts-all}
 use Rattle.cards.proofs.Answered.{unsound-slip-read, sound-slip-read}
 use borrow.Author.Needs.{needs}
@@ -22,11 +22,14 @@ shape : (c : tie.Start) → Shaped (c .args .t)
 shape c = shaped (c .args .t) _ (c .good .0)
 
 -- The table is sound.
-right : (c : tie.Else1) → sound (c .before .before .before .args .t) ≡ true
-right c = sym (c .before .is-sound .ensures) ∙ not-false (c .before .is-sound .result) (c .if1 .left)
+right : (c : tie.Else1) → sound (c .before .before .before .before .before .before .args .t) ≡ true
+right c = sym (c .before .admit .ensures .0) ∙ not-false (c .before .admit .result) (c .if1 .left)
 
-is-sound-requires : tie.Need-is-sound-requires
-is-sound-requires c κs = search needs
+cast-width : tie.Need-cast-width
+cast-width c = search needs
+
+admit-requires : tie.Need-admit-requires
+admit-requires c κs = (zero-shaped, refl)
 
 refused-slip-requires : tie.Need-refused-slip-requires
 refused-slip-requires c κs = search needs
@@ -34,31 +37,28 @@ refused-slip-requires c κs = search needs
 returns : tie.Need-returns
 returns c =
     let g = c .before .before in
-    let a = g .before .before in
-    c .refused-slip .ensures ∙ ap slip-read (sym (unsound-slip-read (a .args .t) (sym (g .is-sound .ensures) ∙ not-true (g .is-sound .result) (c .before .if1 .taken)) (a .args .bytes .now)))
-
-counts-of-requires : tie.Need-counts-of-requires
-counts-of-requires c κs = sound-width (c .before .before .before .args .t) (right c)
+    let a = c .before .before .before .before .before .before .before in
+    c .refused-slip .ensures ∙ ap slip-read (sym (unsound-slip-read (a .args .t) (sym (g .admit .ensures .0) ∙ not-true (g .admit .result) (c .before .if1 .taken)) (a .args .bytes .now)))
 
 read-slip-requires : tie.Need-read-slip-requires
-read-slip-requires c κs = let e = c .before .before in sound-width (e .before .before .before .args .t) (right e)
+read-slip-requires c κs = sound-width (c .before .before .before .before .before .before .before .args .t) (right (c .before))
 
 returns-2 : tie.Need-returns-2
 returns-2 c =
-    let d = c .before .before in
-    let e = d .before in
-    let a = e .before .before .before in
+    let e = c .before .before in
+    let g = e .before in
+    let a = c .before .before .before .before .before .before .before .before in
     let t = a .args .t in
-    let k = ap (counts-in (t .width)) (d .counts-of .ensures) ∙ counts-all t (shape a) (right e) in
+    let k = counts-all t (shape a) (right e) _ _ (g .admit .ensures .1 (not-false (g .admit .result) (e .if1 .left))) in
     c .read-slip .ensures ∙ ap (λ (ns : List ℕ). slip-read (read-slip ns (a .args .bytes .now))) k ∙ ap slip-read (sym (sound-slip-read t (right e) (a .args .bytes .now)))
 
 pub unpack-slip-spec : {M : Type 1} → statement M
 unpack-slip-spec =
     tie.close
     (tie.spec
-    is-sound-requires
+    cast-width
+    admit-requires
     refused-slip-requires
     returns
-    counts-of-requires
     read-slip-requires
     returns-2)

@@ -1,5 +1,5 @@
 -- The same lines by the spans of a text: names are stretches of it, found by the number of a slot and by the place of a pair. Nothing here need be believed: for an accepted text it is the print (`print-spelled`, crate `printing`).
-use Prim.Native.Nat.{ℕ, _+_, _*_, _/_, _%_, _≤_, _<_}
+use Prim.Native.Nat.{ℕ, _+_, _*_, _%_, _≤_, _<_}
 use mathlib.Core.Bool.{cond}
 use mathlib.Core.List.{List, [], _++_, map}
 use lib.Dec.{leb}
@@ -10,12 +10,12 @@ use Rattle.laws.specs.Limits.{slot-limit, value-limit, row}
 use Rattle.table.specs.Zero.{zero-slot, zero-rule}
 use Rattle.table.specs.inner.Flat.{place-of}
 use Rattle.table.specs.Link.{rules-of}
-use Rattle.steps.specs.inner.Spans.{span-letters}
+use Rattle.steps.specs.inner.Spans.{span-start, span-letters}
 use Rattle.writing.specs.inner.Written.{Pairing, rule-bytes, line-bytes, lines-joined}
 
 -- The letters at a span; none where it does not lie in the text.
 unfoldable pub spelled : List ℕ → ℕ → List ℕ
-spelled text k = cond (leb (k / 32 + k % 32) (length text)) (span-letters text k) []
+spelled text k = cond (leb (span-start k + k % 32) (length text)) (span-letters text k) []
 
 -- A pair by the spans of its slot and of its value.
 unfoldable pub spelled-pair : List ℕ → List ℕ → List ℕ → Pairing

@@ -26,8 +26,9 @@ fn checked<A>(fits: bool, result: Result<A, Refusal>) -> Result<A, Refusal> {
 
 /// A name's place, or its refusal; a refusal comes with no place.
 fn place(name: RlName) -> Result<Name, Refusal> {
+    let number = |n: usize| u16::try_from(n).expect("a number of a table's name");
     let fits = name.number == 0 || (name.start, name.size) == (0, 0);
-    checked(fits, given(name.number, 0, Name { start: name.start, size: name.size }))
+    checked(fits, given(name.number, 0, Name { start: number(name.start), size: number(name.size) }))
 }
 
 /// A literal in the rule language, slots and values named by their numbers.
@@ -75,7 +76,7 @@ impl Engine for Proved {
     /// The strata of a file that has the table's rules.
     fn strata(&mut self, table: &Table) -> Result<Vec<u8>, Refusal> {
         let (refused, read) = self.read(text_of(&program_in(table)).as_bytes());
-        refused.map_or_else(|| Ok(read.rules[..read.count].iter().map(|rule| rule.stratum).collect()), Err)
+        refused.map_or_else(|| Ok(read.rules[..read.count as usize].iter().map(|rule| rule.stratum).collect()), Err)
     }
 
     fn slot_name(&mut self, text: &[u8], table: &Table, slot: u8) -> Result<Name, Refusal> {
@@ -133,7 +134,7 @@ impl Engine for Proved {
         let response = raw::respond(table, before, card, slip, renewed, changes, fired);
         let fits = response.number == 0 || (response.length, response.fired) == (0, 0);
         self.fired = response.fired;
-        self.record = if response.number == 0 { (table.count + 7) / 8 } else { 0 };
+        self.record = if response.number == 0 { (table.count as usize + 7) / 8 } else { 0 };
         let after = Tally { answered: response.tally.answered.into(), refused: response.tally.refused.into() };
         (after, checked(fits, given(response.number, response.second, response.length)))
     }

@@ -6,7 +6,7 @@ use lib.ListN.{length}
 use Rattle.steps.specs.inner.Places.{step-part, Step-lies}
 use Rattle.steps.specs.declared.step.Step.the-variants as step
 use Rattle.steps.specs.inner.Spans.{number-part, Number-lies}
-use Rattle.steps.specs.declared.names.Number.the-variants as number
+use Rattle.steps.specs.declared.lookup.Number.the-variants as number
 use Rattle.clauses.proofs.AssignmentLaws as assignments
 use borrow.Author.Needs.{needs}
 use Rattle.laws.specs.Limits.{value-limit}

@@ -19,12 +19,12 @@ use Rattle.clauses.proofs.assignments.assignments_next.Statement.{state
 use Rattle.clauses.proofs.assignments.assignments_next.Tie as tie
 
 abbrev Inv-loop : tie.InvT-loop
-Inv-loop text rest slotspans valuespans start list₀ at₀ list at =
+Inv-loop text rest classes slotspans valuespans start list₀ at₀ list at =
     (start ≤ at) × Unused-zero list × ((base : ℕ) (slots : List Slot) → Looked text slots slotspans valuespans
     → read-assignments slots assignment-limit [] (tokens-past rest base start) ≡ read-assignments slots (assignment-limit - list .count) (pairs-in list) (tokens-past rest base at))
 
 abbrev μ-loop : tie.MeasureT-loop
-μ-loop text rest slotspans valuespans start list₀ at₀ list at = assignment-limit - list .count
+μ-loop text rest classes slotspans valuespans start list₀ at₀ list at = assignment-limit - list .count
 
 -- The position after the assignment, and what was read.
 read-lies : (c : tie.After-read Inv-loop μ-loop) → Assignment-lies (length (c .before .before .before .before .before .before .before .before .before .before .args .rest .now)) (c .before .before .before .before .before .loop .at) (read.Took (c .read .given .0 .0) (c .read .given .0 .1 .0))

@@ -16,18 +16,18 @@ use Rattle.grammar.specs.Reading.{took, read-literal, read-literals}
 use Rattle.steps.specs.inner.Places.{tokens-past, choice, Fork-lies}
 use Rattle.clauses.specs.inner.Literals.{Looked, literal-part, Literal-lies}
 use Rattle.clauses.specs.inner.Conditions.{literals-in}
-use Rattle.clauses.specs.declared.literals.LiteralRead.the-variants as read
+use Rattle.clauses.specs.declared.literal.LiteralRead.the-variants as read
 use Rattle.clauses.proofs.ConditionLaws as conditions
 use borrow.Author.Needs.{needs}
 use Rattle.clauses.proofs.conditions.literals_next.Statement.{statement}
 use Rattle.clauses.proofs.conditions.literals_next.Tie as tie
 
 abbrev Inv-loop : tie.InvT-loop
-Inv-loop text rest slotspans valuespans start list₀ at₀ list at = (start ≤ at) × Filled literal-limit zero-literal (list .places) (list .count) × ((base : ℕ) (slots : List Slot) → Looked text slots slotspans valuespans
+Inv-loop text rest classes slotspans valuespans start list₀ at₀ list at = (start ≤ at) × Filled literal-limit zero-literal (list .places) (list .count) × ((base : ℕ) (slots : List Slot) → Looked text slots slotspans valuespans
     → read-literals slots literal-limit [] (tokens-past rest base start) ≡ read-literals slots (literal-limit - list .count) (literals-in list) (tokens-past rest base at))
 
 abbrev μ-loop : tie.MeasureT-loop
-μ-loop text rest slotspans valuespans start list₀ at₀ list at = literal-limit - list .count
+μ-loop text rest classes slotspans valuespans start list₀ at₀ list at = literal-limit - list .count
 
 -- The literal that was read, where it lies, and that there was room for it.
 room-left : (r : tie.After-read Inv-loop μ-loop) → r .before .before .before .before .loop .list .count < literal-limit

@@ -37,6 +37,9 @@ next c = rules-on (start c .args .t3) (start c .args .bits .now) (c .before .loo
 is-one : (c : tie.After-wide Inv-loop μ-loop) → let i = c .before .before .before in rule-text (i .before .loop .i + 1) (fired-line (c .wide .result) (c .before .is-fired .result)) ≡ one i
 is-one c = ap₂ (λ (s : ℕ) (b : Bool). rule-text (c .before .before .before .before .loop .i + 1) (fired-line s b)) (c .wide .ensures) (c .before .is-fired .ensures)
 
+cast-n : tie.Need-cast-n Inv-loop μ-loop
+cast-n c = search needs
+
 loop-holds : tie.Need-loop-holds Inv-loop μ-loop
 loop-holds c =
     let s = c .before .before in
@@ -88,6 +91,7 @@ put-rules-spec =
     (tie.spec
     Inv-loop
     μ-loop
+    cast-n
     loop-holds
     mul-r
     element-copy-out-r

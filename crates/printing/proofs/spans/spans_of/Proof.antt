@@ -17,14 +17,14 @@ use Rattle.printing.proofs.spans.spans_of.Statement.{statement}
 use Rattle.printing.proofs.spans.spans_of.Tie as tie
 
 abbrev Inv-loop : tie.InvT-loop
-Inv-loop s spans₀ i₀ spans i = (i ≤ value-limit) × (length spans ≡ value-limit) × (take i spans ≡ map span-of (take i (s .values)))
+Inv-loop text s spans₀ i₀ spans i = (i ≤ value-limit) × (length spans ≡ value-limit) × (take i spans ≡ map (span-of text) (take i (s .values)))
 
 abbrev μ-loop : tie.MeasureT-loop
-μ-loop s spans₀ i₀ spans i = value-limit - i
+μ-loop text s spans₀ i₀ spans i = value-limit - i
 
 -- A slot has its fifteen places.
-places : (c : tie.Start Inv-loop μ-loop) → length (c .args .t1 .values) ≡ value-limit
-places c = slot-shaped (c .args .t1) _ (c .good .0) .value-places
+places : (c : tie.Start Inv-loop μ-loop) → length (c .args .t2 .values) ≡ value-limit
+places c = slot-shaped (c .args .t2) _ (c .good .1 .0) .value-places
 
 loop-holds : tie.Need-loop-holds Inv-loop μ-loop
 loop-holds c = (omega arith, refl, refl)
@@ -36,7 +36,7 @@ element-copy-out-n : tie.Need-element-copy-out-n Inv-loop μ-loop
 element-copy-out-n c = search needs
 
 span-of-requires : tie.Need-span-of-requires Inv-loop μ-loop
-span-of-requires c κs = c .before .before .before .pre (c .before .before .loop .i)
+span-of-requires c κs = c .before .before .before .before .pre (c .before .before .loop .i)
 
 mul-spans : tie.Need-mul-spans Inv-loop μ-loop
 mul-spans c = search needs
@@ -53,22 +53,22 @@ loop-less c = search needs
 loop-again : tie.Need-loop-again Inv-loop μ-loop
 loop-again c =
     let l = c .before .before .before .loop in
-    let a = c .before .before .before .before .args in
-    let k : length (a .t1 .values) ≡ value-limit = places (c .before .before .before .before) in
+    let a = c .before .before .before .before .before .args in
+    let k : length (a .t2 .values) ≡ value-limit = places (c .before .before .before .before .before) in
     let v : l .i < length (l .spans) = omega arith in
-    let s : l .i < length (a .t1 .values) = omega arith in (
+    let s : l .i < length (a .t2 .values) = omega arith in (
       omega arith,
       length-set (l .spans) (l .i) _ ∙ l .inv .1,
-      rw (add-one (l .i), take-suc-set (l .spans) (l .i) (c .span-of .result) v, take-suc (a .t1 .values) (l .i) zero-name s, map-append span-of (take (l .i) (a .t1 .values)) (getD (a .t1 .values) (l .i) zero-name ∷ []), l .inv .2, c .span-of .ensures),
+      rw (add-one (l .i), take-suc-set (l .spans) (l .i) (c .span-of .result) v, take-suc (a .t2 .values) (l .i) zero-name s, map-append (span-of (a .text .now)) (take (l .i) (a .t2 .values)) (getD (a .t2 .values) (l .i) zero-name ∷ []), l .inv .2, c .span-of .ensures),
     )
 
 returns : tie.Need-returns Inv-loop μ-loop
 returns c =
     let l = c .before .loop in
-    let a = c .before .before .args in
-    let k : length (a .t1 .values) ≡ value-limit = places (c .before .before) in
+    let a = c .before .before .before .args in
+    let k : length (a .t2 .values) ≡ value-limit = places (c .before .before .before) in
     let e : l .i ≡ value-limit = omega arith in
-    rw (e, take-all value-limit (l .spans) (omega arith), take-all value-limit (a .t1 .values) (omega arith)) at (l .inv .2)
+    rw (e, take-all value-limit (l .spans) (omega arith), take-all value-limit (a .t2 .values) (omega arith)) at (l .inv .2)
 
 pub spans-of-spec : {M : Type 1} → statement M
 spans-of-spec =

@@ -10,7 +10,7 @@ use Rattle.grammar.specs.Reading.{took, read-slot}
 use Rattle.steps.specs.inner.Places.{tokens-past, step-part, Step-lies}
 use Rattle.steps.specs.inner.Spans.{number-part, Slot-lies, Number-lies}
 use Rattle.clauses.specs.inner.Literals.{Looked}
-use Rattle.steps.specs.declared.names.Number.the-variants as number
+use Rattle.steps.specs.declared.lookup.Number.the-variants as number
 use Rattle.clauses.proofs.LiteralLaws.{slot-inside}
 use Rattle.reader.proofs.RuleLaws as rules
 use borrow.Author.Needs.{needs}
@@ -18,15 +18,18 @@ use Rattle.reader.proofs.rules.pair_next.Statement.{statement}
 use Rattle.reader.proofs.rules.pair_next.Tie as tie
 
 -- The slot that was read, and where.
-slot-lies : (c : tie.After-found) → Slot-lies (length (c .before .before .before .before .before .before .args .rest .now)) (c .before .before .before .before .before .before .args .at) (number.Is (c .found .given .0 .0) (c .found .given .0 .1 .0))
-slot-lies c = subst (Slot-lies _ _) (c .found .given .1) (c .before .before .slot-next .ensures .1)
+slot-lies : (c : tie.After-found) → Slot-lies (length (c .before .before .before .before .before .before .before .args .rest .now)) (c .before .before .before .before .before .before .before .args .at) (number.Is (c .found .given .0 .0) (c .found .given .0 .1 .0))
+slot-lies c = subst (Slot-lies _ _) (c .found .given .1) (c .before .before .slot-of .ensures .1 _ (c .before .before .before .name-next .ensures .1))
 
-slot-read : (c : tie.After-found) (base : ℕ) (slots : List Slot) → Looked (c .before .before .before .before .before .before .args .text .now) slots (c .before .before .before .before .before .before .args .slotspans .now) (c .before .before .before .before .before .before .args .valuespans .now)
-    → read-slot slots (tokens-past (c .before .before .before .before .before .before .args .rest .now) base (c .before .before .before .before .before .before .args .at)) ≡ took (c .found .given .0 .0) (tokens-past (c .before .before .before .before .before .before .args .rest .now) base (c .found .given .0 .1 .0))
-slot-read c base slots L = c .before .before .slot-next .ensures .0 base slots (L .slotspans-listed) ∙ ap (number-part _ base) (c .found .given .1)
+slot-read : (c : tie.After-found) (base : ℕ) (slots : List Slot) → Looked (c .before .before .before .before .before .before .before .args .text .now) slots (c .before .before .before .before .before .before .before .args .slotspans .now) (c .before .before .before .before .before .before .before .args .valuespans .now)
+    → read-slot slots (tokens-past (c .before .before .before .before .before .before .before .args .rest .now) base (c .before .before .before .before .before .before .before .args .at)) ≡ took (c .found .given .0 .0) (tokens-past (c .before .before .before .before .before .before .before .args .rest .now) base (c .found .given .0 .1 .0))
+slot-read c base slots L = c .before .before .slot-of .ensures .0 base _ slots (c .before .before .before .name-next .ensures .0 base) (L .slotspans-listed) ∙ ap (number-part _ base) (c .found .given .1)
 
-slot-next-requires : tie.Need-slot-next-requires
-slot-next-requires c κs = search needs
+name-next-requires : tie.Need-name-next-requires
+name-next-requires c κs = search needs
+
+slot-of-requires : tie.Need-slot-of-requires
+slot-of-requires c κs = (c .before .before .before .before .args .at, c .name-next .ensures .1)
 
 enum-known-found : tie.Need-enum-known-found
 enum-known-found c = search needs
@@ -38,7 +41,7 @@ enum-known-mark : tie.Need-enum-known-mark
 enum-known-mark c = search needs
 
 value-next-requires : tie.Need-value-next-requires
-value-next-requires c κs = (slot-lies (c .before .before .before .before .before) .0, c .before .before .before .before .before .before .before .before .before .before .before .pre)
+value-next-requires c κs = let p = c .before .before .before .before .before .before .before .before .before .before .before .before .pre in (p .0, slot-lies (c .before .before .before .before .before) .0, p .1)
 
 enum-known-read : tie.Need-enum-known-read
 enum-known-read c = search needs
@@ -90,13 +93,14 @@ returns-4 : tie.Need-returns-4
 returns-4 c =
     let a = c .before in
     let k = a .before .before in
-    (λ base slots L. rules.pair-no-slot slots _ _ (k .slot-next .ensures .0 base slots (L .slotspans-listed) ∙ ap (number-part _ base) (a .found2 .given .1)), tt)
+    (λ base slots L. rules.pair-no-slot slots _ _ (k .slot-of .ensures .0 base _ slots (k .before .name-next .ensures .0 base) (L .slotspans-listed) ∙ ap (number-part _ base) (a .found2 .given .1)), tt)
 
 pub pair-next-spec : {M : Type 1} → statement M
 pair-next-spec =
     tie.close
     (tie.spec
-    slot-next-requires
+    name-next-requires
+    slot-of-requires
     enum-known-found
     word-next-requires
     enum-known-mark

@@ -13,13 +13,13 @@ use Rattle.reader.proofs.rules.rest_next.Statement.{statement}
 use Rattle.reader.proofs.rules.rest_next.Tie as tie
 
 condition-next-requires : tie.Need-condition-next-requires
-condition-next-requires c κs = c .before .before .before .pre .2
+condition-next-requires c κs = let p = c .before .before .before .pre in (p .2, p .3)
 
 enum-known-first : tie.Need-enum-known-first
 enum-known-first c = search needs
 
 assign-next-requires : tie.Need-assign-next-requires
-assign-next-requires c κs = c .before .before .before .before .before .before .before .before .pre .2
+assign-next-requires c κs = let p = c .before .before .before .before .before .before .before .before .pre in (p .2, p .3)
 
 enum-known-second : tie.Need-enum-known-second
 enum-known-second c = search needs
@@ -28,7 +28,11 @@ word-next-requires : tie.Need-word-next-requires
 word-next-requires c κs = search needs
 
 rule-of-requires : tie.Need-rule-of-requires
-rule-of-requires c κs = (c .before .before .before .before .before .before .before .before .before .before .before .before .before .before .pre .0, c .before .before .before .before .before .before .before .before .before .before .before .before .before .before .pre .1)
+rule-of-requires c κs =
+    let n = c .before .before .before .before .before in
+    let k = n .before .before .before .before .before in
+    let p = k .before .before .before .before .pre in
+    (p .0, p .1, k .condition-next .ensures .2 .used, n .assign-next .ensures .1 .1 .used)
 
 enum-known-second-2 : tie.Need-enum-known-second-2
 enum-known-second-2 c = search needs

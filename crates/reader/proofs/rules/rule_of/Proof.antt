@@ -12,8 +12,21 @@ byte-requires c κs = search needs
 byte-requires-2 : tie.Need-byte-requires-2
 byte-requires-2 c κs = search needs
 
+byte-requires-3 : tie.Need-byte-requires-3
+byte-requires-3 c κs = search needs
+
+byte-requires-4 : tie.Need-byte-requires-4
+byte-requires-4 c κs = search needs
+
 returns : tie.Need-returns
-returns c = rw (c .before .byte .ensures, c .byte2 .ensures) refl
+returns c = rw (c .before .before .before .byte .ensures, c .before .before .byte2 .ensures, c .before .byte3 .ensures, c .byte4 .ensures) refl
 
 pub rule-of-spec : {M : Type 1} → statement M
-rule-of-spec = tie.close (tie.spec byte-requires byte-requires-2 returns)
+rule-of-spec =
+    tie.close
+    (tie.spec
+    byte-requires
+    byte-requires-2
+    byte-requires-3
+    byte-requires-4
+    returns)

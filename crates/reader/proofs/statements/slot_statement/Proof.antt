@@ -3,10 +3,12 @@
 use Prim.Native.Nat.{_-_}
 use native.Mathlib.Omega.{arith}
 use mathlib.Core.Path.{refl, ap, subst, _∙_}
+use Rattle.text.specs.Tokens.{SLOT}
 use Rattle.steps.specs.inner.Places.{Step-lies, outcome-part}
 use Rattle.lines.specs.inner.Index.{span-slot}
 use Rattle.lines.specs.inner.Lines.{Line-lies}
 use Rattle.lines.proofs.Index.{indexed-slots}
+use Rattle.steps.proofs.Places as places
 use Rattle.reader.proofs.StatementLaws as statements
 use borrow.Author.Needs.{needs}
 use Rattle.reader.proofs.statements.slot_statement.Statement.{statement}
@@ -21,7 +23,7 @@ empty-rule-requires c κs = search needs
 returns : tie.Need-returns
 returns c =
     let h = c .before .before .if1 .taken in
-    (λ slots valuespans I e n. statements.on-line-full slots _ (omega arith) n, tt)
+    (λ slots valuespans I e n. statements.on-line-full slots _ (omega arith) (places.expects-took SLOT _ _ tt n .0), tt)
 
 line-next-requires : tie.Need-line-next-requires
 line-next-requires c κs = c .before .before .before .pre
@@ -48,8 +50,8 @@ returns-2 c =
     let rest = k .before .before .before .before .args .rest .now in
     let l = subst (Step-lies _ _) (a .outcome .given .1) (k .line-next .ensures .1) in
     let d = subst (Line-lies text (r .name) (r .spans) (r .count)) (a .outcome .given .1) (k .line-next .ensures .2) in (
-      λ slots valuespans I e n. statements.on-line slots _ _ _ (omega arith) n (k .line-next .ensures .0 slots (indexed-slots I) ∙ ap (outcome-part rest (k .before .before .before .before .args .base) (span-slot text (r .name) (r .spans) (r .count))) (a .outcome .given .1)),
-      (l .0, l .1, h, refl, d .0, d .1, d .2),
+      λ slots valuespans I e n. statements.on-line slots _ _ _ (omega arith) (places.expects-took SLOT _ _ tt n .0) (k .line-next .ensures .0 _ slots n (indexed-slots I) ∙ ap (outcome-part rest (k .before .before .before .before .args .base) (span-slot text (r .name) (r .spans) (r .count))) (a .outcome .given .1)),
+      (omega (arith, l .0), l .1, h, refl, d .0, d .1, d .2),
     )
 
 returns-3 : tie.Need-returns-3
@@ -60,7 +62,7 @@ returns-3 c =
     let r = k .line-next .result in
     let text = k .before .before .before .before .args .text .now in
     let rest = k .before .before .before .before .args .rest .now in
-    (λ slots valuespans I e n. statements.on-line-stop slots _ _ (omega arith) n (k .line-next .ensures .0 slots (indexed-slots I) ∙ ap (outcome-part rest (k .before .before .before .before .args .base) (span-slot text (r .name) (r .spans) (r .count))) (a .outcome2 .given .1)), tt)
+    (λ slots valuespans I e n. statements.on-line-stop slots _ _ (omega arith) (places.expects-took SLOT _ _ tt n .0) (k .line-next .ensures .0 _ slots n (indexed-slots I) ∙ ap (outcome-part rest (k .before .before .before .before .args .base) (span-slot text (r .name) (r .spans) (r .count))) (a .outcome2 .given .1)), tt)
 
 pub slot-statement-spec : {M : Type 1} → statement M
 slot-statement-spec =

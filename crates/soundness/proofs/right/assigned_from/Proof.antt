@@ -40,6 +40,9 @@ first c =
     let s = a .before in
     rw (assigned-next (s .args .t1) (shape s) (a .loop .j) (search needs) (s .pre .0)) at (a .loop .inv .1)
 
+cast-m : tie.Need-cast-m Inv-loop μ-loop
+cast-m c = search needs
+
 loop-holds : tie.Need-loop-holds Inv-loop μ-loop
 loop-holds c = (search needs, refl)
 
@@ -81,6 +84,7 @@ assigned-from-spec =
     (tie.spec
     Inv-loop
     μ-loop
+    cast-m
     loop-holds
     mul-a
     element-copy-out-a

@@ -42,6 +42,9 @@ first c =
     let s = a .before in
     rw (literals-next (s .args .t1) (shape s) (a .loop .j) (search needs) (s .pre)) at (a .loop .inv .1)
 
+cast-m : tie.Need-cast-m Inv-loop μ-loop
+cast-m c = search needs
+
 loop-holds : tie.Need-loop-holds Inv-loop μ-loop
 loop-holds c = (search needs, refl)
 
@@ -86,6 +89,7 @@ literals-right-spec =
     (tie.spec
     Inv-loop
     μ-loop
+    cast-m
     loop-holds
     mul-l
     element-copy-out-l

@@ -7,8 +7,8 @@ use borrow.Author.Needs.{needs}
 use Rattle.steps.proofs.step.fork_next.Statement.{statement}
 use Rattle.steps.proofs.step.fork_next.Tie as tie
 
-token-at-requires : tie.Need-token-at-requires
-token-at-requires c κs = search needs
+token-by-requires : tie.Need-token-by-requires
+token-by-requires c κs = search needs
 
 enum-known-token : tie.Need-enum-known-token
 enum-known-token c = search needs
@@ -19,7 +19,7 @@ returns c =
     let k = a .before .before in
     let rest = k .before .before .args .rest .now in
     let at = k .before .before .args .at in
-    (λ base. ap (which _ _) (places.stands rest base at _ _ (k .token-at .ensures) (a .token .given .1)) ∙ places.which-one _ _ _ _ (c .if1 .taken), places.lies rest at _ _ (k .token-at .ensures) (a .token .given .1))
+    (λ base. ap (which _ _) (places.stands rest base at _ _ (k .token-by .ensures) (a .token .given .1)) ∙ places.which-one _ _ _ _ (c .if1 .taken), places.lies rest at _ _ (k .token-by .ensures) (a .token .given .1))
 
 returns-2 : tie.Need-returns-2
 returns-2 c =
@@ -27,7 +27,7 @@ returns-2 c =
     let k = a .before .before in
     let rest = k .before .before .args .rest .now in
     let at = k .before .before .args .at in
-    (λ base. ap (which _ _) (places.stands rest base at _ _ (k .token-at .ensures) (a .token .given .1)) ∙ places.which-second _ _ _ _ (c .before .if1 .left) (c .if2 .taken), places.lies rest at _ _ (k .token-at .ensures) (a .token .given .1))
+    (λ base. ap (which _ _) (places.stands rest base at _ _ (k .token-by .ensures) (a .token .given .1)) ∙ places.which-second _ _ _ _ (c .before .if1 .left) (c .if2 .taken), places.lies rest at _ _ (k .token-by .ensures) (a .token .given .1))
 
 returns-3 : tie.Need-returns-3
 returns-3 c =
@@ -35,7 +35,7 @@ returns-3 c =
     let k = a .before .before in
     let rest = k .before .before .args .rest .now in
     let at = k .before .before .args .at in
-    (λ base. ap (which _ _) (places.stands rest base at _ _ (k .token-at .ensures) (a .token .given .1)) ∙ places.which-else _ _ _ _ (c .before .if1 .left) (c .if2 .left), tt)
+    (λ base. ap (which _ _) (places.stands rest base at _ _ (k .token-by .ensures) (a .token .given .1)) ∙ places.which-else _ _ _ _ (c .before .if1 .left) (c .if2 .left), tt)
 
 fault-of-requires : tie.Need-fault-of-requires
 fault-of-requires c κs = search needs
@@ -45,13 +45,13 @@ returns-4 c =
     let k = c .before .before in
     let rest = k .before .before .args .rest .now in
     let at = k .before .before .args .at in
-    (λ base. ap (which _ _) (places.stands rest base at _ _ (k .token-at .ensures) refl) ∙ places.which-other _ _ rest base (k .token-at .result .token) _ (c .before .match .keys2) ∙ ap neither (sym (c .fault-of .ensures)), tt)
+    (λ base. ap (which _ _) (places.stands rest base at _ _ (k .token-by .ensures) refl) ∙ places.which-other _ _ rest base (k .token-by .result .token) _ (c .before .match .keys2) ∙ ap neither (sym (c .fault-of .ensures)), tt)
 
 pub fork-next-spec : {M : Type 1} → statement M
 fork-next-spec =
     tie.close
     (tie.spec
-    token-at-requires
+    token-by-requires
     enum-known-token
     returns
     returns-2

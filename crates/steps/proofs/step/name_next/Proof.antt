@@ -1,38 +1,17 @@
 -- `steps::step::name_next` meets its contract.
 -- Assumes nothing.
-use mathlib.Core.Path.{refl, sym, ap, _∙_}
-use native.Mathlib.Omega.{arith}
-use Rattle.grammar.specs.Reading.{stop, a-name}
-use Rattle.steps.proofs.Places as places
 use borrow.Author.Needs.{needs}
 use Rattle.steps.proofs.step.name_next.Statement.{statement}
 use Rattle.steps.proofs.step.name_next.Tie as tie
 
-token-at-requires : tie.Need-token-at-requires
-token-at-requires c κs = search needs
+token-by-requires : tie.Need-token-by-requires
+token-by-requires c κs = search needs
 
-enum-known-token : tie.Need-enum-known-token
-enum-known-token c = search needs
+name-of-requires : tie.Need-name-of-requires
+name-of-requires c κs = search needs
 
 returns : tie.Need-returns
-returns c =
-    let a = c .before in
-    let k = a .before .before in
-    let rest = k .before .before .args .rest .now in
-    let at = k .before .before .args .at in
-    let l = places.lies rest at _ _ (k .token-at .ensures) (a .token .given .1) in
-    (λ base. ap a-name (places.stands rest base at _ _ (k .token-at .ensures) (a .token .given .1)) ∙ places.name-this _ _, (omega (arith, l .0, l .1, l .3), l .4, l .1, l .2, l .3))
-
-fault-of-requires : tie.Need-fault-of-requires
-fault-of-requires c κs = search needs
-
-returns-2 : tie.Need-returns-2
-returns-2 c =
-    let k = c .before .before in
-    let rest = k .before .before .args .rest .now in
-    let at = k .before .before .args .at in
-    (λ base. ap a-name (places.stands rest base at _ _ (k .token-at .ensures) refl) ∙ places.name-other rest base (k .token-at .result .token) _ (c .before .match .keys2) ∙ ap stop (sym (c .fault-of .ensures)), tt)
+returns c = let a = c .before .before .before .args in c .name-of .ensures (a .rest .now) (a .at) (c .before .token-by .ensures)
 
 pub name-next-spec : {M : Type 1} → statement M
-name-next-spec =
-    tie.close (tie.spec token-at-requires enum-known-token returns fault-of-requires returns-2)
+name-next-spec = tie.close (tie.spec token-by-requires name-of-requires returns)

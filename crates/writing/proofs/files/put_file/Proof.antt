@@ -64,6 +64,12 @@ next-rule c =
     let s = c .before .before .before .before .before .before in
     rules-on (s .args .text .now) (s .args .slotspans .now) (s .args .valuespans .now) (s .args .t5) (c .before .loop2 .j) (shape s) (omega arith) (s .pre .0 .rules-fit)
 
+cast-width : tie.Need-cast-width Inv-loop μ-loop Inv-loop2 μ-loop2
+cast-width c = search needs
+
+cast-n : tie.Need-cast-n Inv-loop μ-loop Inv-loop2 μ-loop2
+cast-n c = search needs
+
 loop-holds : tie.Need-loop-holds Inv-loop μ-loop Inv-loop2 μ-loop2
 loop-holds c =
     let s = c .before .before in
@@ -76,9 +82,12 @@ mul-s c = search needs
 element-copy-out-s : tie.Need-element-copy-out-s Inv-loop μ-loop Inv-loop2 μ-loop2
 element-copy-out-s c = let s = c .before .before .before .before in omega (arith, s .pre .1 .few)
 
+cast-put-line : tie.Need-cast-put-line Inv-loop μ-loop Inv-loop2 μ-loop2
+cast-put-line c = search needs
+
 put-line-requires : tie.Need-put-line-requires Inv-loop μ-loop Inv-loop2 μ-loop2
 put-line-requires c κs =
-    let n = c .before .before in
+    let n = c .before .before .before in
     let l = n .before .loop in
     let s = n .before .before .before .before in
     let f = s .pre .1 in
@@ -93,7 +102,7 @@ loop-less c = search needs
 loop-again : tie.Need-loop-again Inv-loop μ-loop Inv-loop2 μ-loop2
 loop-again c =
     let p = c .before .before in
-    let n = p .before .before .before in
+    let n = p .before .before .before .before in
     let l = n .before .loop in
     let s = n .before .before .before .before in
     left-on (lines s (l .i + 1) ++ rules s 0) (left-as (next-line n) (l .inv)) (p .put-line .ensures)
@@ -149,9 +158,12 @@ put-file-spec =
     μ-loop
     Inv-loop2
     μ-loop2
+    cast-width
+    cast-n
     loop-holds
     mul-s
     element-copy-out-s
+    cast-put-line
     put-line-requires
     add-i
     loop-less

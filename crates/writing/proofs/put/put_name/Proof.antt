@@ -1,6 +1,6 @@
 -- `put::put_name` meets its contract.
 -- Assumes nothing.
-use Prim.Native.Nat.{ℕ, _+_, _-_, _/_, _%_, _≤_, _<_}
+use Prim.Native.Nat.{ℕ, _+_, _-_, _%_, _≤_, _<_}
 use native.Mathlib.Omega.{arith}
 use native.Mathlib.Nat.{add-sub-cancel-left}
 use mathlib.Core.Path.{_≡_, ap}
@@ -8,19 +8,20 @@ use mathlib.Core.List.{List, []}
 use lib.ListN.{length, take, drop}
 use borrow.Author.Tests.{le-leb, lt-leb}
 use borrow.Author.Needs.{needs}
+use Rattle.steps.specs.inner.Spans.{span-start}
 use Rattle.writing.specs.inner.Spelled.{spelled}
 use Rattle.writing.proofs.Putting.{puts-none, puts-as}
 use Rattle.writing.proofs.put.put_name.Statement.{statement}
 use Rattle.writing.proofs.put.put_name.Tie as tie
 
 -- The letters at a span that lies in the text, and none at another.
-inside : (text : List ℕ) (k : ℕ) → k / 32 + k % 32 ≤ length text → take (k / 32 + k % 32 - k / 32) (drop (k / 32) text) ≡ spelled text k
+inside : (text : List ℕ) (k : ℕ) → span-start k + k % 32 ≤ length text → take (span-start k + k % 32 - span-start k) (drop (span-start k) text) ≡ spelled text k
 unfolding spelled
-inside text k h = rw (add-sub-cancel-left, le-leb (k / 32 + k % 32) (length text) h)
+inside text k h = rw (add-sub-cancel-left, le-leb (span-start k + k % 32) (length text) h)
 
-outside : (text : List ℕ) (k : ℕ) → length text < k / 32 + k % 32 → [] ≡ spelled text k
+outside : (text : List ℕ) (k : ℕ) → length text < span-start k + k % 32 → [] ≡ spelled text k
 unfolding spelled
-outside text k h = rw (lt-leb (k / 32 + k % 32) (length text) h)
+outside text k h = rw (lt-leb (span-start k + k % 32) (length text) h)
 
 sub-if2 : tie.Need-sub-if2
 sub-if2 c = search needs

@@ -44,6 +44,9 @@ next c = let s = start c in assignments-on (paired s) (s .args .t6) (shape s) (c
 room : (s : tie.Start Inv-loop μ-loop) → s .args .at + length (assignment-at (paired s) (s .args .t6) 0 ++ more-assignments (paired s) (s .args .t6) 1) ≤ longest
 room s = rw (← listed-some (paired s) (s .args .t6) (shape s) (s .pre .1) (s .pre .0 .assignments-fit)) (s .pre .2)
 
+cast-n : tie.Need-cast-n Inv-loop μ-loop
+cast-n c = search needs
+
 element-copy-out-first : tie.Need-element-copy-out-first Inv-loop μ-loop
 element-copy-out-first c = search needs
 
@@ -131,6 +134,7 @@ put-assignments-spec =
     (tie.spec
     Inv-loop
     μ-loop
+    cast-n
     element-copy-out-first
     slice-aggregate-put-pair
     put-pair-requires

@@ -45,6 +45,9 @@ room : (c : tie.Else1 Inv-loop μ-loop) → let s = c .before .before .before in
     s .args .at + length (literal-at (paired s) (s .args .t6) 0 ++ more-literals (paired s) (s .args .t6) 1) ≤ longest
 room c = let s = c .before .before .before in rw (← condition-some (paired s) (s .args .t6) (shape s) (omega arith) (s .pre .0 .literals-fit)) (s .pre .1)
 
+cast-n : tie.Need-cast-n Inv-loop μ-loop
+cast-n c = search needs
+
 slice-aggregate-put : tie.Need-slice-aggregate-put Inv-loop μ-loop
 slice-aggregate-put c = search needs
 
@@ -143,6 +146,7 @@ put-condition-spec =
     (tie.spec
     Inv-loop
     μ-loop
+    cast-n
     slice-aggregate-put
     put-requires
     same-length

@@ -44,7 +44,7 @@ impl<'a> Input<'a> {
     fn table(&mut self) -> Box<Table> {
         let mut table = Table::empty();
         table.width = self.byte().into();
-        for slot in table.slots.iter_mut().take(table.width) {
+        for slot in table.slots.iter_mut().take(table.width as usize) {
             slot.count = self.byte().into();
         }
         table

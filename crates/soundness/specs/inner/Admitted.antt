@@ -1,0 +1,16 @@
+-- What is kept of a table that passed: how many values each slot has, and rows that stand for its rules.
+use mathlib.Core.Path.{_≡_}
+use mathlib.Core.List.{List}
+use Prim.Native.Nat.{ℕ, _<_}
+use lib.ListN.{getD}
+use Rattle.table.specs.declared.Table.{Table}
+use Rattle.table.specs.Zero.{zero-slot}
+use Rattle.table.specs.Link.{rules-of, carried-strata}
+use Rattle.rows.specs.inner.Rows.{table-in, RowsFit}
+
+-- The counts are those of the slots, and the rows have the rules, with the strata that they carry.
+pub record Admitted (t : Table) (counts : List ℕ) (rows : List (List ℕ)) : Type 0 where
+  pub same-count : (i : ℕ) → i < t .width → getD counts i 0 ≡ getD (t .slots) i zero-slot .count
+  pub rows-fit : RowsFit rows (t .count)
+  pub same-rules : rules-of (table-in rows (t .count)) ≡ rules-of t
+  pub same-strata : carried-strata (table-in rows (t .count)) ≡ carried-strata t
