@@ -50,6 +50,7 @@ static void print(void) { rl_print(text, size, out, sizeof out); }
 static const uint8_t circle[] = "SLOT x {0,1}; WHEN x *= 0 IF NOT x *= 1 THEN x := 1;";
 static void read_circle(void) { rl_read(circle, sizeof circle - 1); }
 static void print_circle(void) { rl_print(circle, sizeof circle - 1, out, sizeof out); }
+static void read_unlayered(void) { rl_read_unlayered(text, size); }
 static void is_sound(void) { rl_is_sound(reading.table); }
 static void slot_name(void) { rl_slot_name(text, size, reading.table, 31); }
 static void value_name(void) { rl_value_name(text, size, reading.table, 31, 15); }
@@ -61,6 +62,11 @@ static void respond(void) {
     RlTally tally = {0, 0};
     rl_respond(reading.table, tally, card_bytes, card_length, slip_bytes, slip_length, out, sizeof out, changes, sizeof changes, fired,
                sizeof fired);
+}
+static void respond_by_marks(void) {
+    RlTally tally = {0, 0};
+    rl_respond_by_marks(reading.table, tally, card_bytes, card_length, slip_bytes, slip_length, out, sizeof out, changes, sizeof changes,
+                        fired, sizeof fired);
 }
 
 static void *call(void *function) {
@@ -90,10 +96,11 @@ int main(void) {
         void (*function)(void);
     } entries[] = {
         {"rl_read", read_text},         {"rl_read (18)", read_circle},  {"rl_print", print},
-        {"rl_print (18)", print_circle},
+        {"rl_print (18)", print_circle}, {"rl_read_unlayered", read_unlayered},
         {"rl_is_sound", is_sound},      {"rl_slot_name", slot_name},    {"rl_value_name", value_name},
         {"rl_unpack_card", unpack_card}, {"rl_unpack_slip", unpack_slip}, {"rl_pack_card", pack_card},
         {"rl_pack_slip", pack_slip},    {"rl_respond", respond},
+        {"rl_respond_by_marks", respond_by_marks},
     };
     write_text();
     size_t before = used(none);
@@ -104,6 +111,6 @@ int main(void) {
     slip_length = 1;
     printf("| entry point | stack |\n|---|---|\n");
     for (size_t at = 0; at < sizeof entries / sizeof *entries; at++)
-        printf("| %-14s | %6zu |\n", entries[at].name, used(entries[at].function) - before);
+        printf("| %-19s | %6zu |\n", entries[at].name, used(entries[at].function) - before);
     return reading.number | card.number | slip.number;
 }

@@ -46,7 +46,7 @@ typedef struct {
     uint8_t value;
 } RlAssignment;
 
-/* A rule: its trigger `slot *= value`, its literals and assignments with the numbers used, its stratum. Strata are the least numbers from 1 such that every rule that assigns what a rule tests by a plain `*=`, in the trigger too, has the same or a lower one, and every rule that assigns what it tests under NOT a lower one. */
+/* A rule: its trigger `slot *= value`, its literals and assignments with the numbers used, its stratum. Strata are the least numbers from 1 such that every rule that assigns what a rule tests by a plain `*=`, in the trigger too, has the same or a lower one, and every rule that assigns what it tests under NOT a lower one; a table that was read without test 18 has 0 throughout. */
 typedef struct {
     uint8_t slot;
     uint8_t value;
@@ -142,19 +142,23 @@ typedef struct {
     RlTally tally;
 } RlResponse;
 
-/* The stack that a call takes on x86-64, in bytes, the table that the caller hands over on it counted (in brackets what it was with a table of 26,824 bytes):
-   rl_read 115,752 (366,744), rl_print 120,472 (371,128), rl_is_sound 35,816 (95,496), rl_slot_name 27,240 (53,704), rl_value_name 27,320 (53,976),
-   rl_unpack_card 49,592 (122,760), rl_unpack_slip 49,656 (122,824), rl_pack_card 49,512 (122,680), rl_pack_slip 49,544 (122,712), rl_respond 43,192 (160,968). bench/stack.c measures it. Nothing is allocated. */
+/* The stack that a call takes on x86-64, in bytes, the table that the caller hands over on it counted:
+   rl_read 115,752, rl_read_unlayered 82,200, rl_print 120,488, rl_is_sound 35,848, rl_slot_name 27,240, rl_value_name 27,320,
+   rl_unpack_card 36,024, rl_unpack_slip 36,120, rl_pack_card 35,944, rl_pack_slip 36,024, rl_respond 42,920, rl_respond_by_marks 42,920.
+   bench/stack.c measures it. Nothing is allocated. */
 
 /* In each function a buffer is a pointer and its length; the pointer is not null, also where the length is 0, as many bytes can be read there, or read and written in an output, and an output overlaps no other buffer. A bool is 0 or 1. Nothing else is asked of any argument. */
 
 /* Reads a rule text into a table with the least strata, or refuses it with 10 to 18; 18 is for rules in a circle of tests by `*=` that passes through a NOT, with the lowest rule on such a circle. */
 RlRead rl_read(const uint8_t *text, size_t text_length);
 
+/* Reads a rule text without test 18, for the response by marks: into a table with stratum 0 throughout, whether strata exist or not, or refuses it with 10 to 17. Such a table is for `rl_respond_by_marks` and the names; unless it has no rules, `rl_is_sound` says no, and `rl_respond`, packing and unpacking say 31. Its cards and slips are packed and unpacked by a table of the same slots without rules: a copy of it with `count` 0, or what `rl_read` gives for the text's slot lines alone. */
+RlRead rl_read_unlayered(const uint8_t *text, size_t text_length);
+
 /* Prints a rule text in the house style into the output, or refuses it with 10 to 18, 34 (the print would pass 65,535 bytes), 33 (the output is shorter than the print); bytes beyond the print, and all after a refusal, stay as they are. */
 RlPrinted rl_print(const uint8_t *text, size_t text_length, uint8_t *out, size_t out_length);
 
-/* Says whether a table is in order; with one that is not, the functions below that take it say 31, but for the names, and `rl_respond` 32 before it where the tally is full. */
+/* Says whether a table is in order; with one that is not, the functions below that take it say 31, but for the names, and the responses 32 before it where the tally is full. `rl_respond_by_marks` takes one more: a table that would be in order but for its stratum 0 throughout. */
 bool rl_is_sound(RlTable table);
 
 /* Says where a slot's name stands in the text, or 31. */
@@ -175,10 +179,15 @@ RlPacked rl_pack_card(RlTable table, RlCardForm card, uint8_t *out, size_t out_l
 /* Packs a slip into the output, or refuses it with 31, 24 to 27, 30; other bytes stay as they are. */
 RlPacked rl_pack_slip(RlTable table, RlSlipForm slip, uint8_t *out, size_t out_length);
 
-/* Responds to a packed card and a packed slip: writes the new card (as long as the card), the changes as a packed slip (`length` bytes; the output has 37 at least) and the fired record (a bit for each rule, rule 1 first), or refuses with 32, 31, 20 to 28, 30, 40; other bytes stay as they are. */
+/* Responds to a packed card and a packed slip by strata: writes the new card (as long as the card), the changes as a packed slip (`length` bytes; the output has 37 at least) and the fired record (a bit for each rule, rule 1 first), or refuses with 32, 31, 20 to 28, 30, 40; other bytes stay as they are. */
 RlResponse rl_respond(RlTable table, RlTally tally, const uint8_t *card, size_t card_length, const uint8_t *slip,
                       size_t slip_length, uint8_t *new_card, size_t new_card_length, uint8_t *changes,
                       size_t changes_length, uint8_t *fired, size_t fired_length);
+
+/* Responds by marks: takes a table of `rl_read` or of `rl_read_unlayered`, and writes, gives and counts what `rl_respond` does, or refuses with 32, 31, 20 to 28, 30, 41 (a value of a slot would be both positive and negative), 42 (one stays unknown), the last two with second number 0; other bytes stay as they are. Where `rl_respond` answers too, by the text's table with strata, the answers are equal. */
+RlResponse rl_respond_by_marks(RlTable table, RlTally tally, const uint8_t *card, size_t card_length,
+                               const uint8_t *slip, size_t slip_length, uint8_t *new_card, size_t new_card_length,
+                               uint8_t *changes, size_t changes_length, uint8_t *fired, size_t fired_length);
 
 _Static_assert(sizeof(RlSlot) == 66 && sizeof(RlLiteral) == 4 && sizeof(RlAssignment) == 2, "layout");
 _Static_assert(sizeof(RlRule) == 45 && sizeof(RlTable) == 13592 && sizeof(RlRead) == 13608, "layout");

@@ -1,7 +1,7 @@
 #!/usr/bin/env python3
-"""The examples of the editors' guide, run by the program: each must get the refusal in whose row it stands; every refusal must have its row, the rules that wake each other do as the guide says, the guide's listing be that of examples/dialect, and its file in the house style the print of the file before it.
+"""The examples of the editors' guide, run by the program, or by the desk in C where they are for the response by marks: each must get the refusal in whose row it stands; every refusal must have its row, the rules that wake each other and those that 18 refuses do as the guide says, the guide's listings be those of examples/dialect and examples/marks, and its file in the house style the print of the file before it.
 
-  tests/editors.py   needs target/bin/rl; exit status 1 where an example comes to something else
+  tests/editors.py   needs target/bin/rl and target/examples/desk-c, which examples/run makes; exit status 1 where an example comes to something else
 """
 import os
 import re
@@ -14,6 +14,8 @@ import print_cases
 TOP = os.path.dirname(os.path.dirname(os.path.abspath(__file__)))
 SLOTS = b'SLOT dating {before-1900, from-1900};\nSLOT status {current, obsolete};\n'
 CARD, SLIP = bytes.fromhex('08 04'), bytes.fromhex('04 02')
+PROGRAM = [os.path.join(TOP, 'target/bin/rl')]
+BY_MARKS = [os.path.join(TOP, 'target/examples/desk-c'), '.', 'marks']
 
 
 def examples(guide):
@@ -29,24 +31,43 @@ def examples(guide):
             yield row[0], (SLOTS + found[2].encode(), CARD, SLIP)
 
 
-def printed(files):
-    """What the program prints for three files."""
+def printed(files, program=PROGRAM):
+    """What a program prints for three files; the desk ends with status 1 where something is refused."""
     with tempfile.TemporaryDirectory() as folder:
         for name, content in zip(('rules.txt', 'card.bin', 'slip.bin'), files):
             with open(os.path.join(folder, name), 'wb') as file:
                 file.write(content)
-        return subprocess.run([os.path.join(TOP, 'target/bin/rl')], cwd=folder, capture_output=True, check=True).stdout.decode()
+        return subprocess.run(program, cwd=folder, capture_output=True, check=program == PROGRAM).stdout.decode()
+
+
+def section(guide, name):
+    """The blocks of indented lines in a section."""
+    return blocks(guide.split(f'## {name}\n')[1].split('\n## ')[0])
 
 
 def waking(guide):
     """Of the two files on rules that wake each other: the files that each slip or the circle makes, and how the listing begins."""
-    part = guide.split('## Rules that wake each other\n')[1].split('\n## ')[0]
-    plain, under_not = ['\n'.join(block).encode() for block in blocks(part)]
+    plain, under_not = ['\n'.join(block).encode() for block in section(guide, 'Rules that wake each other')]
     slots = plain[:plain.index(b'WHEN')]
     card = bytes.fromhex('0C 00 00')
     for slip, state in (('04 02', 'fired'), ('04 22', 'fired'), ('04 44', 'idle')):
         yield (plain, card, bytes.fromhex(slip)), f'rule 1 stratum 1 {state}\nrule 2 stratum 1 {state}\n'
     yield (slots + under_not, card, bytes.fromhex('04 02')), 'refused 18 1\n'
+
+
+def by_marks(guide):
+    """By marks: the files that the guide tells of, and how the desk's listing ends."""
+    rules = '\n'.join(section(guide, 'Files that 18 refuses')[0]).encode()
+    for card, slip, changes, fired in (
+            ('10 4C 4C', '08 06 22', ('status obsolete', 'place appendix', 'page proof'), (2, 4)),
+            ('10 4C 4C', '08 06 12', ('status obsolete', 'label dated', 'page proof'), (1, 3)),
+            ('10 4C 4C', '08 06 13', ('status obsolete', 'label local', 'place appendix', 'page proof'), (2, 4)),
+            ('10 4C 8C', '04 06', ('status obsolete', 'label dated', 'page proof'), (1, 3))):
+        lines = ''.join(f'change {change}\n' for change in changes) + ''.join(f'fired {rule}\n' for rule in fired)
+        yield (rules, bytes.fromhex(card), bytes.fromhex(slip)), f'{lines}rules fired 2\ntally 1 0\n'
+    yield (rules, bytes.fromhex('10 4C 4C'), bytes.fromhex('04 06')), '\nrefused 42 0\n'
+    for (files, begins), ends in zip(waking(guide), ('\nrules fired 2\ntally 1 0\n', '\nrules fired 2\ntally 1 0\n', '\nrefused 42 0\n')):
+        yield files, ends
 
 
 def blocks(part):
@@ -56,24 +77,31 @@ def blocks(part):
 
 def main():
     guide = print_cases.guide()
-    with open(os.path.join(TOP, 'examples/dialect/expected'), encoding='utf-8') as file:
-        listing = ''.join(f'    {line}' for line in file)
+    indented = {}
+    for name in ('dialect/expected', 'marks/rules.txt', 'marks/desk.txt'):
+        with open(os.path.join(TOP, 'examples', name), encoding='utf-8') as file:
+            indented[name] = '\n' + ''.join(f'    {line}' for line in file) + '\n'
     wrong, numbers = 0, []
     for number, files in examples(guide):
         numbers.append(int(number))
-        if not printed(files).startswith(f'refused {number} '):
-            print(f'the example of {number} comes to {printed(files)!r}')
+        shown = printed(files, BY_MARKS if number in ('41', '42') else PROGRAM)
+        if not re.search(rf'^refused {number} \d+\n\Z', shown, re.M):
+            print(f'the example of {number} comes to {shown!r}')
             wrong = 1
-    if numbers != [*range(11, 19), *range(20, 29), 40]:
+    if numbers != [*range(11, 19), *range(20, 29), 40, 41, 42]:
         print(f'examples stand for {numbers}')
         wrong = 1
     rows = [int(number) for number in re.findall(r'^\| (\d\d) \|', guide, re.M)]
-    if rows != [*range(10, 19), 34, *range(20, 29), 40, *range(30, 34)]:
+    if rows != [*range(10, 19), 34, *range(20, 29), *range(40, 43), *range(30, 34)]:
         print(f'rows stand for {rows}')
         wrong = 1
     for files, begins in waking(guide):
         if not printed(files).startswith(begins):
             print(f'rules that wake each other come to {printed(files)!r}')
+            wrong = 1
+    for files, ends in by_marks(guide):
+        if not printed(files, BY_MARKS).endswith(ends):
+            print(f'by marks an example comes to {printed(files, BY_MARKS)!r}')
             wrong = 1
     before, after = print_cases.guided()
     if b''.join(print_cases.printed(before, print_cases.PRINT_BYTES)) != after:
@@ -82,9 +110,10 @@ def main():
     if not printed((SLOTS, CARD, SLIP)).startswith('change dating before-1900\n'):
         print('the card and the slip of the guide get no answer')
         wrong = 1
-    if listing not in guide:
-        print('the listing of examples/dialect is not in the guide')
-        wrong = 1
+    for name, lines in indented.items():
+        if lines not in guide:
+            print(f'examples/{name} is not in the guide')
+            wrong = 1
     return wrong
 
 

@@ -18,7 +18,7 @@ ENTRY_POINTS = {
     'packing': ['pack_card', 'pack_slip'],
     'response': ['respond'],
     'listing': ['list'],
-    'library': ['rl_read', 'rl_print', 'rl_is_sound', 'rl_slot_name', 'rl_value_name', 'rl_unpack_card', 'rl_unpack_slip', 'rl_pack_card', 'rl_pack_slip', 'rl_respond'],
+    'library': ['rl_read', 'rl_read_unlayered', 'rl_print', 'rl_is_sound', 'rl_slot_name', 'rl_value_name', 'rl_unpack_card', 'rl_unpack_slip', 'rl_pack_card', 'rl_pack_slip', 'rl_respond', 'rl_respond_by_marks'],
 }
 
 

@@ -1,6 +1,8 @@
-/* A desk in C: reads rules.txt, card.bin and slip.bin in a folder, asks for the response and prints what changes, by name. */
+/* A desk in C: reads rules.txt, card.bin and slip.bin in a folder, asks for the response and prints what changes, by name. With the word `marks` after the folder it reads without test 18 and asks for the response by marks. */
 #include "folder.h"
 #include "rl.h"
+
+#include <string.h>
 
 /* Prints a slot's name and a value's name, each a part of the rule text; a card's 0 is no value. */
 static void print_pair(const char *what, const uint8_t *text, size_t length, const RlTable *table, size_t slot,
@@ -20,16 +22,22 @@ static void print_pair(const char *what, const uint8_t *text, size_t length, con
 int main(int count, char **words) {
     static uint8_t text[ROOM], card[ROOM], slip[ROOM];
     const char *folder = named(count, words);
+    bool by_marks = count > 2 && strcmp(words[2], "marks") == 0;
     size_t text_length = load(folder, "rules.txt", text);
     size_t card_length = load(folder, "card.bin", card);
     size_t slip_length = load(folder, "slip.bin", slip);
 
     static RlRead rules;
-    rules = rl_read(text, text_length);
+    rules = by_marks ? rl_read_unlayered(text, text_length) : rl_read(text, text_length);
     stop_at(rules.number, rules.second);
     const RlTable *table = &rules.table;
 
-    RlCard before = rl_unpack_card(*table, card, card_length);
+    /* The same slots without rules, by which cards and slips unpack whatever the strata are. */
+    static RlTable slots;
+    slots = *table;
+    slots.count = 0;
+
+    RlCard before = rl_unpack_card(slots, card, card_length);
     stop_at(before.number, before.second);
     for (size_t i = 0; i < before.card.count; i++) {
         print_pair("has", text, text_length, table, i, before.card.values[i]);
@@ -37,12 +45,13 @@ int main(int count, char **words) {
 
     RlTally tally = {0, 0};
     uint8_t new_card[RL_CARD_BYTES], changes[RL_SLIP_BYTES], fired[RL_FIRED_BYTES];
-    RlResponse response = rl_respond(*table, tally, card, card_length, slip, slip_length, new_card, sizeof new_card,
-                                     changes, sizeof changes, fired, sizeof fired);
+    RlResponse response = (by_marks ? rl_respond_by_marks : rl_respond)(
+        *table, tally, card, card_length, slip, slip_length, new_card, sizeof new_card, changes, sizeof changes, fired,
+        sizeof fired);
     tally = response.tally;
     stop_at(response.number, response.second);
 
-    RlSlip changed = rl_unpack_slip(*table, changes, response.length);
+    RlSlip changed = rl_unpack_slip(slots, changes, response.length);
     stop_at(changed.number, changed.second);
     for (size_t i = 0; i < changed.slip.count; i++) {
         print_pair("change", text, text_length, table, changed.slip.changes[i].slot, changed.slip.changes[i].value);

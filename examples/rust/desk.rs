@@ -1,4 +1,4 @@
-//! A desk in Rust: reads rules.txt, card.bin and slip.bin in a folder, asks for the response and prints what changes, by name.
+//! A desk in Rust: reads rules.txt, card.bin and slip.bin in a folder, asks for the response and prints what changes, by name. With the word `marks` after the folder it reads without test 18 and asks for the response by marks.
 
 mod folder;
 mod rl;
@@ -17,20 +17,23 @@ fn print_pair(what: &str, text: &[u8], table: &rl::Table, slot: usize, value: us
 }
 
 /// Reads the rules, shows the card, asks for the response and shows it.
-fn run(text: &[u8], card: &[u8], slip: &[u8]) -> Result<(), Refusal> {
-    let table = rl::read(text)?;
+fn run(by_marks: bool, text: &[u8], card: &[u8], slip: &[u8]) -> Result<(), Refusal> {
+    let table = if by_marks { rl::read_unlayered(text)? } else { rl::read(text)? };
+    let respond = if by_marks { rl::respond_by_marks } else { rl::respond };
+    // The same slots without rules, by which cards and slips unpack whatever the strata are.
+    let slots = rl::Table { count: 0, ..*table };
 
-    let before = rl::unpack_card(&table, card)?;
+    let before = rl::unpack_card(&slots, card)?;
     for (slot, value) in before.values[..before.count].iter().enumerate() {
         print_pair("has", text, &table, slot, (*value).into())?;
     }
 
     let (mut new_card, mut changes, mut fired) = ([0; rl::CARD_BYTES], [0; rl::SLIP_BYTES], [0; rl::FIRED_BYTES]);
     let tally = rl::Tally { answered: 0, refused: 0 };
-    let (tally, answer) = rl::respond(&table, tally, card, slip, &mut new_card, &mut changes, &mut fired);
+    let (tally, answer) = respond(&table, tally, card, slip, &mut new_card, &mut changes, &mut fired);
     let answer = answer?;
 
-    let changed = rl::unpack_slip(&table, &changes[..answer.length])?;
+    let changed = rl::unpack_slip(&slots, &changes[..answer.length])?;
     for change in &changed.changes[..changed.count] {
         print_pair("change", text, &table, change.slot.into(), change.value.into())?;
     }
@@ -44,6 +47,7 @@ fn run(text: &[u8], card: &[u8], slip: &[u8]) -> Result<(), Refusal> {
 
 fn main() {
     let folder = folder::named();
+    let by_marks = std::env::args().nth(2).as_deref() == Some("marks");
     let [text, card, slip] = ["rules.txt", "card.bin", "slip.bin"].map(|name| folder::load(&folder, name));
-    folder::given(run(&text, &card, &slip));
+    folder::given(run(by_marks, &text, &card, &slip));
 }

@@ -194,6 +194,7 @@ pub struct RlResponse {
 
 extern "C" {
     fn rl_read(text: *const u8, length: usize) -> RlRead;
+    fn rl_read_unlayered(text: *const u8, length: usize) -> RlRead;
     fn rl_print(text: *const u8, text_length: usize, out: *mut u8, out_length: usize) -> RlPrinted;
     fn rl_is_sound(table: Table) -> bool;
     fn rl_slot_name(text: *const u8, length: usize, table: Table, slot: usize) -> RlName;
@@ -216,6 +217,20 @@ extern "C" {
         fired: *mut u8,
         fired_length: usize,
     ) -> RlResponse;
+    fn rl_respond_by_marks(
+        table: Table,
+        tally: Tally,
+        card: *const u8,
+        card_length: usize,
+        slip: *const u8,
+        slip_length: usize,
+        new_card: *mut u8,
+        new_card_length: usize,
+        changes: *mut u8,
+        changes_length: usize,
+        fired: *mut u8,
+        fired_length: usize,
+    ) -> RlResponse;
 }
 
 // The functions over slices. Each is made where it is called, so that a program which calls none needs no library.
@@ -224,6 +239,12 @@ extern "C" {
 #[inline]
 pub fn read(text: &[u8]) -> RlRead {
     unsafe { rl_read(text.as_ptr(), text.len()) }
+}
+
+/// Reads a rule text without test 18, for the response by marks.
+#[inline]
+pub fn read_unlayered(text: &[u8]) -> RlRead {
+    unsafe { rl_read_unlayered(text.as_ptr(), text.len()) }
 }
 
 /// Prints a rule text in the house style into an output.
@@ -287,6 +308,35 @@ pub fn respond(
 ) -> RlResponse {
     unsafe {
         rl_respond(
+            *table,
+            tally,
+            card.as_ptr(),
+            card.len(),
+            slip.as_ptr(),
+            slip.len(),
+            new_card.as_mut_ptr(),
+            new_card.len(),
+            changes.as_mut_ptr(),
+            changes.len(),
+            fired.as_mut_ptr(),
+            fired.len(),
+        )
+    }
+}
+
+/// Responds to a packed card and a packed slip by marks.
+#[inline]
+pub fn respond_by_marks(
+    table: &Table,
+    tally: Tally,
+    card: &[u8],
+    slip: &[u8],
+    new_card: &mut [u8],
+    changes: &mut [u8],
+    fired: &mut [u8],
+) -> RlResponse {
+    unsafe {
+        rl_respond_by_marks(
             *table,
             tally,
             card.as_ptr(),

@@ -7,7 +7,7 @@ mod raw;
 pub use raw::{is_sound, Assignment, Card, Change, Literal, Name, Refusal, Rule, Slip, Slot, Table, Tally};
 pub use raw::{CARD_BYTES, FIRED_BYTES, PRINT_BYTES, SLIP_BYTES};
 
-use raw::{given, RlName};
+use raw::{given, RlName, RlRead, RlResponse};
 
 // Links the library whose functions raw.rs declares.
 #[link(name = "library", kind = "static")]
@@ -24,10 +24,25 @@ fn part(text: &[u8], name: RlName) -> Result<&[u8], Refusal> {
     given(name.number, 0, &text[name.start..name.start + name.size])
 }
 
+/// The table of a reading.
+fn table_of(read: RlRead) -> Result<Box<Table>, Refusal> {
+    given(read.number, read.second, Box::new(read.table))
+}
+
+/// The tally after a response, and what it answers.
+fn told(response: RlResponse) -> (Tally, Result<Answer, Refusal>) {
+    let answer = Answer { length: response.length, fired: response.fired };
+    (response.tally, given(response.number, response.second, answer))
+}
+
 /// Reads a rule text into a table.
 pub fn read(text: &[u8]) -> Result<Box<Table>, Refusal> {
-    let read = raw::read(text);
-    given(read.number, read.second, Box::new(read.table))
+    table_of(raw::read(text))
+}
+
+/// Reads a rule text without test 18 into a table with stratum 0 throughout, for the response by marks.
+pub fn read_unlayered(text: &[u8]) -> Result<Box<Table>, Refusal> {
+    table_of(raw::read_unlayered(text))
 }
 
 /// Prints a rule text in the house style into the output; gives the print's length.
@@ -80,7 +95,18 @@ pub fn respond(
     changes: &mut [u8],
     fired: &mut [u8],
 ) -> (Tally, Result<Answer, Refusal>) {
-    let response = raw::respond(table, tally, card, slip, new_card, changes, fired);
-    let answer = Answer { length: response.length, fired: response.fired };
-    (response.tally, given(response.number, response.second, answer))
+    told(raw::respond(table, tally, card, slip, new_card, changes, fired))
+}
+
+/// Responds by marks to a packed card and a packed slip; gives the tally after it.
+pub fn respond_by_marks(
+    table: &Table,
+    tally: Tally,
+    card: &[u8],
+    slip: &[u8],
+    new_card: &mut [u8],
+    changes: &mut [u8],
+    fired: &mut [u8],
+) -> (Tally, Result<Answer, Refusal>) {
+    told(raw::respond_by_marks(table, tally, card, slip, new_card, changes, fired))
 }

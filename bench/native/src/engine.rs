@@ -8,10 +8,13 @@ use crate::table::Table;
 use crate::test31::tested;
 use crate::Refusal;
 
-/// The four entry points that are measured, and the table between reading and response.
+/// The entry points that are measured, and the table between reading and response.
 pub trait Engine {
     /// Reads a text into the engine's table, or gives a refusal 10 to 18 and leaves the table without slots or rules.
     fn read(&mut self, text: &[u8]) -> Result<(), Refusal>;
+
+    /// Reads a text without test 18 into the engine's table, or gives a refusal 10 to 17 and leaves the table without slots or rules.
+    fn read_unlayered(&mut self, text: &[u8]) -> Result<(), Refusal>;
 
     /// The table of the last reading.
     fn table(&self) -> &Table;
@@ -24,6 +27,16 @@ pub trait Engine {
 
     /// The response: the tally after it, and the answer or 32, 31, 20 to 28, 30, 40.
     fn respond(
+        &mut self,
+        table: &Table,
+        tally: Tally,
+        card: &[u8],
+        slip: &[u8],
+        outputs: Outputs,
+    ) -> (Tally, Result<Answer, Refusal>);
+
+    /// The response by marks: the tally after it, and the answer or 32, 31, 20 to 28, 30, 41, 42.
+    fn respond_by_marks(
         &mut self,
         table: &Table,
         tally: Tally,
@@ -58,6 +71,10 @@ impl Engine for Native {
         read::read(text, &mut self.table, &mut self.workspace)
     }
 
+    fn read_unlayered(&mut self, text: &[u8]) -> Result<(), Refusal> {
+        read::read_unlayered(text, &mut self.table, &mut self.workspace)
+    }
+
     fn table(&self) -> &Table {
         &self.table
     }
@@ -80,5 +97,16 @@ impl Engine for Native {
         outputs: Outputs,
     ) -> (Tally, Result<Answer, Refusal>) {
         response::respond(table, tally, card, slip, outputs)
+    }
+
+    fn respond_by_marks(
+        &mut self,
+        table: &Table,
+        tally: Tally,
+        card: &[u8],
+        slip: &[u8],
+        outputs: Outputs,
+    ) -> (Tally, Result<Answer, Refusal>) {
+        response::respond_by_marks(table, tally, card, slip, outputs)
     }
 }

@@ -4,6 +4,8 @@ use native::draw::{svg, Line, Panel};
 use native::engine::{Engine, Native};
 use native::input::Input;
 use native::inputs::inputs;
+use native::mark_inputs::mark_inputs;
+use native::mark_tables;
 use native::measure::{result, table_times, text_times};
 use native::proved::Proved;
 use native::table::Table;
@@ -125,27 +127,33 @@ fn print_growth(rows: &[Row]) {
     }
 }
 
-/// A panel of the growing rows.
-fn panel(rows: &[Row], title: &'static str, work: &'static str, point: impl Fn(&Row, usize) -> (f64, f64)) -> Panel {
-    let line = |name, colour, engine| Line {
-        name,
-        colour,
-        points: rows.iter().filter(|row| row.grows).map(|row| point(row, engine)).collect(),
-    };
+/// A panel with a line for each engine by its points.
+fn panel(title: &'static str, work: &'static str, points: impl Fn(usize) -> Vec<(f64, f64)>) -> Panel {
+    let line = |name, colour, engine| Line { name, colour, points: points(engine) };
     Panel { title, work, lines: vec![line("proved library", "#b03030", 0), line("native engine", "#3050b0", 1)] }
 }
 
 /// The drawing of the growing rows.
-fn drawing(rows: &[Row]) -> String {
-    let reading =
-        panel(rows, "Reading a rule text", "bytes of text", |row, engine| (row.bytes as f64, row.reading[engine]));
-    let response = panel(rows, "One response", "triggers, literals and assignments in the table", |row, engine| {
-        (row.pairs as f64, row.response.unwrap_or_default()[engine])
-    });
-    let printing = panel(rows, "Reading and printing a rule text", "bytes of text", |row, engine| {
-        (row.bytes as f64, row.printing[engine])
-    });
-    svg(&[reading, printing, response])
+fn drawing(rows: &[Row], mark_rows: &[mark_tables::Row]) -> String {
+    let (bytes, pairs) = ("bytes of text", "triggers, literals and assignments in the table");
+    let points = |point: fn(&Row, usize) -> (f64, f64)| {
+        move |engine: usize| rows.iter().filter(|row| row.grows).map(|row| point(row, engine)).collect()
+    };
+    let reading = points(|row, engine| (row.bytes as f64, row.reading[engine]));
+    let printing = points(|row, engine| (row.bytes as f64, row.printing[engine]));
+    let response = points(|row, engine| (row.pairs as f64, row.response.unwrap_or_default()[engine]));
+    let by_marks = |engine: usize| {
+        let growing = mark_rows.iter().filter(|row| row.grows);
+        let mut points: Vec<(f64, f64)> = growing.map(|row| row.point(engine)).collect();
+        points.sort_by(|one, other| one.0.total_cmp(&other.0));
+        points
+    };
+    svg(&[
+        panel("Reading a rule text", bytes, reading),
+        panel("Reading and printing a rule text", bytes, printing),
+        panel("One response", pairs, response),
+        panel("One response by marks", pairs, by_marks),
+    ])
 }
 
 /// Takes the smaller of each two times.
@@ -167,6 +175,22 @@ fn measure_again(proved: &mut dyn Engine, native: &mut dyn Engine, input: &Input
     }
 }
 
+/// Measures the response by marks on its inputs, and on others, which do not stand in its line of growing sizes; None for an input where results differ.
+fn mark_rows(proved: &mut dyn Engine, native: &mut dyn Engine, others: Vec<Input>) -> Vec<Option<mark_tables::Row>> {
+    let others = others.into_iter().map(|input| Input { grows: false, ..input });
+    let inputs: Vec<Input> = mark_inputs().into_iter().chain(others).collect();
+    let mut rows: Vec<Option<mark_tables::Row>> =
+        inputs.iter().map(|input| mark_tables::row(proved, native, input)).collect();
+    for _ in 1..ROUNDS {
+        for (input, row) in inputs.iter().zip(&mut rows) {
+            if let (Some(row), Some(again)) = (row, mark_tables::row(proved, native, input)) {
+                row.lower(again);
+            }
+        }
+    }
+    rows
+}
+
 fn main() {
     let (mut proved, mut native) = (Proved::new(), Native::new());
     let inputs = inputs();
@@ -182,8 +206,12 @@ fn main() {
     print_soundness(&rows);
     print_printing(&rows);
     print_growth(&rows);
+    let mark_rows = mark_rows(&mut proved, &mut native, inputs);
+    let same = same && mark_rows.iter().all(Option::is_some);
+    let mark_rows: Vec<mark_tables::Row> = mark_rows.into_iter().flatten().collect();
+    mark_tables::print_rows(&mark_rows);
     if let Some(file) = std::env::args().nth(1) {
-        std::fs::write(&file, drawing(&rows)).expect("the drawing is written");
+        std::fs::write(&file, drawing(&rows, &mark_rows)).expect("the drawing is written");
     }
     std::process::exit(if same { 0 } else { 1 });
 }

@@ -15,6 +15,9 @@ use crate::Refusal;
 const REPETITION: Duration = Duration::from_millis(1);
 const REPETITIONS: usize = 20;
 
+/// An answer or its refusal.
+pub type Outcome = std::result::Result<Answer, Refusal>;
+
 /// What an engine makes of an input.
 #[derive(PartialEq, Eq, Debug)]
 pub struct Result {
@@ -23,7 +26,7 @@ pub struct Result {
     /// Whether the table is in order, and whether it is with every stratum one higher.
     pub is_sound: [bool; 2],
     pub tally: Tally,
-    pub answer: std::result::Result<Answer, Refusal>,
+    pub answer: Outcome,
     pub outputs: [Vec<u8>; 3],
     pub printing: std::result::Result<usize, Refusal>,
     pub print: Vec<u8>,
@@ -34,15 +37,21 @@ fn rooms() -> [Vec<u8>; 3] {
     [CARD_BYTES, SLIP_BYTES, FIRED_BYTES].map(|length| vec![0xA5; length])
 }
 
-/// The response of an engine.
+/// The response of an engine by strata or by marks.
 fn respond(
     engine: &mut dyn Engine,
+    marks: bool,
     table: &Table,
     input: &Input,
     rooms: &mut [Vec<u8>; 3],
-) -> (Tally, std::result::Result<Answer, Refusal>) {
+) -> (Tally, Outcome) {
     let [card, changes, fired] = rooms;
-    engine.respond(table, Tally::default(), &input.card, &input.slip, Outputs { card, changes, fired })
+    let outputs = Outputs { card, changes, fired };
+    if marks {
+        engine.respond_by_marks(table, Tally::default(), &input.card, &input.slip, outputs)
+    } else {
+        engine.respond(table, Tally::default(), &input.card, &input.slip, outputs)
+    }
 }
 
 /// The output before a print.
@@ -63,7 +72,7 @@ pub fn result(engine: &mut dyn Engine, input: &Input) -> Result {
     let table = Box::new(*engine.table());
     let is_sound = [engine.is_sound(&table), engine.is_sound(&lifted(&table))];
     let mut outputs = rooms();
-    let (tally, answer) = respond(engine, &table, input, &mut outputs);
+    let (tally, answer) = respond(engine, false, &table, input, &mut outputs);
     let mut print = page();
     let printing = engine.print(&input.text, &mut print);
     Result { reading, table, is_sound, tally, answer, outputs, printing, print }
@@ -118,8 +127,59 @@ pub fn table_times(engines: [&mut dyn Engine; 2], input: &Input, table: &Table) 
     let [one, other, one_response, other_response] = best([
         &mut || _ = black_box(first.borrow_mut().is_sound(black_box(table))),
         &mut || _ = black_box(second.borrow_mut().is_sound(black_box(table))),
-        &mut || _ = black_box(respond(*first.borrow_mut(), black_box(table), input, &mut a)),
-        &mut || _ = black_box(respond(*second.borrow_mut(), black_box(table), input, &mut b)),
+        &mut || _ = black_box(respond(*first.borrow_mut(), false, black_box(table), input, &mut a)),
+        &mut || _ = black_box(respond(*second.borrow_mut(), false, black_box(table), input, &mut b)),
     ]);
     [[one, other], [one_response, other_response]]
+}
+
+/// What a response gave: the tally after it, the answer or the refusal, and the outputs.
+#[derive(PartialEq, Eq, Debug)]
+pub struct Response {
+    pub tally: Tally,
+    pub answer: Outcome,
+    pub outputs: [Vec<u8>; 3],
+}
+
+/// What an engine makes of an input by marks: the readings with test 18 and without, their tables, and four responses: by strata on the first and by marks on the second, then by marks on the first and by strata on the second.
+#[derive(PartialEq, Eq, Debug)]
+pub struct MarkResult {
+    pub readings: [std::result::Result<(), Refusal>; 2],
+    pub layered: Box<Table>,
+    pub table: Box<Table>,
+    pub responses: [Response; 4],
+}
+
+/// What an engine makes of an input by marks.
+pub fn mark_result(engine: &mut dyn Engine, input: &Input) -> MarkResult {
+    let with_18 = engine.read(&input.text);
+    let layered = Box::new(*engine.table());
+    let without_18 = engine.read_unlayered(&input.text);
+    let table = Box::new(*engine.table());
+    let asked = [(false, &layered), (true, &table), (true, &layered), (false, &table)];
+    let responses = asked.map(|(marks, table)| {
+        let mut outputs = rooms();
+        let (tally, answer) = respond(engine, marks, table, input, &mut outputs);
+        Response { tally, answer, outputs }
+    });
+    MarkResult { readings: [with_18, without_18], layered, table, responses }
+}
+
+/// The best times of two engines in microseconds: of reading with test 18 and without, of the strata response on the first table and of the response by marks on the second.
+pub fn mark_times(engines: [&mut dyn Engine; 2], input: &Input, layered: &Table, table: &Table) -> [[f64; 2]; 4] {
+    let [first, second] = engines.map(RefCell::new);
+    let mut outputs = [(); 4].map(|()| rooms());
+    let [a, b, c, d] = &mut outputs;
+    let text = || black_box(&input.text[..]);
+    let times = best([
+        &mut || _ = black_box(first.borrow_mut().read(text())),
+        &mut || _ = black_box(second.borrow_mut().read(text())),
+        &mut || _ = black_box(first.borrow_mut().read_unlayered(text())),
+        &mut || _ = black_box(second.borrow_mut().read_unlayered(text())),
+        &mut || _ = black_box(respond(*first.borrow_mut(), false, black_box(layered), input, a)),
+        &mut || _ = black_box(respond(*second.borrow_mut(), false, black_box(layered), input, b)),
+        &mut || _ = black_box(respond(*first.borrow_mut(), true, black_box(table), input, c)),
+        &mut || _ = black_box(respond(*second.borrow_mut(), true, black_box(table), input, d)),
+    ]);
+    [0, 2, 4, 6].map(|at| [times[at], times[at + 1]])
 }

@@ -30,6 +30,11 @@ impl Engine for Proved {
         given(self.read.number, self.read.second, ())
     }
 
+    fn read_unlayered(&mut self, text: &[u8]) -> Result<(), Refusal> {
+        *self.read = raw::read_unlayered(text);
+        given(self.read.number, self.read.second, ())
+    }
+
     fn table(&self) -> &Table {
         &self.read.table
     }
@@ -53,6 +58,20 @@ impl Engine for Proved {
     ) -> (Tally, Result<Answer, Refusal>) {
         let Outputs { card: new_card, changes, fired } = outputs;
         let response = raw::respond(table, tally, card, slip, new_card, changes, fired);
+        let answer = Answer { length: response.length, fired: response.fired };
+        (response.tally, given(response.number, response.second, answer))
+    }
+
+    fn respond_by_marks(
+        &mut self,
+        table: &Table,
+        tally: Tally,
+        card: &[u8],
+        slip: &[u8],
+        outputs: Outputs,
+    ) -> (Tally, Result<Answer, Refusal>) {
+        let Outputs { card: new_card, changes, fired } = outputs;
+        let response = raw::respond_by_marks(table, tally, card, slip, new_card, changes, fired);
         let answer = Answer { length: response.length, fired: response.fired };
         (response.tally, given(response.number, response.second, answer))
     }

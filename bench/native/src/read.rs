@@ -22,8 +22,8 @@ impl Workspace {
     }
 }
 
-/// Reads a text into a table, or gives a refusal 10 to 18 and leaves the table without slots or rules.
-pub fn read(text: &[u8], table: &mut Table, workspace: &mut Workspace) -> Result<(), Refusal> {
+/// Reads a text into a table with stratum 0 throughout, or gives a refusal 10 to 17 and leaves the table without slots or rules.
+pub fn read_unlayered(text: &[u8], table: &mut Table, workspace: &mut Workspace) -> Result<(), Refusal> {
     table.clear();
     if text.len() > TEXT {
         return Err(refusal(10, 0));
@@ -31,7 +31,16 @@ pub fn read(text: &[u8], table: &mut Table, workspace: &mut Workspace) -> Result
     workspace.names.clear();
     let mut reader = Reader { scan: Scanner::new(text), table, names: &mut workspace.names };
     let read = reader.file().map_err(|number| refusal(number, reader.table.count as usize));
-    let layered = read.and_then(|()| strata::layer(table, &mut workspace.graph).map_err(|rule| refusal(18, rule)));
+    if read.is_err() {
+        table.clear();
+    }
+    read
+}
+
+/// Reads a text into a table, or gives a refusal 10 to 18 and leaves the table without slots or rules.
+pub fn read(text: &[u8], table: &mut Table, workspace: &mut Workspace) -> Result<(), Refusal> {
+    read_unlayered(text, table, workspace)?;
+    let layered = strata::layer(table, &mut workspace.graph).map_err(|rule| refusal(18, rule));
     if layered.is_err() {
         table.clear();
     }

@@ -1,10 +1,11 @@
-//! The response: the tests of its inputs, then the answer.
+//! The responses by strata and by marks: the tests of their inputs, then the answer.
 
-use crate::cards::{bytes_for, unpack_card, unpack_slip, write_card, write_slip};
-use crate::firing::fire;
+use crate::cards::{bytes_for, unpack_card, unpack_slip, write_card, write_slip, Changes};
+use crate::firing::{fire, Fired};
+use crate::marks::mark;
 use crate::raw::{Tally, SLIP_BYTES};
 use crate::table::{Table, SLOTS};
-use crate::test31::tested;
+use crate::test31::{tested, tested_for_marks, Lasts};
 use crate::{refusal, Refusal};
 
 /// The number at which a tally is full.
@@ -39,19 +40,39 @@ fn room(table: &Table, outputs: &Outputs) -> Result<(), Refusal> {
     Ok(())
 }
 
-/// The answer, or 31, 20 to 28, 30, 40.
+/// The rules fired by strata, or 40.
 #[inline]
-fn answer(table: &Table, card: &[u8], slip: &[u8], outputs: &mut Outputs) -> Result<Answer, Refusal> {
-    let lasts = tested(table).ok_or(refusal(31, 0))?;
-    let mut values = unpack_card(&lasts, table.width as usize, card)?;
-    let mut changes = unpack_slip(&lasts, table.width as usize, slip)?;
-    room(table, outputs)?;
-    let fired = fire(&table.rules[..table.count as usize], &values, &mut changes);
+fn by_strata(table: &Table, _: &Lasts, values: &[u8; SLOTS], changes: &mut Changes) -> Result<Fired, Refusal> {
+    let fired = fire(&table.rules[..table.count as usize], values, changes);
     let conflicts: u32 =
         (0..SLOTS).map(|slot| u32::from(changes[slot] & changes[slot].wrapping_sub(1) != 0) << slot).sum();
     if conflicts != 0 {
         return Err(refusal(40, conflicts.trailing_zeros() as usize));
     }
+    Ok(fired)
+}
+
+/// The rules fired by marks, or 41 or 42.
+#[inline]
+fn by_marks(table: &Table, lasts: &Lasts, values: &[u8; SLOTS], changes: &mut Changes) -> Result<Fired, Refusal> {
+    mark(&table.rules[..table.count as usize], lasts, values, changes).map_err(|number| refusal(number, 0))
+}
+
+/// The answer on a table that was tested, or 31, 20 to 28, 30, or the refusal of what decides on the card's values and the slip's changes: it gives the fired rules, and the changes become all changes.
+#[inline]
+fn answer(
+    table: &Table,
+    tested: Option<Lasts>,
+    card: &[u8],
+    slip: &[u8],
+    outputs: &mut Outputs,
+    decide: impl FnOnce(&Table, &Lasts, &[u8; SLOTS], &mut Changes) -> Result<Fired, Refusal>,
+) -> Result<Answer, Refusal> {
+    let lasts = tested.ok_or(refusal(31, 0))?;
+    let mut values = unpack_card(&lasts, table.width as usize, card)?;
+    let mut changes = unpack_slip(&lasts, table.width as usize, slip)?;
+    room(table, outputs)?;
+    let fired = decide(table, &lasts, &values, &mut changes)?;
     for (value, change) in values.iter_mut().zip(&changes) {
         if *change != 0 {
             *value = change.trailing_zeros() as u8;
@@ -66,7 +87,21 @@ fn answer(table: &Table, card: &[u8], slip: &[u8], outputs: &mut Outputs) -> Res
     Ok(Answer { length, fired: fired.iter().map(|word| word.count_ones() as usize).sum() })
 }
 
-/// The response: the tally after it, and the answer or 32, 31, 20 to 28, 30, 40.
+/// Counts an answer or its refusal; 32 where the tally is full.
+#[inline]
+fn counted(tally: Tally, answer: impl FnOnce() -> Result<Answer, Refusal>) -> (Tally, Result<Answer, Refusal>) {
+    if tally.answered >= FULL || tally.refused >= FULL {
+        return (tally, Err(refusal(32, 0)));
+    }
+    let answer = answer();
+    let after = match answer {
+        Ok(_) => Tally { answered: tally.answered + 1, ..tally },
+        Err(_) => Tally { refused: tally.refused + 1, ..tally },
+    };
+    (after, answer)
+}
+
+/// The strata response: the tally after it, and the answer or 32, 31, 20 to 28, 30, 40.
 pub fn respond(
     table: &Table,
     tally: Tally,
@@ -74,13 +109,16 @@ pub fn respond(
     slip: &[u8],
     mut outputs: Outputs,
 ) -> (Tally, Result<Answer, Refusal>) {
-    if tally.answered >= FULL || tally.refused >= FULL {
-        return (tally, Err(refusal(32, 0)));
-    }
-    let answer = answer(table, card, slip, &mut outputs);
-    let after = match answer {
-        Ok(_) => Tally { answered: tally.answered + 1, ..tally },
-        Err(_) => Tally { refused: tally.refused + 1, ..tally },
-    };
-    (after, answer)
+    counted(tally, || answer(table, tested(table), card, slip, &mut outputs, by_strata))
+}
+
+/// The response by marks: the tally after it, and the answer or 32, 31, 20 to 28, 30, 41, 42.
+pub fn respond_by_marks(
+    table: &Table,
+    tally: Tally,
+    card: &[u8],
+    slip: &[u8],
+    mut outputs: Outputs,
+) -> (Tally, Result<Answer, Refusal>) {
+    counted(tally, || answer(table, tested_for_marks(table), card, slip, &mut outputs, by_marks))
 }

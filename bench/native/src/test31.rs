@@ -1,6 +1,6 @@
 //! The test 31 of an arbitrary table.
 
-use crate::least::{are_least, raise};
+use crate::least::{are_least, raise, Numbers};
 use crate::table::{Rule, Table, ASSIGNMENTS, LITERALS, PAIRS, RULES, SLOTS, VALUES};
 
 /// The last value of each slot that a table has, 0 for every other byte.
@@ -45,16 +45,33 @@ fn is_wrong(lasts: &Lasts, rule: &Rule) -> bool {
     wrong
 }
 
-/// The last values of a table's slots, or None where the table is refused with 31.
+/// The last values of a table's slots, or None where the table is refused with 31 by the strata response.
+#[inline]
 pub fn tested(table: &Table) -> Option<Lasts> {
-    let lasts = lasts(table)?;
-    let rules = &table.rules[..table.count as usize];
     let mut high = [0; PAIRS];
-    for rule in rules {
+    let lasts = well_formed(table, &mut high)?;
+    are_least(&table.rules[..table.count as usize], &high).then_some(lasts)
+}
+
+/// The last values of a table's slots, or None where the table is refused with 31 by the response by marks: strata may be 0 throughout.
+#[inline]
+pub fn tested_for_marks(table: &Table) -> Option<Lasts> {
+    let mut high = [0; PAIRS];
+    let lasts = well_formed(table, &mut high)?;
+    let rules = &table.rules[..table.count as usize];
+    let strata = rules.iter().fold(0, |all, rule| all | rule.stratum);
+    (strata == 0 || are_least(rules, &high)).then_some(lasts)
+}
+
+/// The last values of a table's slots, or None where the table is refused with 31 whatever its strata; raises for each pair the highest stratum of the rules that assign it.
+#[inline]
+fn well_formed(table: &Table, high: &mut Numbers) -> Option<Lasts> {
+    let lasts = lasts(table)?;
+    for rule in &table.rules[..table.count as usize] {
         if is_wrong(&lasts, rule) {
             return None;
         }
-        raise(&mut high, rule);
+        raise(high, rule);
     }
-    are_least(rules, &high).then_some(lasts)
+    Some(lasts)
 }

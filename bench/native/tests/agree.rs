@@ -5,8 +5,9 @@ use native::raw::{Tally, PRINT_BYTES};
 use native::response::Outputs;
 use native::table::{Assignment, Literal, Name, Rule, Slot, Table};
 use native::Refusal;
-use second::engine::{Engine as _, Second};
+use second::engine::{Engine as _, Second, Way};
 use second::gen::{any_file, card, rooms, slip, tally, Rng};
+use second::gen_marks;
 use second::gen_tables::damaged;
 use second::gen_text::Sketch;
 use second::print::{printed, put};
@@ -46,8 +47,8 @@ fn refused(why: second::Refusal) -> Refusal {
     Refusal { number: why.number, second: why.second }
 }
 
-/// One response of both engines to a generated card, slip, tally and outputs; gives the number it came to.
-fn responses(rng: &mut Rng, table: &SecondTable, sketch: &Sketch, engine: &mut Native) -> u8 {
+/// One response of both engines by a way to a generated card, slip, tally and outputs; gives the number it came to.
+fn responses(rng: &mut Rng, way: Way, table: &SecondTable, sketch: &Sketch, engine: &mut Native) -> u8 {
     let (card, slip, tally) = (card(rng, sketch), slip(rng, sketch), tally(rng));
     let needed = [(6 + 4 * table.width.min(40) as usize).div_ceil(8), 37, (table.count as usize).min(300).div_ceil(8)];
     let lengths = rooms(rng, needed);
@@ -55,11 +56,15 @@ fn responses(rng: &mut Rng, table: &SecondTable, sketch: &Sketch, engine: &mut N
     let mut ours = theirs.clone();
     let [a, b, c] = &mut theirs;
     let outputs = second::response::Outputs { card: a, changes: b, fired: c };
-    let (their_tally, their_answer) = Second.respond(table, tally, &card, &slip, outputs);
+    let (their_tally, their_answer) = Second.respond_by(way, table, tally, &card, &slip, outputs);
     let [a, b, c] = &mut ours;
     let before = Tally { answered: tally.answered as u16, refused: tally.refused as u16 };
     let outputs = Outputs { card: a, changes: b, fired: c };
-    let (our_tally, our_answer) = engine.respond(&converted(table), before, &card, &slip, outputs);
+    let given = converted(table);
+    let (our_tally, our_answer) = match way {
+        Way::Strata => engine.respond(&given, before, &card, &slip, outputs),
+        Way::Marks => engine.respond_by_marks(&given, before, &card, &slip, outputs),
+    };
     assert_eq!(theirs, ours);
     assert_eq!((their_tally.answered, their_tally.refused), (our_tally.answered.into(), our_tally.refused.into()));
     assert_eq!(their_answer.map_err(refused), our_answer.map(|answer| answer.length));
@@ -101,11 +106,36 @@ fn agrees_with_the_second_engine() {
         }
         let given = if round % 4 == 0 { damaged(&mut rng, &theirs, file.text.len()) } else { theirs };
         for _ in 0..3 {
-            seen[responses(&mut rng, &given, &file.sketch, &mut engine) as usize] += 1;
+            seen[responses(&mut rng, Way::Strata, &given, &file.sketch, &mut engine) as usize] += 1;
         }
     }
     println!("{seen:?}");
     for number in (10..=18).chain(20..=28).chain(30..=34).chain([40]) {
+        assert!(seen[number] > 0, "{number} never came up");
+    }
+}
+
+/// Readings without test 18 and responses by marks agree, and every number comes up; on files of any kind and on those made for it.
+#[test]
+fn agrees_with_the_second_engine_by_marks() {
+    let mut rng = Rng::new(21);
+    let mut engine = Native::new();
+    let mut seen = [0; 43];
+    for round in 0..20_000 {
+        let file = if round % 2 == 0 { any_file(&mut rng) } else { gen_marks::file(&mut rng) };
+        let (why, theirs) = Second.read_unlayered(&file.text);
+        let ours = engine.read_unlayered(&file.text);
+        assert_eq!(why.map(refused), ours.err(), "{}", String::from_utf8_lossy(&file.text));
+        assert!(*converted(&theirs) == *engine.table(), "round {round}");
+        seen[why.map_or(0, |why| why.number) as usize] += 1;
+        let layered = Second.read(&file.text).1;
+        let changed = damaged(&mut rng, if round % 3 == 0 { &theirs } else { &layered }, file.text.len());
+        for table in [&theirs, &theirs, &theirs, &layered, &changed] {
+            seen[responses(&mut rng, Way::Marks, table, &file.sketch, &mut engine) as usize] += 1;
+        }
+    }
+    println!("{seen:?}");
+    for number in (10..=17).chain(20..=28).chain(30..=32).chain([41, 42]) {
         assert!(seen[number] > 0, "{number} never came up");
     }
 }

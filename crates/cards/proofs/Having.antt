@@ -1,6 +1,6 @@
 -- Pairs that the slots have: a slip that is taken has such pairs alone, and such pairs with rising slots pass; so do values within their slots.
 -- Assumes nothing.
-use mathlib.Core.Path.{_≡_, refl, subst}
+use mathlib.Core.Path.{_≡_, refl, sym, ap, subst, _∙_}
 use mathlib.Core.Bool.{Bool, true, false, cond}
 use mathlib.Core.List.{List, [], _∷_}
 use mathlib.Core.Logic.{⊎-elim}
@@ -35,6 +35,27 @@ tested-has counts low at (q ∷ qs) e p t =
     let w = both-passed (eqb (change-fault counts low q) 0) (changes-test counts (suc (q .slot)) (suc at) qs) (change-fault counts low q) at e in
     let r = change-right counts low q (eqb-true (change-fault counts low q) 0 (w .0)) in
     ⊎-elim (λ s. rw (same-eq p q s) (record { below = r .below; first = r .first; last = r .last })) (tested-has counts (suc (q .slot)) (suc at) qs (w .1) p) (or-e (same p q) (among p qs) t)
+
+-- none below the lowest slot allowed,
+tested-above : (counts : List ℕ) (low at : ℕ) (ps : List Pair) → changes-test counts low at ps ≡ passed → (p : Pair) → T (among p ps) → low ≤ p .slot
+unfolding changes-test among
+tested-above counts low at [] e p t = absurd t
+tested-above counts low at (q ∷ qs) e p t =
+    let w = both-passed (eqb (change-fault counts low q) 0) (changes-test counts (suc (q .slot)) (suc at) qs) (change-fault counts low q) at e in
+    let r = change-right counts low q (eqb-true (change-fault counts low q) 0 (w .0)) in
+    ⊎-elim (λ s. rw (same-eq p q s) (r .above)) (λ s. omega (arith, r .above, tested-above counts (suc (q .slot)) (suc at) qs (w .1) p s)) (or-e (same p q) (among p qs) t)
+
+-- no two of one slot,
+pub tested-once : (counts : List ℕ) (low at : ℕ) (ps : List Pair) → changes-test counts low at ps ≡ passed → (p q : Pair) → T (among p ps) → T (among q ps) → p .slot ≡ q .slot → p .value ≡ q .value
+unfolding changes-test among
+tested-once counts low at [] e p q t u h = absurd t
+tested-once counts low at (x ∷ xs) e p q t u h =
+    let w = both-passed (eqb (change-fault counts low x) 0) (changes-test counts (suc (x .slot)) (suc at) xs) (change-fault counts low x) at e in
+    let later = tested-above counts (suc (x .slot)) (suc at) xs (w .1) in
+    ⊎-elim
+    (λ a. ⊎-elim (λ b. ap (λ (y : Pair). y .value) (same-eq p x a ∙ sym (same-eq q x b))) (λ b. absurd (omega (arith, h, ap (λ (y : Pair). y .slot) (same-eq p x a), later q b))) (or-e (same q x) (among q xs) u))
+    (λ a. ⊎-elim (λ b. absurd (omega (arith, h, ap (λ (y : Pair). y .slot) (same-eq q x b), later p a))) (λ b. tested-once counts (suc (x .slot)) (suc at) xs (w .1) p q a b h) (or-e (same q x) (among q xs) u))
+    (or-e (same p x) (among p xs) t)
 
 -- and no more changes than there are slots.
 pub tested-few : (counts : List ℕ) (low at : ℕ) (ps : List Pair) → changes-test counts low at ps ≡ passed → low ≤ length counts → low + length ps ≤ length counts

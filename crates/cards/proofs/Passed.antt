@@ -17,7 +17,8 @@ use Rattle.table.specs.Link.{value-counts}
 use Rattle.table.proofs.Link.{count-is}
 use Rattle.table.proofs.Link as link
 use Rattle.soundness.specs.Sound.{sound}
-use Rattle.soundness.specs.inner.Admitted.{Admitted}
+use Rattle.soundness.specs.declared.Entry.{Entry}
+use Rattle.soundness.specs.inner.Admitted.{Admitted, Enters}
 use Rattle.soundness.proofs.Sound.{sound-width, sound-values}
 use Rattle.cards.specs.declared.Card.{Card}
 use Rattle.cards.specs.declared.Slip.{Slip}
@@ -34,23 +35,27 @@ pub record Slots (counts : List ℕ) : Type 0 where
   pub few : length counts ≤ slot-limit
   pub small : (i : ℕ) → i < length counts → getD counts i 0 ≤ value-limit
 
--- Those of a sound table are.
-module _ (t : Table) (sh : Shaped t) (e : sound t ≡ true) where
+-- A table with slots within their limit counts as many, and the counts that were kept of it are those of its slots.
+module _ (t : Table) (sh : Shaped t) (few : t .width ≤ slot-limit) where
   pub slots-length : length (value-counts t) ≡ t .width
-  slots-length = link.counts-length t (omega (arith, sh .slot-places, sound-width t e))
+  slots-length = link.counts-length t (omega (arith, sh .slot-places, few))
 
-  pub sound-slots : Slots (value-counts t)
-  sound-slots =
-      let l = slots-length in
-      record {
-        few = omega (arith, l, sound-width t e);
-        small = λ i h. (let k : i < t .width = omega (arith, l) in omega (arith, count-is t i k, sound-values t sh e i k .1));
-      }
-
-  -- The counts that were kept of it are those of its slots.
   pub counts-all : (counts : List ℕ) (rows : List (List ℕ)) → Admitted t counts rows → counts-in (t .width) counts ≡ value-counts t
   unfolding counts-in
   counts-all counts rows a = sym (is-tabulate (λ i. getD counts i 0) (t .width) 0 (value-counts t) slots-length (λ i h. count-is t i h ∙ sym (a .same-count i h)))
+
+  -- They are so by the number of slots that is said when it is entered.
+  pub counts-entered : (passes : Bool) (e : Entry) (counts : List ℕ) (rows : List (List ℕ)) → e .passed ≡ true → Enters t passes e counts rows → counts-in (e .width) counts ≡ value-counts t
+  counts-entered passes e counts rows p w = rw (w .width-is p) (counts-all counts rows (w .admitted p))
+
+-- The slots of a sound table are within the limits.
+pub sound-slots : (t : Table) → Shaped t → sound t ≡ true → Slots (value-counts t)
+sound-slots t sh e =
+    let l = slots-length t sh (sound-width t e) in
+    record {
+      few = omega (arith, l, sound-width t e);
+      small = λ i h. (let k : i < t .width = omega (arith, l) in omega (arith, count-is t i k, sound-values t sh e i k .1));
+    }
 
 -- A verdict by its outcome.
 pub outcome-fault : (v : Verdict) (k s : ℕ) → verdict-outcome v ≡ outcome.Refused k s → v ≡ fault k s

@@ -1,4 +1,5 @@
 pub mod Holding
+pub mod Filling
 pub mod Truths
 pub mod Lists
 pub mod Sorting

@@ -14,13 +14,13 @@ use Rattle.table.specs.inner.Flat.{pair-places}
 use Rattle.firing.specs.declared.waiting.Turn.{Turn}
 use Rattle.firing.specs.inner.Waiting.{Waiting, Woken, turn-of}
 
--- Numbers stay within a bound that the one put among them keeps.
-set-low : (xs : List ℕ) (i x b : ℕ) → ((k : ℕ) → getD xs k 0 ≤ b) → x ≤ b → (k : ℕ) → getD (set xs i x) k 0 ≤ b
-set-low [] i x b h l k = h k
-set-low (y ∷ ys) zero x b h l zero = l
-set-low (y ∷ ys) zero x b h l (suc k) = h (suc k)
-set-low (y ∷ ys) (suc i) x b h l zero = h zero
-set-low (y ∷ ys) (suc i) x b h l (suc k) = set-low ys i x b (λ j. h (suc j)) l k
+-- Numbers stay within their bounds where the one put among them does.
+pub set-low : (xs : List ℕ) (i x : ℕ) (bound : ℕ → ℕ) → ((k : ℕ) → getD xs k 0 ≤ bound k) → x ≤ bound i → (k : ℕ) → getD (set xs i x) k 0 ≤ bound k
+set-low [] i x bound h l k = h k
+set-low (y ∷ ys) zero x bound h l zero = l
+set-low (y ∷ ys) zero x bound h l (suc k) = h (suc k)
+set-low (y ∷ ys) (suc i) x bound h l zero = h zero
+set-low (y ∷ ys) (suc i) x bound h l (suc k) = set-low ys i x (λ j. bound (suc j)) (λ j. h (suc j)) l k
 
 -- At first no rule waits.
 pub waiting-start : (n : ℕ) → Waiting n (replicate pair-places 0) (replicate rule-limit 0)
@@ -32,13 +32,13 @@ waiting-start n = record {
 -- A rule comes to the head of a list.
 pub waiting-more : (n i p : ℕ) (heads nexts : List ℕ) → i < n → Waiting n heads nexts → Waiting n (set heads p (i + 1)) (set nexts i (getD heads p 0))
 waiting-more n i p heads nexts h w = record {
-  heads-low = set-low heads p (i + 1) n (w .heads-low) (omega arith);
-  nexts-low = set-low nexts i (getD heads p 0) n (w .nexts-low) (w .heads-low p);
+  heads-low = set-low heads p (i + 1) (λ k. n) (w .heads-low) (omega arith);
+  nexts-low = set-low nexts i (getD heads p 0) (λ k. n) (w .nexts-low) (w .heads-low p);
 }
 
 -- A list is emptied.
 pub waiting-less : (n p : ℕ) (heads nexts : List ℕ) → Waiting n heads nexts → Waiting n (set heads p 0) nexts
-waiting-less n p heads nexts w = record { heads-low = set-low heads p 0 n (w .heads-low) (omega arith); nexts-low = w .nexts-low }
+waiting-less n p heads nexts w = record { heads-low = set-low heads p 0 (λ k. n) (w .heads-low) (omega arith); nexts-low = w .nexts-low }
 
 -- At the start of a pass no rule is woken.
 pub woken-none : (n : ℕ) (woken : List ℕ) → length woken ≡ rule-limit → Woken n 0 woken

@@ -1,7 +1,7 @@
--- What a result is, by the case of the answer's enum.
+-- What a result is, by its numbers or by the case of the answer's enum.
 -- Assumes nothing.
 use mathlib.Core.Path.{_≡_, ap, sym}
-use Rattle.reader.specs.declared.Outcome.{Outcome}
+use Prim.Native.Nat.{ℕ}
 use Rattle.reader.specs.declared.FileRead.{FileRead}
 use Rattle.reader.specs.Tables.{reading-refusal, reading-second}
 use Rattle.cards.specs.declared.Outcome as unpacking
@@ -13,9 +13,9 @@ use Rattle.library.specs.declared.RlCard.{RlCard}
 use Rattle.library.specs.declared.RlSlip.{RlSlip}
 use Rattle.library.specs.Results.{reading-numbers, card-numbers, slip-numbers}
 
--- A reading whose outcome is known.
-pub read-known : (r q : FileRead) (o : Outcome) → r ≡ q → r .outcome ≡ o → _≡_ {A = RlRead} (record { number = reading-refusal o; second = reading-second o; table = r .table }) (reading-numbers q)
-read-known r q o e k = rw (sym k) (ap reading-numbers e)
+-- A reading, from its numbers and its table.
+pub read-numbered : (r q : FileRead) (k n : ℕ) → r ≡ q → k ≡ reading-refusal (r .outcome) → n ≡ reading-second (r .outcome) → _≡_ {A = RlRead} (record { number = k; second = n; table = r .table }) (reading-numbers q)
+read-numbered r q k n e a b = rw (a, b) (ap reading-numbers e)
 
 -- An unpacked card whose outcome is known.
 pub card-known : (r q : CardRead) (o : unpacking.Outcome) → r ≡ q → r .outcome ≡ o → _≡_ {A = RlCard} (record { number = unpacking-refusal o; second = unpacking-second o; card = r .card }) (card-numbers q)

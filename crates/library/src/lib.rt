@@ -4,10 +4,11 @@ ghost use lib.ListN.{length};
 ghost use Rattle.laws.specs.Answers.{output-of};
 ghost use Rattle.names.specs.Names.{show-name, show-slot, show-value-of, show-value};
 ghost use Rattle.soundness.specs.Sound.{sound};
-ghost use Rattle.rule_file.specs.Whole.{reading};
+ghost use Rattle.reader.specs.Tables.{reading-refusal, reading-second};
+ghost use Rattle.rule_file.specs.Whole.{reading, reading-without-18};
 ghost use Rattle.printing.specs.Printing.{print-into, printing-of};
 ghost use Rattle.cards.specs.Cards.{unpacked-card, unpacked-slip, packed-card, packed-slip, card-read, slip-read, packing-of};
-ghost use Rattle.response.specs.Respond.{rooms-of, outputs, outputs-after, answer-to, response-to};
+ghost use Rattle.response.specs.Respond.{rooms-of, outputs, outputs-after, answer-to, response-to, marks-answer-to, marks-response-to};
 ghost use Rattle.library.specs.Results.{reading-numbers, print-numbers, name-numbers, card-numbers, slip-numbers, packing-numbers, numbered, response-numbers};
 use cards::Card;
 use cards::Packing;
@@ -17,6 +18,7 @@ use response::Outcome;
 use table::Name;
 use table::Slot;
 use table::Table;
+use table::Way;
 use tally::Tally;
 
 // A reading: the number of its refusal, 0 where the text is accepted, its second number, and the table, without slots or rules after a refusal.
@@ -77,29 +79,53 @@ pub struct RlResponse {
     pub tally: Tally,
 }
 
+// The number of a reading's refusal, 0 for none.
+fn refusal_of(outcome: reader::Outcome) -> u8
+    ensures { λ r. ⌜ r ≡ reading-refusal outcome ⌝ }
+{
+    match outcome {
+        reader::Outcome::Accepted => 0,
+        reader::Outcome::Refused(number, second) => number,
+    }
+}
+
+// Its second number.
+fn second_of(outcome: reader::Outcome) -> usize
+    ensures { λ r. ⌜ r ≡ reading-second outcome ⌝ }
+{
+    match outcome {
+        reader::Outcome::Accepted => 0,
+        reader::Outcome::Refused(number, second) => second,
+    }
+}
+
 // Reads a rule text: 10 to 18.
 #[no_mangle]
 pub extern "C" fn rl_read(text: &[u8]) -> RlRead
     ensures { λ r. ⌜ r ≡ reading-numbers (reading (now (text .entry))) ⌝ }
 {
-    let read = rule_file::read(text);
+    let read = rule_file::read(text, Way::Strata);
     let outcome = read.outcome;
     let t = read.table;
-    match outcome {
-        reader::Outcome::Accepted => {
-            return RlRead {
-                number: 0,
-                second: 0,
-                table: t,
-            };
-        }
-        reader::Outcome::Refused(k, n) => {
-            return RlRead {
-                number: k,
-                second: n,
-                table: t,
-            };
-        }
+    RlRead {
+        number: refusal_of(outcome),
+        second: second_of(outcome),
+        table: t,
+    }
+}
+
+// Reads a rule text without test 18, for the response by marks: 10 to 17; the table has stratum 0 throughout.
+#[no_mangle]
+pub extern "C" fn rl_read_unlayered(text: &[u8]) -> RlRead
+    ensures { λ r. ⌜ r ≡ reading-numbers (reading-without-18 (now (text .entry))) ⌝ }
+{
+    let read = rule_file::read(text, Way::Marks);
+    let outcome = read.outcome;
+    let t = read.table;
+    RlRead {
+        number: refusal_of(outcome),
+        second: second_of(outcome),
+        table: t,
     }
 }
 
@@ -338,7 +364,7 @@ fn numbered(outcome: Outcome, tally: Tally) -> RlResponse
     }
 }
 
-// Responds to a card and a slip: 32, 31, 20 to 28, 30, 40; an answer writes the new card, the changes and the fired record, a refusal nothing.
+// Responds to a card and a slip by strata: 32, 31, 20 to 28, 30, 40; an answer writes the new card, the changes and the fired record, a refusal nothing.
 #[no_mangle]
 pub extern "C" fn rl_respond(
     t: Table,
@@ -357,4 +383,25 @@ pub extern "C" fn rl_respond(
     let outcome = response.outcome;
     let after = response.tally;
     numbered(outcome, after)
+}
+
+// Responds to a card and a slip by marks: 32, 31, 20 to 28, 30, 41, 42; what is written is the same.
+#[no_mangle]
+pub extern "C" fn rl_respond_by_marks(
+    t: Table,
+    tally: Tally,
+    card: &[u8],
+    slip: &[u8],
+    renewed: &mut [u8],
+    changes: &mut [u8],
+    fired: &mut [u8],
+) -> RlResponse
+    ensures { λ r. ⌜ (r ≡ response-numbers (marks-response-to t tally (now (card .entry)) (now (slip .entry)) (rooms-of (now (renewed .entry)) (now (changes .entry)) (now (fired .entry)))))
+        × (outputs (now (renewed .exit)) (now (changes .exit)) (now (fired .exit))
+        ≡ outputs-after (marks-answer-to t tally (now (card .entry)) (now (slip .entry)) (rooms-of (now (renewed .entry)) (now (changes .entry)) (now (fired .entry)))) (outputs (now (renewed .entry)) (now (changes .entry)) (now (fired .entry)))) ⌝ }
+{
+    let response = response::respond_by_marks(t, tally, card, slip, renewed, changes, fired);
+    let told = response.outcome;
+    let counted = response.tally;
+    numbered(told, counted)
 }

@@ -22,9 +22,10 @@ use Rattle.model.proofs.Results.{slip-e, slip-length}
 use Rattle.table.specs.declared.Table.{Table}
 use Rattle.laws.specs.Limits.{slot-limit, row}
 use Rattle.table.specs.Link.{rules-of, value-counts}
-use Rattle.soundness.specs.Sound.{sound}
+use Rattle.table.specs.declared.Way.the-variants.{Strata}
+use Rattle.soundness.specs.Sound.{takes}
 use Rattle.cards.specs.Forms.{card-bits, slip-fields, slip-bytes, count-in, changes-in, read-card, read-slip}
-use Rattle.cards.specs.Cards.{no-change, pair-of, slip-of, if-sound}
+use Rattle.cards.specs.Cards.{no-change, pair-of, slip-of}
 use Rattle.cards.proofs.Tested.{no-pair}
 use Rattle.cards.proofs.Formed as formed
 use Rattle.cards.proofs.Taken.{change-at}
@@ -34,7 +35,7 @@ use Rattle.cards.proofs.FieldForms.{slip-bits-sum, slip-field-widths, slip-read
 use Rattle.tally.specs.declared.Tally.{Tally}
 use Rattle.tally.specs.Counting.{is-full}
 use Rattle.response.specs.Ending.{Answer, fired-record, answer-of, unless-conflict, answer-by-firing}
-use Rattle.response.specs.Respond.{_and-then_, Rooms, changes-room, if-room, answer-by-rules, answer-by-table, answer-to}
+use Rattle.response.specs.Respond.{_and-then_, Rooms, changes-room, if-room, answer-by, answer-by-rules, answer-by-table, answer-in, answer-to}
 use Rattle.response.proofs.AnswerLaws.{new-card-length, listed-fits}
 use Rattle.listing.specs.inner.AnswerLines.{ChangesWhole}
 
@@ -58,8 +59,8 @@ pub record Answering (width count : ℕ) (a : Answer) : Type 0 where
   pub ns : List ℕ
   pub is-answer : answer-of width count S C ns ≡ a
 
-by-rules : (counts : List ℕ) (rs : List Rule) (card slip : List ℕ) (rooms : Rooms) (a : Answer) → answer-by-rules counts rs card slip rooms ≡ taken a → Answering (length counts) (length rs) a
-unfolding answer-by-rules answer-by-firing unless-conflict if-room
+by-rules : (counts : List ℕ) (rs : List Rule) (card slip : List ℕ) (rooms : Rooms) (a : Answer) → answer-by-rules Strata counts rs card slip rooms ≡ taken a → Answering (length counts) (length rs) a
+unfolding answer-by-rules answer-by answer-by-firing unless-conflict if-room
 by-rules counts rs card slip rooms a e =
     let c = then-taken (read-card counts card) _ a e in
     let s = then-taken (read-slip counts slip) _ a (c .1) in
@@ -71,12 +72,12 @@ by-rules counts rs card slip rooms a e =
     record { S = c .0; C = C; ns = ns; is-answer = (let w : answer-of (length counts) (length rs) (c .0) C ns ≡ a = cc in w) }
 
 pub by-table : (t : Table) (y : Tally) (card slip : List ℕ) (rooms : Rooms) (a : Answer) → answer-to t y card slip rooms ≡ taken a → Answering (length (value-counts t)) (length (rules-of t)) a
-unfolding answer-to answer-by-table if-sound
-by-table t y card slip rooms a e = by-rules (value-counts t) (rules-of t) card slip rooms a (sound-taken (sound t) (cond-taken (is-full y) 32 0 _ a e))
+unfolding answer-in answer-by-table
+by-table t y card slip rooms a e = by-rules (value-counts t) (rules-of t) card slip rooms a (if-taken (takes Strata t) (cond-taken (is-full y) 32 0 _ a e))
   where
-    sound-taken : (b : Bool) → cond b (answer-by-rules (value-counts t) (rules-of t) card slip rooms) (refused 31 0) ≡ taken a → answer-by-rules (value-counts t) (rules-of t) card slip rooms ≡ taken a
-    sound-taken true e = e
-    sound-taken false e = absurd (not-taken 31 0 a e)
+    if-taken : (b : Bool) → cond b (answer-by-rules Strata (value-counts t) (rules-of t) card slip rooms) (refused 31 0) ≡ taken a → answer-by-rules Strata (value-counts t) (rules-of t) card slip rooms ≡ taken a
+    if-taken true e = e
+    if-taken false e = absurd (not-taken 31 0 a e)
 
 module _ (C : Pairs) (width : ℕ) (few : width ≤ slot-limit) where
   abbrev ps : List Pair

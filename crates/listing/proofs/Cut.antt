@@ -14,17 +14,16 @@ use Rattle.model.specs.Rules.{Pair}
 use Rattle.table.specs.declared.Table.{Table}
 use Rattle.table.specs.Link.{rules-of, value-counts}
 use Rattle.grammar.proofs.Forward.{read-long}
-use Rattle.soundness.specs.Sound.{sound}
+use Rattle.table.specs.declared.Way.the-variants.{Strata}
+use Rattle.soundness.specs.Sound.{takes}
 use Rattle.reader.specs.declared.Outcome.{Outcome}
 use Rattle.reader.specs.declared.Outcome.the-variants.{Accepted, Refused}
 use Rattle.rule_file.specs.Whole.{answered-whole, reading}
-use Rattle.cards.specs.Cards.{if-sound}
 use Rattle.cards.specs.Forms.{read-card, read-slip}
 use Rattle.cards.proofs.Taken.{card-short, slip-short}
 use Rattle.tally.specs.declared.Tally.{Tally}
 use Rattle.tally.specs.Counting.{fresh, is-full}
-use Rattle.response.specs.Ending.{answer-by-firing}
-use Rattle.response.specs.Respond.{_and-then_, Rooms, if-room, answer-by-rules, answer-by-table, answer-to}
+use Rattle.response.specs.Respond.{_and-then_, Rooms, if-room, answer-by, answer-by-rules, answer-by-table, answer-in, answer-to}
 use Rattle.listing.specs.Listing.{refusal, program-rooms, text-room, card-room, slip-room, list-response, list-reading, listing}
 use Rattle.listing.proofs.Small.{count-small}
 
@@ -55,11 +54,11 @@ slip-cut counts slip = ⊎-elim
     (λ (h : length slip < slip-room). ap (read-slip counts) (take-all slip-room slip (omega arith))) (le-or-lt slip-room (length slip))
 
 answer-cut : (t : Table) (y : Tally) (card slip : List ℕ) (rooms : Rooms) → answer-to t y (take card-room card) (take slip-room slip) rooms ≡ answer-to t y card slip rooms
-unfolding answer-to answer-by-table if-sound answer-by-rules
+unfolding answer-in answer-by-table answer-by-rules
 answer-cut t y card slip rooms =
     ap₂ (λ (u : OrRefused (List ℕ)) (v : OrRefused (List Pair)).
     cond (is-full y) (refused 32 0)
-    (cond (sound t) (u and-then λ S. v and-then λ I. if-room (length (value-counts t)) (length (rules-of t)) rooms (answer-by-firing (rules-of t) (length (value-counts t)) S I)) (refused 31 0)))
+    (cond (takes Strata t) (u and-then λ S. v and-then λ I. if-room (length (value-counts t)) (length (rules-of t)) rooms (answer-by Strata (value-counts t) (rules-of t) S I)) (refused 31 0)))
     (card-cut (value-counts t) card) (slip-cut (value-counts t) slip)
 
 entries-cut : (text card slip : List ℕ) (q : Outcome) (t : Table) → list-reading text q t (take card-room card) (take slip-room slip) ≡ list-reading text q t card slip

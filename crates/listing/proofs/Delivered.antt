@@ -13,7 +13,7 @@ use Rattle.tally.specs.Counting.{fresh}
 use Rattle.response.specs.declared.Outcome.the-variants.{Answered, Refused}
 use Rattle.response.specs.declared.Response.{Response}
 use Rattle.response.specs.Ending.{Answer}
-use Rattle.response.specs.Respond.{Outputs, outputs, outputs-after, answer-to, outcome-of, tally-after, response-to}
+use Rattle.response.specs.Respond.{Outputs, outputs, outputs-after, answer-to, outcome-of, tally-after, response-in, response-to}
 use Rattle.listing.specs.Listing.{refusal, program-rooms, list-response}
 use Rattle.listing.specs.inner.AnswerLines.{answer-bytes, list-answer}
 
@@ -48,7 +48,7 @@ module _ (text : List ℕ) (t : Table) (card slip : List ℕ) where
 
   pub delivers : (r : Response) (n f : ℕ) (x y z first second third : List ℕ) → r ≡ response-to t fresh card slip program-rooms
       → outputs x y z ≡ outputs-after answer (outputs first second third) → r .outcome ≡ Answered n f → Delivered n (r .tally) x y z
-  unfolding response-to outputs-after
+  unfolding response-in outputs-after
   delivers r n f x y z first second third e p o =
       let w = answered-e answer n f (sym (ap (λ (q : Response). q .outcome) e) ∙ o) in
       let a = w .0 in
@@ -71,5 +71,5 @@ module _ (text : List ℕ) (t : Table) (card slip : List ℕ) where
 
   -- A refusal.
   pub refused-listed : (r : Response) (k s : ℕ) → r ≡ response-to t fresh card slip program-rooms → r .outcome ≡ Refused k s → refusal k s ≡ list-response text t answer
-  unfolding response-to list-response
+  unfolding response-in list-response
   refused-listed r k s e o = rw (refused-e answer k s (sym (ap (λ (q : Response). q .outcome) e) ∙ o)) refl

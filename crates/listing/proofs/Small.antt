@@ -28,7 +28,8 @@ use Rattle.grammar.proofs.Accepts.{accepts-iff}
 use Rattle.grammar.proofs.Declared.{file-declared}
 use Rattle.table.specs.Empty.{empty-table}
 use Rattle.strata.specs.Layered.{with-strata}
-use Rattle.soundness.specs.Sound.{sound}
+use Rattle.table.specs.declared.Way.the-variants.{Strata}
+use Rattle.soundness.specs.Sound.{takes}
 use Rattle.grammar.specs.TableFor.{table-for}
 use Rattle.reader.specs.declared.FileRead.{FileRead}
 use Rattle.reader.specs.declared.Outcome.{Outcome}
@@ -36,12 +37,11 @@ use Rattle.reader.specs.declared.Outcome.the-variants.{Accepted, Refused}
 use Rattle.rule_file.specs.Whole.{layered, answered-whole, reading}
 use Rattle.rule_file.proofs.Answers.{refused-range}
 use Rattle.cards.specs.Forms.{card-bits, slip-bits, count-in, values-in, changes-in, padding, values-test, card-test, change-fault, changes-test, read-card, read-slip}
-use Rattle.cards.specs.Cards.{if-sound}
 use Rattle.cards.proofs.Taken.{values-length, changes-length}
 use Rattle.tally.specs.declared.Tally.{Tally}
 use Rattle.tally.specs.Counting.{is-full}
 use Rattle.response.specs.Ending.{Answer, answer-of, unless-conflict, answer-by-firing}
-use Rattle.response.specs.Respond.{_and-then_, Rooms, changes-room, if-room, answer-by-rules, answer-by-table, answer-to}
+use Rattle.response.specs.Respond.{_and-then_, Rooms, changes-room, if-room, answer-by, answer-by-rules, answer-by-table, answer-in, answer-to}
 
 -- Both numbers of a refusal.
 abbrev pub Small : ℕ → ℕ → Type 0
@@ -210,10 +210,10 @@ conflict-small width count S C ns h = go (ltb (conflict-slot width row C) width)
 
 -- The response by a table whose slots are within the limit.
 pub answer-small : (t : Table) (y : Tally) (card slip : List ℕ) (rooms : Rooms) → length (value-counts t) ≤ slot-limit → SmallAnswer (answer-to t y card slip rooms)
-unfolding answer-to answer-by-table if-sound answer-by-rules answer-by-firing
+unfolding answer-in answer-by-table answer-by-rules answer-by answer-by-firing
 answer-small t y card slip rooms h =
     small-cond (is-full y) (refused 32 0) _ (omega arith, omega arith)
-    (small-cond (sound t) _ (refused 31 0)
+    (small-cond (takes Strata t) _ (refused 31 0)
     (small-then (read-card (value-counts t) card) _ (card-small (value-counts t) card)
     (λ S. small-then (read-slip (value-counts t) slip) _ (slip-small (value-counts t) slip)
     (λ I. room-small (length (value-counts t)) (length (rules-of t)) rooms _ (conflict-small (length (value-counts t)) (length (rules-of t)) S _ _ (omega arith)))))

@@ -18,6 +18,7 @@ use reader::TEXT_LIMIT;
 use table::RULES;
 use table::SLOTS;
 use table::Table;
+use table::Way;
 use tally::Tally;
 use text::NAME_LIMIT;
 
@@ -118,7 +119,7 @@ pub fn list(text: &[u8], card: &[u8], slip: &[u8], out: &mut [u8]) -> usize
     ensures { λ r. ⌜ (r ≡ length (printed (listing (now (text .entry)) (now (card .entry)) (now (slip .entry)))))
         × (now (out .exit) ≡ placed (printed (listing (now (text .entry)) (now (card .entry)) (now (slip .entry)))) (now (out .entry))) ⌝ }
 {
-    let read = rule_file::read(text);
+    let read = rule_file::read(text, Way::Strata);
     let outcome = read.outcome;
     let t = read.table;
     match outcome {

@@ -25,10 +25,11 @@ pub fn pack_card(t: Table, c: Card, out: &mut [u8]) -> Packing
 {
     let mut counts: [usize; SLOTS] = [0; SLOTS];
     let mut rows: [[u16; NUMBERS]; RULES] = [[0; NUMBERS]; RULES];
-    let width = t.width as usize;
-    if !soundness::admit(t, &mut counts, &mut rows) {
+    let entry = soundness::admit(t, &mut counts, &mut rows);
+    if !entry.passed {
         return Packing::Refused(31, 0);
     }
+    let width = entry.width;
     let checked = check_card(c, width, &counts);
     if let Outcome::Refused(number, second) = checked {
         return Packing::Refused(number, second);
@@ -45,14 +46,15 @@ pub fn pack_slip(t: Table, s: Slip, out: &mut [u8]) -> Packing
 {
     let mut counts: [usize; SLOTS] = [0; SLOTS];
     let mut rows: [[u16; NUMBERS]; RULES] = [[0; NUMBERS]; RULES];
-    let width = t.width as usize;
-    if !soundness::admit(t, &mut counts, &mut rows) {
+    let entry = soundness::admit(t, &mut counts, &mut rows);
+    if !entry.passed {
         return Packing::Refused(31, 0);
     }
     let m = s.count;
     if SLOTS < m {
         return Packing::Refused(24, 0);
     }
+    let width = entry.width;
     let checked = check_slip(s, width, &counts);
     if let Outcome::Refused(number, second) = checked {
         return Packing::Refused(number, second);

@@ -12,6 +12,7 @@ use reader::TEXT_LIMIT;
 use table::PAIRS;
 use table::SLOTS;
 use table::Table;
+use table::Way;
 use writing::files::put_file;
 
 pub mod spans;
@@ -46,7 +47,7 @@ fn print_table(text: &[u8], t: Table, out: &mut [u8]) -> Printing
 pub fn print(text: &[u8], out: &mut [u8]) -> Printing
     ensures { λ r. ⌜ (r ≡ printing-of (print-into (now (text .entry)) (length (now (out .entry))))) × (now (out .exit) ≡ output-of (print-into (now (text .entry)) (length (now (out .entry)))) (now (out .entry))) ⌝ }
 {
-    let read = rule_file::read(text);
+    let read = rule_file::read(text, Way::Strata);
     let outcome = read.outcome;
     let t = read.table;
     match outcome {

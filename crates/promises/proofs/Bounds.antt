@@ -12,8 +12,9 @@ use Rattle.laws.specs.Listed.{Each}
 use Rattle.laws.specs.Numbers.{Numbered}
 use Rattle.laws.proofs.Truth.{or-e, le-or-lt}
 use Rattle.laws.proofs.Listed.{each-at}
-use Rattle.model.specs.Rules.{Pair, Pairs, same, among}
+use Rattle.model.specs.Rules.{Pair, Pairs, Literal, same, among}
 use Rattle.model.specs.Orders.{no-rule, rule-at, changes, firing-order}
+use Rattle.model.specs.Strata.{is-becomes, pairs-where, tested}
 use Rattle.model.specs.Result.{pair, value-in, is-changed, new-value, new-card, changes-slip, Bounded}
 use Rattle.model.proofs.Pairs.{same-eq, among-at}
 use Rattle.model.proofs.Changes.{cause}
@@ -27,6 +28,16 @@ use Rattle.cards.specs.Forms.{card-test, slip-test}
 use Rattle.cards.proofs.Tested.{same-count, no-pair}
 use Rattle.cards.proofs.Passed.{Slots, values-pass, card-pass}
 use Rattle.cards.proofs.Having.{Has, tested-has, rising-passes, within-passes}
+
+-- What each of some literals' pairs has, one among those of literals that pass has.
+each-where : (P : Pair → Type 0) (g : Literal → Bool) (ls : List Literal) → Each (λ (l : Literal). P (l .pair)) ls → (p : Pair) → T (among p (pairs-where g ls)) → P p
+unfolding among pairs-where
+each-where P g [] h p t = absurd t
+each-where P g (l ∷ ls) h p t = go (g l) (each-where P g ls (h .1) p) t
+  where
+    go : (b : Bool) → (T (among p (pairs-where g ls)) → P p) → T (among p (cond b (l .pair ∷ pairs-where g ls) (pairs-where g ls))) → P p
+    go true rest u = ⊎-elim (λ s. rw (same-eq p (l .pair) s) (h .0)) rest (or-e (same p (l .pair)) (among p (pairs-where g ls)) u)
+    go false rest u = rest u
 
 -- What each of some pairs has, one among them has.
 each-among : (P : Pair → Type 0) (ps : List Pair) → Each P ps → (p : Pair) → T (among p ps) → P p
@@ -49,14 +60,26 @@ module _ (f : File) (declared : Declared-file f) where
   pub file-slots : Slots (slot-counts (f .slots))
   file-slots = record { few = rw length-map (declared .few-slots); small = λ i h. few-values i }
 
-  -- What the rules assign, the slots have.
-  assigned-has : (n : ℕ) (p : Pair) → Numbered (length (f .rules)) n → T (among p (rule-at (f .rules) n .assignments)) → Has (slot-counts (f .slots)) p
+  pair-has : (p : Pair) → Declared-pair (f .slots) p → Has (slot-counts (f .slots)) p
+  pair-has p n = record { below = rw length-map (slot-declared (f .slots) p n); first = n .value-there; last = rw (List·getD-map (λ (z : Slot). length (z .values)) (f .slots) (p .slot) no-slot) (value-declared (f .slots) p n) }
+
+  rule-declared : (k : ℕ) → Numbered (length (f .rules)) (suc k) → Declared-rule (f .slots) (getD (f .rules) k no-rule)
+  rule-declared k i = each-at (Declared-rule (f .slots)) (f .rules) k no-rule (declared .each-rule) (omega (arith, i .last))
+
+  -- What the rules assign, the slots have,
+  pub assigned-has : (n : ℕ) (p : Pair) → Numbered (length (f .rules)) n → T (among p (rule-at (f .rules) n .assignments)) → Has (slot-counts (f .slots)) p
   unfolding rule-at
   assigned-has zero p i t = absurd (omega (arith, i .first))
-  assigned-has (suc k) p i t =
-      let r = each-at (Declared-rule (f .slots)) (f .rules) k no-rule (declared .each-rule) (omega (arith, i .last)) in
-      let n = each-among (Declared-pair (f .slots)) (getD (f .rules) k no-rule .assignments) (r .assignments-declared) p t in
-      record { below = rw length-map (slot-declared (f .slots) p n); first = n .value-there; last = rw (List·getD-map (λ (z : Slot). length (z .values)) (f .slots) (p .slot) no-slot) (value-declared (f .slots) p n) }
+  assigned-has (suc k) p i t = pair-has p (each-among (Declared-pair (f .slots)) (getD (f .rules) k no-rule .assignments) (rule-declared k i .assignments-declared) p t)
+
+  -- and what they test.
+  pub tests-has : (n : ℕ) (p : Pair) → Numbered (length (f .rules)) n → T (among p (tested (rule-at (f .rules) n))) → Has (slot-counts (f .slots)) p
+  unfolding rule-at tested among
+  tests-has zero p i t = absurd (omega (arith, i .first))
+  tests-has (suc k) p i t =
+      let r = rule-declared k i in
+      pair-has p (⊎-elim (λ s. rw (same-eq p (getD (f .rules) k no-rule .trigger) s) (r .trigger-declared))
+      (each-where (Declared-pair (f .slots)) is-becomes (getD (f .rules) k no-rule .literals) (r .literals-declared) p) (or-e (same p (getD (f .rules) k no-rule .trigger)) _ t))
 
   module _ (S : List ℕ) (I : List Pair) (slip : slip-test (slot-counts (f .slots)) I ≡ passed) (ns : List ℕ) (order : T (firing-order (f .rules) S I ns)) where
     -- So does C, at the end of a firing order from a slip that passes its tests.

@@ -2,6 +2,7 @@
 -- Assumes nothing.
 use Prim.Native.Nat.{ℕ}
 use mathlib.Core.List.{List}
+use Rattle.table.specs.declared.Way.the-variants.{Strata}
 use Rattle.grammar.specs.Files.{File}
 use Rattle.grammar.specs.Meaning.{Is-file}
 use Rattle.rule_file.specs.Whole.{reading}
@@ -21,7 +22,7 @@ called text accepted =
       d .1,
       d .2,
       record {
-        where-answered = λ y card slip o e. (let w = number-0 t y card slip o e in record { answer = w .0; returned = answers t y card slip o (w .0) (w .1); agreed = d .2 .where-answered y card slip _ (w .0) (w .1) });
-        where-40 = λ y card slip o e. d .2 .where-40 y card slip _ _ (number-40 t y card slip o e);
+        where-answered = λ y card slip o e. (let w = number-0 Strata t y card slip o e in record { answer = w .0; returned = answers Strata t y card slip o (w .0) (w .1); agreed = d .2 .where-answered y card slip _ (w .0) (w .1) });
+        where-40 = λ y card slip o e. d .2 .where-40 y card slip _ _ (number-40 Strata t y card slip o e);
       },
     )

@@ -12,25 +12,24 @@ use Rattle.laws.specs.Words.{bit}
 use Rattle.laws.specs.Packed.{bits, number-of, field-bits, byte-bits, byte-at, pack, pack-fields, field-at}
 use Rattle.table.specs.Link.{stratum-at, value-counts}
 use Rattle.names.specs.Names.{show-name, has-slot, has-value, show-slot, show-value-of, show-value}
-use Rattle.soundness.specs.Sound.{within-limits, slots-have-values, has-pair, named, names-its-own, assigns-once, well-formed, sound}
+use Rattle.soundness.specs.Sound.{within-limits, slots-have-values, has-pair, named, names-its-own, assigns-once, well-formed, strata-right, takes}
 use Rattle.leastness.specs.CarriesLeast.{carries-least}
 use Rattle.model.specs.Rules.{assigns, each-once}
 use Rattle.rule_file.specs.Whole.{reading}
 use Rattle.grammar.proofs.Cases.{after-slots}
 use Rattle.rule_file.proofs.Cases.{runs}
-use Rattle.cards.specs.Cards.{if-sound}
 use Rattle.laws.specs.Answers.{taken, refused, after}
 use Rattle.cards.specs.Forms.{card-fields, change-fields, slip-fields, card-bytes, slip-bytes, values-in, changes-in, values-test, card-test, change-fault, changes-test, read-card, read-slip}
 use Rattle.results.specs.Record.{bit-of, ones-in}
 use Rattle.response.specs.Ending.{fired-record, answer-of, unless-conflict, answer-by-firing}
-use Rattle.response.specs.Respond.{_and-then_, if-room, answer-by-rules, answer-by-table, answer-to, counted, tally-after}
+use Rattle.response.specs.Respond.{_and-then_, if-room, answer-by, answer-by-rules, answer-by-table, answer-to, answer-in, counted, tally-after}
 use Rattle.tally.specs.Counting.{fresh, is-full}
 use Rattle.listing.specs.Listing.{RuleLine, ChangeLine, Listing, listed, refusal, program-rooms, list-response, list-reading, listing}
 use Rattle.listing.specs.Printed.{digits, decimal, hexadecimal, fired-word, rule-text, rules-text, change-text, changes-text, card-text, tally-text, refusal-text, printed}
 
 -- What 31 runs.
 unfoldable runs-sound : Unit {0}
-unfolding all-of within-limits slots-have-values has-slot has-value has-pair named names-its-own assigns each-once assigns-once carries-least well-formed sound stratum-at value-counts
+unfolding all-of within-limits slots-have-values has-slot has-value has-pair named names-its-own assigns each-once assigns-once carries-least well-formed strata-right takes stratum-at value-counts
 runs-sound = tt
 
 -- What cards and slips run.
@@ -40,7 +39,7 @@ runs-cards = tt
 
 -- What a response and its listing run.
 unfoldable runs-response : Unit {0}
-unfolding fired-record ones ones-in answer-of unless-conflict answer-by-firing _and-then_ if-room answer-by-rules answer-by-table if-sound is-full answer-to counted tally-after show-name show-slot show-value-of show-value bit-of list-response list-reading listing
+unfolding fired-record ones ones-in answer-of unless-conflict answer-by-firing _and-then_ if-room answer-by answer-by-rules answer-by-table is-full answer-in counted tally-after show-name show-slot show-value-of show-value bit-of list-response list-reading listing
 runs-response = tt
 
 -- `unfolding lists` opens all that a listing runs.
@@ -49,7 +48,7 @@ unfolding runs runs-sound runs-cards runs-response
 lists = tt
 
 -- Rule a.
-abbrev rule-a : String
+abbrev pub rule-a : String
 rule-a = "WHEN x *= 1 IF y |= 0 THEN z := 1;"
 
 -- Rule b.
@@ -57,7 +56,7 @@ abbrev rule-b : String
 rule-b = "WHEN z *= 1 IF y |= 0 THEN y := 1;"
 
 -- Rule c.
-abbrev rule-c : String
+abbrev pub rule-c : String
 rule-c = "WHEN z *= 1 IF y |= 0 THEN x := 1;"
 
 -- Rule d.

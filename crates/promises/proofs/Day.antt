@@ -13,7 +13,7 @@ use Rattle.laws.specs.Limits.{tally-limit}
 use Rattle.laws.specs.Answers.{OrRefused, taken, refused}
 use Rattle.tally.specs.declared.Tally.{Tally}
 use Rattle.response.specs.Ending.{Answer}
-use Rattle.response.specs.Respond.{answer-by-table, answer-to, counted, tally-after, response-to}
+use Rattle.response.specs.Respond.{answer-by-table, answer-in, counted, tally-after, response-in}
 use Rattle.tally.specs.Counting.{fresh, is-full}
 use Rattle.tally.proofs.TallyLaws.{room-left}
 use Rattle.promises.specs.Day.{Call, answer-at, next-tally, tally-over, answers-over, answered-in, refused-in, answer-after}
@@ -34,8 +34,8 @@ counts-one false y (refused k s) us h = (refl, rw (ne-eqb k 32 h) (omega arith))
 next-counts : (y : Tally) (c : Call) (us : List (OrRefused Answer))
     → (next-tally y c .answered + answered-in us ≡ y .answered + answered-in (answer-at y c ∷ us))
     × (next-tally y c .refused + refused-in us ≡ y .refused + refused-in (answer-at y c ∷ us))
-unfolding response-to tally-after answer-to
-next-counts y c us = counts-one (is-full y) y (answer-by-table (c .table) (c .card) (c .slip) (c .rooms)) us (by-table-other (c .table) (c .card) (c .slip) (c .rooms))
+unfolding response-in tally-after answer-in
+next-counts y c us = counts-one (is-full y) y (answer-by-table (c .way) (c .table) (c .card) (c .slip) (c .rooms)) us (by-table-other (c .way) (c .table) (c .card) (c .slip) (c .rooms))
 
 -- From any tally on: the calls answered and refused are added.
 pub tally-counts : (y : Tally) (cs : List Call)
@@ -53,7 +53,7 @@ day-tally cs = let w = tally-counts fresh cs in ap₂ (λ (a r : ℕ). record { 
 
 -- Each call's answer is what it would be alone, on a fresh tally, unless the tally was full.
 pub day-alone : (before : List Call) (c : Call) → answer-after before c ≡ cond (is-full (tally-over fresh before)) (refused 32 0) (answer-after [] c)
-unfolding answer-to is-full _∨ᵇ_ tally-over
+unfolding answer-in is-full _∨ᵇ_ tally-over
 day-alone before c = refl
 
 -- In the list of a day's answers it stands in the call's place.
@@ -109,6 +109,6 @@ top-next y (refused k s) false e h = (h .0, omega (arith, room-left y e .1))
 
 -- The tally stays within 0 to 9,999 each.
 pub tally-top : (y : Tally) (cs : List Call) → (y .answered ≤ tally-limit) × (y .refused ≤ tally-limit) → (tally-over y cs .answered ≤ tally-limit) × (tally-over y cs .refused ≤ tally-limit)
-unfolding tally-over response-to tally-after
+unfolding tally-over response-in tally-after
 tally-top y [] h = h
 tally-top y (c ∷ cs) h = tally-top (next-tally y c) cs (top-next y (answer-at y c) (is-full y) refl h)

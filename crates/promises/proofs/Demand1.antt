@@ -5,7 +5,7 @@ use mathlib.Core.Path.{_≡_, refl, sym, ap, subst}
 use mathlib.Core.Bool.{Bool, true, false, cond}
 use mathlib.Core.List.{List}
 use mathlib.Core.Logic.{inl, inr, ⊎-elim}
-use lib.Dec.{T, leb, leb→le}
+use lib.Dec.{leb, leb→le}
 use lib.ListN.{length}
 use Rattle.laws.specs.Answers.{OrRefused, taken, refused, written, output-of}
 use Rattle.laws.specs.Limits.{tally-limit}
@@ -13,16 +13,20 @@ use Rattle.laws.proofs.Equations.{from-true}
 use Rattle.laws.proofs.Truth.{or-e}
 use Rattle.model.specs.Rules.{Pair}
 use Rattle.table.specs.declared.Table.{Table}
+use Rattle.table.specs.declared.Way.{Way}
+use Rattle.table.specs.declared.Way.the-variants.{Strata, Marks}
 use Rattle.table.specs.Empty.{empty-table}
 use Rattle.table.specs.Link.{rules-of, value-counts}
 use Rattle.grammar.specs.Reading.{parse}
 use Rattle.names.specs.Names.{show-slot, show-value}
-use Rattle.soundness.specs.Sound.{sound}
+use Rattle.soundness.specs.Sound.{sound, takes}
 use Rattle.reader.specs.declared.Outcome.{Outcome}
+use Rattle.reader.specs.declared.Outcome.the-variants.{Accepted}
 use Rattle.reader.specs.declared.FileRead.{FileRead}
 use Rattle.reader.specs.Tables.{reading-refusal, reading-second}
-use Rattle.rule_file.specs.Whole.{reading}
+use Rattle.rule_file.specs.Whole.{read-by}
 use Rattle.rule_file.proofs.Answers.{reading-accepted-iff}
+use Rattle.rule_file.proofs.Unlayered.{unlayered-accepted-iff}
 use Rattle.printing.specs.Printing.{print-of, print-into, printing-of, printing-refusal, printing-second, printing-length}
 use Rattle.cards.specs.Forms.{values-in, changes-in, card-bytes, slip-bytes, read-card, read-slip, write-card, write-slip}
 use Rattle.cards.specs.Cards.{card-values, changes-of, card-of, slip-of, no-card, no-slip, if-sound, unpacked-card, unpacked-slip, packed-card, packed-slip, card-read, slip-read, packing-of, unpacking-refusal, unpacking-second, packing-refusal, packing-second, packing-length}
@@ -30,29 +34,34 @@ use Rattle.tally.specs.declared.Tally.{Tally}
 use Rattle.tally.specs.Counting.{is-full, one-answered}
 use Rattle.tally.proofs.TallyLaws.{room-left}
 use Rattle.response.specs.Ending.{Answer}
-use Rattle.response.specs.Respond.{Rooms, Outputs, rooms-of, response-refusal, response-second, outcome-of, answer-by-table, answer-to, counted, tally-after, response-to, outputs-after}
-use Rattle.promises.specs.Returned.{Answers}
+use Rattle.response.specs.Respond.{Rooms, Outputs, rooms-of, response-refusal, response-second, outcome-of, answer-by-table, answer-in, counted, tally-after, response-in, outputs-after}
+use Rattle.promises.specs.Returned.{AnswersIn}
 use Rattle.promises.specs.Reasons.{FileReason, FileRight, PrintReason, PrintRight, own, print-over, print-room, CardReason, CardRight, PackedCardReason, PackedCardRight, SlipReason, SlipRight, PackedSlipReason, PackedSlipRight, TableReason, RulesReason, RulesRight, Full, NotFull, ResponseReason, full-tally, of-table}
 use Rattle.promises.specs.Refusals.{Comes, Passes, TallyRefused, Demand1}
 use Rattle.promises.proofs.Refusals.{Other, only-e, by-table-other}
 use Rattle.promises.proofs.Judged.{Judged, card-judged, slip-judged, packed-card-judged, packed-slip-judged}
-use Rattle.promises.proofs.ResponseReasons.{sound-judged, table-judged}
+use Rattle.promises.proofs.ResponseReasons.{judged-more, test-judged, table-judged}
 use Rattle.promises.proofs.Returned.{answers}
 use Rattle.promises.proofs.NameReasons.{slot-name-shown, value-name-shown}
 use Rattle.promises.proofs.Outcomes.{text-comes, file-reason, reason-file, Prints, own-refusal, over, short, all, prints}
 
 -- A rule file.
-file-back : (text : List ℕ) → Comes (FileReason text) (reading-refusal (reading text .outcome)) (reading-second (reading text .outcome)) (FileRight text) (reading text .table ≡ empty-table)
-file-back text =
-    ⊎-elim (λ o. let w = reading-accepted-iff text .1 o in inl (ap reading-refusal o, ap reading-second o, record { file = w .0; is-file = w .1; strata = w .2 .0; are-strata = w .2 .1 }))
+file-right : (way : Way) (text : List ℕ) → read-by way text .outcome ≡ Accepted → FileRight text way
+file-right Strata text o = let w = reading-accepted-iff text .1 o in record { file = w .0; is-file = w .1; stratified = w .2 }
+file-right Marks text o = let w = unlayered-accepted-iff text .1 o in record { file = w .0; is-file = w .1; stratified = tt }
+
+file-back : (way : Way) (text : List ℕ)
+    → Comes (FileReason text way) (reading-refusal (read-by way text .outcome)) (reading-second (read-by way text .outcome)) (FileRight text way) (read-by way text .table ≡ empty-table)
+file-back way text =
+    ⊎-elim (λ o. inl (ap reading-refusal o, ap reading-second o, file-right way text o))
     (λ w. let o = ap (λ (r : FileRead). r .outcome) (w .3) in
-    inr (subst (λ (x : Outcome). FileReason text (reading-refusal x) (reading-second x)) (sym o) (file-reason text (w .0) (w .1) o), ap (λ (r : FileRead). r .table) (w .3))) (text-comes text)
+    inr (subst (λ (x : Outcome). FileReason text way (reading-refusal x) (reading-second x)) (sym o) (file-reason way text (w .0) (w .1) o), ap (λ (r : FileRead). r .table) (w .3))) (text-comes way text)
 
 -- A print.
 print-back : (text out : List ℕ) (u : OrRefused (List ℕ)) → Prints text (length out) u → Comes (PrintReason text (length out)) (printing-refusal (printing-of u)) (printing-second (printing-of u))
     (PrintRight text (length out) × (printing-length (printing-of u) ≡ length (print-of (parse text))) × (output-of u out ≡ written (print-of (parse text)) out)) ((printing-length (printing-of u) ≡ 0) × (output-of u out ≡ out))
 unfolding printing-of output-of
-print-back text out u (own-refusal {k = k} {n = n} h o) = inr (own (file-reason text k n o), (refl, refl))
+print-back text out u (own-refusal {k = k} {n = n} h o) = inr (own (file-reason Strata text k n o), (refl, refl))
 print-back text out u (over o l) = inr (print-over (ap reading-refusal o) l, (refl, refl))
 print-back text out u (short o l s) = inr (print-room (ap reading-refusal o) l s, (refl, refl))
 print-back text out u (all o l s) = inl (refl, refl, (record { accepted = ap reading-refusal o; within = l; enough = s }, refl, refl))
@@ -75,22 +84,21 @@ packed-back R P bytes out (taken ys) j = inl (refl, refl, (j .0, ap length (j .1
 packed-back R P bytes out (refused k s) j = inr (j, (refl, refl))
 
 -- What is taken by a table in order is as P says, and a refusal has the reason that R says, or 31.
-by-table : {A : Type 0} (t : Table) (R : ℕ → ℕ → Type 0) (P : Type 0) (u : OrRefused A) (a : A) → Judged R (λ b. (b ≡ a) × P) u → Judged (TableReason t R) (λ b. Passes t P × (b ≡ a)) (if-sound t u)
-by-table {A} t R P u a j = sound-judged t R (λ b. Passes t P × (b ≡ a)) u (λ p. also p u j)
-  where
-    also : T (sound t) → (w : OrRefused A) → Judged R (λ b. (b ≡ a) × P) w → Judged R (λ b. Passes t P × (b ≡ a)) w
-    also p (taken b) h = (record { passes = p; right = h .1 }, h .0)
-    also p (refused k s) h = h
+by-table : {A : Type 0} (t : Table) (R : ℕ → ℕ → Type 0) (P : Type 0) (u : OrRefused A) (a : A) → Judged R (λ b. (b ≡ a) × P) u → Judged (TableReason (sound t) R) (λ b. Passes (sound t) P × (b ≡ a)) (if-sound t u)
+unfolding if-sound
+by-table t R P u a j =
+    test-judged (sound t) R (λ b. Passes (sound t) P × (b ≡ a)) u (λ p. judged-more R R (λ b. (b ≡ a) × P) (λ b. Passes (sound t) P × (b ≡ a)) u j (λ k s r. r) (λ b h. (record { passes = p; right = h .1 }, h .0)))
 
 -- A response.
-module _ (t : Table) (y : Tally) (card slip : List ℕ) (o : Outputs) where
+module _ (way : Way) (t : Table) (y : Tally) (card slip : List ℕ) (o : Outputs) where
   abbrev rooms : Rooms
   rooms = rooms-of (o .card) (o .changes) (o .fired)
 
   -- What is told, counted and left of what a response comes to.
   abbrev Back : OrRefused Answer → Type 0
   Back u =
-      Comes (ResponseReason t y card slip rooms) (response-refusal (outcome-of u)) (response-second (outcome-of u)) ((a : Answer) × NotFull y × Passes t (RulesRight (value-counts t) (rules-of t) card slip rooms a) × Answers t y card slip o a × (tally-after y u ≡ one-answered y))
+      Comes (ResponseReason way t y card slip rooms) (response-refusal (outcome-of u)) (response-second (outcome-of u))
+      ((a : Answer) × NotFull y × Passes (takes way t) (RulesRight way (value-counts t) (rules-of t) card slip rooms a) × AnswersIn way t y card slip o a × (tally-after y u ≡ one-answered y))
       ((outputs-after u o ≡ o) × TallyRefused (response-refusal (outcome-of u)) y (tally-after y u))
 
   full-by : is-full y ≡ true → Full y
@@ -101,33 +109,33 @@ module _ (t : Table) (y : Tally) (card slip : List ℕ) (o : Outputs) where
   unfolding outcome-of outputs-after tally-after
   full e = inr (full-tally (full-by e), (refl, record { counted = λ n. absurd (n refl); not-counted = λ z. rw e refl }))
 
-  not-full : is-full y ≡ false → (u : OrRefused Answer) → answer-by-table t card slip rooms ≡ u → answer-to t y card slip rooms ≡ u
-      → Judged (TableReason t (RulesReason (value-counts t) (rules-of t) card slip rooms)) (λ a. Passes t (RulesRight (value-counts t) (rules-of t) card slip rooms a)) u → Back u
+  not-full : is-full y ≡ false → (u : OrRefused Answer) → answer-by-table way t card slip rooms ≡ u → answer-in way t y card slip rooms ≡ u
+      → Judged (TableReason (takes way t) (RulesReason way (value-counts t) (rules-of t) card slip rooms)) (λ a. Passes (takes way t) (RulesRight way (value-counts t) (rules-of t) card slip rooms a)) u → Back u
   unfolding outcome-of outputs-after tally-after counted
-  not-full e (taken a) b c j = inl (refl, refl, (a, room-left y e, j, answers t y card slip o a c, rw e refl))
+  not-full e (taken a) b c j = inl (refl, refl, (a, room-left y e, j, answers way t y card slip o a c, rw e refl))
   not-full e (refused k s) b c j =
-      inr (of-table (room-left y e) j, (refl, record { counted = λ n. rw e refl; not-counted = λ z. absurd (only-e (Other 32) _ k s (by-table-other t card slip rooms) b z) }))
+      inr (of-table (room-left y e) j, (refl, record { counted = λ n. rw e refl; not-counted = λ z. absurd (only-e (Other 32) _ k s (by-table-other way t card slip rooms) b z) }))
 
-  response-back : Back (answer-to t y card slip rooms)
-  unfolding answer-to
+  response-back : Back (answer-in way t y card slip rooms)
+  unfolding answer-in
   response-back = go (is-full y) refl
     where
-      go : (b : Bool) → is-full y ≡ b → Back (cond b (refused 32 0) (answer-by-table t card slip rooms))
+      go : (b : Bool) → is-full y ≡ b → Back (cond b (refused 32 0) (answer-by-table way t card slip rooms))
       go true e = full e
-      go false e = not-full e (answer-by-table t card slip rooms) refl (rw e refl) (table-judged t card slip rooms)
+      go false e = not-full e (answer-by-table way t card slip rooms) refl (rw e refl) (table-judged way t card slip rooms)
 
 -- DEMAND 1.
 pub demand-1 : Demand1
-unfolding unpacked-card unpacked-slip packed-card packed-slip response-to show-slot show-value
+unfolding unpacked-card unpacked-slip packed-card packed-slip response-in show-slot show-value
 demand-1 = record {
   rule-file = file-back;
-  file-exactly = λ text k n r. let o = reason-file text k n r in (ap reading-refusal o, ap reading-second o);
+  file-exactly = λ way text k n r. let o = reason-file way text k n r in (ap reading-refusal o, ap reading-second o);
   file-printed = λ text out. print-back text out (print-into text (length out)) (prints text (length out));
-  card-unpacked = λ t ys. card-back _ (Passes t (CardRight (value-counts t) ys)) (values-in ys) (unpacked-card t ys) (by-table t (CardReason (value-counts t) ys) _ (read-card (value-counts t) ys) _ (card-judged (value-counts t) ys));
-  slip-unpacked = λ t ys. slip-back _ (Passes t (SlipRight (value-counts t) ys)) (changes-in ys) (unpacked-slip t ys) (by-table t (SlipReason (value-counts t) ys) _ (read-slip (value-counts t) ys) _ (slip-judged (value-counts t) ys));
-  card-packed = λ t c out. packed-back _ (Passes t (PackedCardRight (value-counts t) (card-values c) (length out))) (card-bytes (card-values c)) out (packed-card t c (length out))
+  card-unpacked = λ t ys. card-back _ (Passes (sound t) (CardRight (value-counts t) ys)) (values-in ys) (unpacked-card t ys) (by-table t (CardReason (value-counts t) ys) _ (read-card (value-counts t) ys) _ (card-judged (value-counts t) ys));
+  slip-unpacked = λ t ys. slip-back _ (Passes (sound t) (SlipRight (value-counts t) ys)) (changes-in ys) (unpacked-slip t ys) (by-table t (SlipReason (value-counts t) ys) _ (read-slip (value-counts t) ys) _ (slip-judged (value-counts t) ys));
+  card-packed = λ t c out. packed-back _ (Passes (sound t) (PackedCardRight (value-counts t) (card-values c) (length out))) (card-bytes (card-values c)) out (packed-card t c (length out))
       (by-table t (PackedCardReason (value-counts t) (card-values c) (length out)) _ (write-card (value-counts t) (card-values c) (length out)) _ (packed-card-judged (value-counts t) (card-values c) (length out)));
-  slip-packed = λ t c out. packed-back _ (Passes t (PackedSlipRight (value-counts t) (changes-of c) (length out))) (slip-bytes (changes-of c)) out (packed-slip t c (length out))
+  slip-packed = λ t c out. packed-back _ (Passes (sound t) (PackedSlipRight (value-counts t) (changes-of c) (length out))) (slip-bytes (changes-of c)) out (packed-slip t c (length out))
       (by-table t (PackedSlipReason (value-counts t) (changes-of c) (length out)) _ (write-slip (value-counts t) (changes-of c) (length out)) _ (packed-slip-judged (value-counts t) (changes-of c) (length out)));
   responded = response-back;
   slot-shown = slot-name-shown;

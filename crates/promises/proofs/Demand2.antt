@@ -1,30 +1,27 @@
 -- Demand 2: the reading is the grammar's, the response the paper's, and accepted cards and slips pack back to the same bytes.
 -- Assumes nothing.
-use Prim.Native.Nat.{ℕ, _≤_, _<_}
+use Prim.Native.Nat.{ℕ, _≤_}
 use native.Mathlib.Omega.{arith}
-use mathlib.Core.Path.{_≡_, refl, ap, ap₂, _∙_}
+use mathlib.Core.Path.{_≡_, refl, ap}
 use mathlib.Core.List.{List}
-use mathlib.Core.Logic.{⊎-elim}
 use lib.ListN.{length}
 use Rattle.laws.specs.Answers.{OrRefused, taken, refused, written, output-of}
 use Rattle.laws.specs.Packed.{Bytes}
-use Rattle.laws.proofs.Truth.{le-or-lt}
 use Rattle.model.specs.Rules.{Pair}
 use Rattle.model.specs.Orders.{changes}
 use Rattle.model.specs.Strata.{weak}
 use Rattle.model.specs.Least.{LeastStrata}
 use Rattle.model.specs.Response.{response}
-use Rattle.model.specs.Paper.{SlotConsistent, firing-of}
 use Rattle.model.proofs.Strata.{least-i}
 use Rattle.model.proofs.Paper.{response-declarative, response-rule-consistent, response-correct}
 use Rattle.table.specs.declared.Table.{Table}
+use Rattle.table.specs.declared.Way.the-variants.{Strata}
 use Rattle.table.specs.Link.{rules-of, stratum-at, value-counts}
 use Rattle.grammar.specs.Files.{File, slot-counts}
 use Rattle.grammar.specs.Meaning.{Is-file}
 use Rattle.grammar.proofs.Accepts.{one-meaning}
 use Rattle.soundness.specs.Sound.{sound}
-use Rattle.reader.specs.declared.Outcome.{Outcome}
-use Rattle.reader.specs.declared.Outcome.the-variants.{Accepted, Refused}
+use Rattle.reader.specs.declared.Outcome.the-variants.{Accepted}
 use Rattle.reader.specs.Tables.{reading-refusal, reading-second}
 use Rattle.rule_file.specs.Whole.{reading}
 use Rattle.rule_file.proofs.Answers.{reading-accepted-iff, reading-carries, reading-no-strata-iff, reading-18-iff, reading-no-refusal}
@@ -34,11 +31,13 @@ use Rattle.cards.specs.Cards.{if-sound, unpacked-card, unpacked-slip, card-read
 use Rattle.cards.proofs.EntryTrips.{unpack-pack-card, unpack-pack-slip}
 use Rattle.response.specs.Ending.{Answer}
 use Rattle.promises.specs.Returned.{card-packing, card-left, slip-packing, slip-left}
-use Rattle.promises.specs.Agreement.{InConflict, Shows, LowestConflict, Agreed}
+use Rattle.promises.specs.Agreement.{Shows, LowestConflict, Agreed}
 use Rattle.promises.specs.Paper.{Declarative, PaperAnswer, PaperConflict, Demand2}
 use Rattle.promises.proofs.Refusals.{OneOf, Only, of-card, of-slip, Other, only-e, only-cond, only-more, one-of-other, card-refused, slip-refused}
 use Rattle.promises.proofs.Returned.{answers, number-0, number-40}
-use Rattle.promises.proofs.Ends.{file-no-circle}
+use Rattle.promises.proofs.Outcomes.{by-numbers}
+use Rattle.promises.proofs.Ends.{file-table, file-no-circle}
+use Rattle.promises.proofs.Conflicts.{one-value}
 use Rattle.promises.proofs.Demand3.{demand-3}
 
 module _ (text : List ℕ) (f : File) (h : Is-file text f) (o : reading text .outcome ≡ Accepted) (card slip : List ℕ) where
@@ -54,12 +53,6 @@ module _ (text : List ℕ) (f : File) (h : Is-file text f) (o : reading text .ou
         let d = response-declarative weak (f .rules) (A .S) (A .I) z in
         record { card-is = A .card-is; slip-is = A .slip-is; declarative = d .0; ended = d .1; stays-enabled = response-rule-consistent weak (f .rules) (A .S) (A .I) z }
 
-    -- It has one value for each slot where none is in conflict.
-    one-value : ((s : ℕ) → ¬ InConflict (changes (f .rules) (A .I) ours) s) → SlotConsistent (firing-of (f .rules) (A .I) ours)
-    unfolding SlotConsistent firing-of InConflict
-    one-value none x v w s t =
-        ⊎-elim (λ h. ⊎-elim (λ k. omega (arith, h, k)) (λ (k : v < w). absurd (none x (v, w, k, s, t))) (le-or-lt w v)) (λ (k : w < v). absurd (none x (w, v, k, t, s))) (le-or-lt v w)
-
   answer : (a : Answer) → Agreed f card slip (λ S I ns. Shows f S I a ns) → PaperAnswer f card slip a
   answer a A =
       let shown = A .each-order (ours A) (A .ours) in
@@ -69,7 +62,7 @@ module _ (text : List ℕ) (f : File) (h : Is-file text f) (o : reading text .ou
         fired = ours A;
         response = declared A;
         shows = shown;
-        correct = response-correct weak (f .rules) (A .S) (A .I) (file-no-circle text f h o) (one-value A (shown .no-conflict));
+        correct = response-correct weak (f .rules) (A .S) (A .I) (file-no-circle text f h o) (one-value (f .rules) (A .I) (ours A) (shown .no-conflict));
       }
 
   conflict : (s : ℕ) → Agreed f card slip (λ S I ns. LowestConflict (changes (f .rules) I ns) s) → PaperConflict f card slip s
@@ -80,16 +73,8 @@ carried-least : (text : List ℕ) (f : File) → Is-file text f → reading text
     → (rules-of (reading text .table) ≡ f .rules) × (value-counts (reading text .table) ≡ slot-counts (f .slots)) × LeastStrata weak (f .rules) (stratum-at (reading text .table))
 carried-least text f h o =
     let c = reading-carries text o in
-    let e : c .file ≡ f = one-meaning text (c .file) f (c .is-file) h in (
-      c .rules-are ∙ ap (λ (g : File). g .rules) e,
-      c .counts-are ∙ ap (λ (g : File). slot-counts (g .slots)) e,
-      rw e at (least-i weak (c .file .rules) (stratum-at (reading text .table)) (c .no-circle) (c .strata-are)),
-    )
-
--- 18 by its numbers.
-numbers-18 : (x : Outcome) (n : ℕ) → reading-refusal x ≡ 18 → reading-second x ≡ n → x ≡ Refused 18 n
-numbers-18 Accepted n e q = absurd (omega (arith, e))
-numbers-18 (Refused k m) n e q = ap₂ Refused e q
+    let w = file-table text f h o in
+    (w .0, w .1, rw (one-meaning text (c .file) f (c .is-file) h) at (least-i weak (c .file .rules) (stratum-at (reading text .table)) (c .no-circle) (c .strata-are)))
 
 -- No refusal has number 0.
 other-0 : {A : Type 0} (t : Table) (u : OrRefused A) → Only (Other 0) u → Only (Other 0) (if-sound t u)
@@ -117,18 +102,18 @@ demand-2 = record {
   accepted = λ text. (λ w. ap reading-refusal (reading-accepted-iff text .0 w), λ a. reading-accepted-iff text .1 (reading-no-refusal text a));
   carried = λ text f h a. carried-least text f h (reading-no-refusal text a);
   no-strata = λ text. (
-    λ e. reading-no-strata-iff text .0 (_, numbers-18 (reading text .outcome) _ e refl),
+    λ e. reading-no-strata-iff text .0 (_, by-numbers (reading text .outcome) 18 _ (omega arith) e refl),
     λ w. let z = reading-no-strata-iff text .1 w in ap reading-refusal (z .1),
   );
-  circle = λ text n. (λ e. reading-18-iff text n .0 (numbers-18 (reading text .outcome) n (e .0) (e .1)), λ w. let z = reading-18-iff text n .1 w in (ap reading-refusal z, ap reading-second z));
+  circle = λ text n. (λ e. reading-18-iff text n .0 (by-numbers (reading text .outcome) 18 n (omega arith) (e .0) (e .1)), λ w. let z = reading-18-iff text n .1 w in (ap reading-refusal z, ap reading-second z));
   each-answer = λ text f h a y card slip o e.
       let t = reading text .table in
-      let w = number-0 t y card slip o e in
+      let w = number-0 Strata t y card slip o e in
       let q = reading-no-refusal text a in
-      (w .0, answers t y card slip o (w .0) (w .1), answer text f h q card slip (w .0) (demand-3 text f h q .where-answered y card slip _ (w .0) (w .1)));
+      (w .0, answers Strata t y card slip o (w .0) (w .1), answer text f h q card slip (w .0) (demand-3 text f h q .where-answered y card slip _ (w .0) (w .1)));
   each-conflict = λ text f h a y card slip o e.
       let q = reading-no-refusal text a in
-      conflict text f h q card slip _ (demand-3 text f h q .where-40 y card slip _ _ (number-40 (reading text .table) y card slip o e));
+      conflict text f h q card slip _ (demand-3 text f h q .where-40 y card slip _ _ (number-40 Strata (reading text .table) y card slip o e));
   card-back = λ t ys out b l e. card-again t ys out b l (unpacked-card t ys) refl e;
   slip-back = λ t ys out b l e. slip-again t ys out b l (unpacked-slip t ys) refl e;
 }

@@ -1,128 +1,143 @@
--- Where a response answers or gives 40: card and slip were unpacked and the rules have fired.
+-- What a response ends in: it is refused before the rules are looked at, by strata and by marks alike, or all that was handed in is in order and it is what the rules come to.
 -- Assumes nothing.
-use Prim.Native.Nat.{ℕ, _<_}
-use native.Mathlib.Omega.{arith}
-use native.Mathlib.Nat.{le-antisymm}
+use Prim.Native.Nat.{ℕ}
 use mathlib.Core.Path.{_≡_, refl, sym, ap, subst, _∙_}
 use mathlib.Core.Bool.{Bool, true, false, cond}
-use mathlib.Core.List.{List}
+use mathlib.Core.List.{List, [], _∷_}
+use mathlib.Core.Logic.{_⊎_, inl, inr, ⊎-elim}
 use lib.Dec.{T, ltb}
 use lib.ListN.{length}
-use borrow.Author.Tests.{ltb-true, ltb-false}
+use borrow.Author.Tests.{ltb-false, le-ltb, lt-leb}
+use Rattle.laws.specs.Answers.{OrRefused, taken, refused}
+use Rattle.laws.specs.Limits.{tally-limit}
 use Rattle.laws.specs.Packed.{byte-count}
+use Rattle.laws.specs.Truth.{_∨ᵇ_}
 use Rattle.laws.proofs.Equations.{is-true}
-use Rattle.model.specs.Rules.{Pair, Pairs}
+use Rattle.model.specs.Rules.{Pair}
 use Rattle.model.specs.Strata.{weak}
 use Rattle.model.specs.Circles.{circle-of}
-use Rattle.model.specs.Result.{pair, conflict-slot}
-use Rattle.model.proofs.Results.{conflict-e, conflict-i, conflict-slot-right, conflict-slot-lowest, conflict-slot-top}
-use Rattle.laws.specs.Limits.{row}
+use Rattle.table.specs.declared.Table.{Table}
+use Rattle.table.specs.declared.Way.{Way}
 use Rattle.table.specs.Link.{rules-of, value-counts}
-use Rattle.soundness.specs.Sound.{sound}
+use Rattle.soundness.specs.Sound.{takes}
+use Rattle.soundness.proofs.Taken.{sound-taken}
 use Rattle.grammar.specs.Files.{File, slot-counts}
 use Rattle.grammar.specs.Meaning.{Is-file}
 use Rattle.grammar.proofs.Accepts.{one-meaning}
 use Rattle.reader.specs.declared.Outcome.the-variants.{Accepted}
 use Rattle.rule_file.specs.Whole.{reading}
 use Rattle.rule_file.proofs.Answers.{reading-carries, reading-passes}
-use Rattle.cards.specs.Cards.{if-sound}
-use Rattle.laws.specs.Answers.{OrRefused, taken, refused}
 use Rattle.cards.specs.Forms.{card-bits, read-card, read-slip}
 use Rattle.tally.specs.declared.Tally.{Tally}
-use Rattle.response.specs.Ending.{Answer, answer-of, unless-conflict, answer-by-firing}
-use Rattle.response.specs.Respond.{_and-then_, Rooms, changes-room, if-room, answer-by-rules, answer-by-table, answer-to}
 use Rattle.tally.specs.Counting.{is-full}
-use Rattle.promises.specs.Agreement.{responds, InConflict, LowestConflict}
-use Rattle.promises.proofs.Refusals.{Only, OneOf, of-card, of-slip, Other, only-more, one-of-other, card-refused, slip-refused}
+use Rattle.tally.proofs.TallyLaws.{room-left}
+use Rattle.response.specs.Ending.{Answer}
+use Rattle.response.specs.Respond.{_and-then_, Rooms, changes-room, if-room, answer-by, answer-by-rules, answer-by-table, answer-in}
+use Rattle.promises.specs.Reasons.{NotFull}
+use Rattle.promises.specs.Selections.{HandedIn}
+use Rattle.promises.proofs.Refusals.{OneOf, of-card, of-slip, Other, only-e, one-of-other, card-refused, slip-refused}
 
--- An accepted text responds by its file's slots and rules.
-pub file-response : (text : List ℕ) (f : File) → Is-file text f → reading text .outcome ≡ Accepted → (y : Tally) (card slip : List ℕ) (rooms : Rooms)
-    → responds text y card slip rooms ≡ cond (is-full y) (refused 32 0) (answer-by-rules (slot-counts (f .slots)) (f .rules) card slip rooms)
-unfolding answer-to answer-by-table if-sound
-file-response text f h o y card slip rooms =
+-- What comes of a call by the slots and rules of a file.
+abbrev pub comes : Way → File → Tally → List ℕ → List ℕ → Rooms → OrRefused Answer
+comes way f y card slip rooms = cond (is-full y) (refused 32 0) (answer-by-rules way (slot-counts (f .slots)) (f .rules) card slip rooms)
+
+-- So responds a table that is taken and has these.
+pub taken-response : (way : Way) (f : File) (t : Table) → T (takes way t) → rules-of t ≡ f .rules → value-counts t ≡ slot-counts (f .slots) → (y : Tally) (card slip : List ℕ) (rooms : Rooms)
+    → answer-in way t y card slip rooms ≡ comes way f y card slip rooms
+unfolding answer-in answer-by-table
+taken-response way f t h r n y card slip rooms = rw (is-true (takes way t) h, r, n)
+
+-- The table of an accepted text has its file's rules and as many values for each slot,
+pub file-table : (text : List ℕ) (f : File) → Is-file text f → reading text .outcome ≡ Accepted → (rules-of (reading text .table) ≡ f .rules) × (value-counts (reading text .table) ≡ slot-counts (f .slots))
+file-table text f h o =
     let c = reading-carries text o in
     let e : c .file ≡ f = one-meaning text (c .file) f (c .is-file) h in
-    let rs : rules-of (reading text .table) ≡ f .rules = c .rules-are ∙ ap (λ (g : File). g .rules) e in
-    let ns : value-counts (reading text .table) ≡ slot-counts (f .slots) = c .counts-are ∙ ap (λ (g : File). slot-counts (g .slots)) e in
-    rw (is-true (sound (reading text .table)) (reading-passes text), rs, ns)
+    (c .rules-are ∙ ap (λ (g : File). g .rules) e, c .counts-are ∙ ap (λ (g : File). slot-counts (g .slots)) e)
 
--- Its rules have strata.
+-- so it responds by them;
+pub file-response : (way : Way) (text : List ℕ) (f : File) → Is-file text f → reading text .outcome ≡ Accepted → (y : Tally) (card slip : List ℕ) (rooms : Rooms)
+    → answer-in way (reading text .table) y card slip rooms ≡ comes way f y card slip rooms
+file-response way text f h o =
+    let w = file-table text f h o in taken-response way f (reading text .table) (sound-taken way (reading text .table) (reading-passes text)) (w .0) (w .1)
+
+-- and these rules have strata.
 pub file-no-circle : (text : List ℕ) (f : File) → Is-file text f → reading text .outcome ≡ Accepted → circle-of weak (f .rules) ≡ 0
 file-no-circle text f h o =
     let c = reading-carries text o in
     sym (ap (λ (g : File). circle-of weak (g .rules)) (one-meaning text (c .file) f (c .is-file) h)) ∙ c .no-circle
 
--- An answer or 40.
+-- A tally is not full by its test exactly where it is not.
+pub not-full-i : (y : Tally) → NotFull y → is-full y ≡ false
+unfolding is-full _∨ᵇ_
+not-full-i y h = rw (lt-leb tally-limit (y .answered) (h .0), lt-leb tally-limit (y .refused) (h .1))
+
+-- The refusals of what rules come to.
+abbrev pub of-end : List ℕ
+of-end = 40 ∷ 41 ∷ 42 ∷ []
+
+-- An answer or one of them.
 abbrev pub Final : OrRefused Answer → Type 0
 Final (taken a) = Unit
-Final (refused k s) = k ≡ 40
+Final (refused k s) = OneOf of-end k
 
-then-back : {A : Type 0} (u : OrRefused A) (f : A → OrRefused Answer) (w : OrRefused Answer) → Final w → Only (Other 40) u → (u and-then f) ≡ w → (a : A) × (u ≡ taken a) × (f a ≡ w)
-unfolding _and-then_
-then-back (taken a) f w l h e = (a, refl, e)
-then-back (refused k s) f w l h e = absurd (h (subst Final (sym e) l))
+-- None of them.
+abbrev pub Earlier : ℕ → Type 0
+Earlier k = OneOf of-end k → ⊥
 
-cond-back : (b : Bool) (k s : ℕ) (u w : OrRefused Answer) → Final w → (k ≡ 40 → ⊥) → cond b (refused k s) u ≡ w → u ≡ w
-cond-back true k s u w l h e = absurd (h (subst Final (sym e) l))
-cond-back false k s u w l h e = e
+-- Numbers that are none of them.
+earlier : (ns : List ℕ) → ((k : ℕ) → OneOf ns k → Other 40 k) → ((k : ℕ) → OneOf ns k → Other 41 k) → ((k : ℕ) → OneOf ns k → Other 42 k) → (k : ℕ) → OneOf ns k → Earlier k
+earlier ns a b c k h (inl e) = a k h e
+earlier ns a b c k h (inr (inl e)) = b k h e
+earlier ns a b c k h (inr (inr (inl e))) = c k h e
+earlier ns a b c k h (inr (inr (inr x))) = x
 
-room-back : (width count : ℕ) (rooms : Rooms) (u w : OrRefused Answer) → Final w → if-room width count rooms u ≡ w → u ≡ w
-unfolding if-room
-room-back width count rooms u w l e =
-    cond-back (ltb (rooms .for-fired) (byte-count count)) 30 3 u w l (λ q. omega arith)
-    (cond-back (ltb (rooms .for-changes) changes-room) 30 2 _ w l (λ q. omega arith)
-    (cond-back (ltb (rooms .for-card) (byte-count (card-bits width))) 30 1 _ w l (λ q. omega arith) e))
+module _ (f : File) (y : Tally) (card slip : List ℕ) (rooms : Rooms) where
+  abbrev counts : List ℕ
+  counts = slot-counts (f .slots)
 
--- Card and slip were unpacked, and the rules have fired.
-pub record Ended (f : File) (card slip : List ℕ) (w : OrRefused Answer) : Type 0 where
-  pub S : List ℕ
-  pub I : List Pair
-  pub card-is : read-card (slot-counts (f .slots)) card ≡ taken S
-  pub slip-is : read-slip (slot-counts (f .slots)) slip ≡ taken I
-  pub ends : answer-by-firing (f .rules) (length (slot-counts (f .slots))) S I ≡ w
+  abbrev width : ℕ
+  width = length counts
 
-pub response-ends : (text : List ℕ) (f : File) → Is-file text f → reading text .outcome ≡ Accepted → (y : Tally) (card slip : List ℕ) (rooms : Rooms) (w : OrRefused Answer)
-    → Final w → responds text y card slip rooms ≡ w → Ended f card slip w
-unfolding answer-by-rules
-response-ends text f h o y card slip rooms w l e =
-    let u = cond-back (is-full y) 32 0 (answer-by-rules (slot-counts (f .slots)) (f .rules) card slip rooms) w l (λ q. omega arith) (sym (file-response text f h o y card slip rooms) ∙ e) in
-    let a = then-back (read-card (slot-counts (f .slots)) card) _ w l (only-more (OneOf of-card) (Other 40) (one-of-other of-card 40 tt) (read-card (slot-counts (f .slots)) card) (card-refused (slot-counts (f .slots)) card)) u in
-    let b = then-back (read-slip (slot-counts (f .slots)) slip) _ w l (only-more (OneOf of-slip) (Other 40) (one-of-other of-slip 40 tt) (read-slip (slot-counts (f .slots)) slip) (slip-refused (slot-counts (f .slots)) slip)) (a .2) in
-    record {
-      S = a .0;
-      I = b .0;
-      card-is = a .1;
-      slip-is = b .1;
-      ends = room-back (length (slot-counts (f .slots))) (length (f .rules)) rooms _ w l (b .2);
-    }
+  -- Refused before the rules are looked at, by both responses alike.
+  abbrev pub Before : Type 0
+  Before = (k : ℕ) × (s : ℕ) × Earlier k × ((way : Way) → comes way f y card slip rooms ≡ refused k s)
 
--- An answer: no slot is in conflict, and these are its bytes.
-pub unless-conflict-taken : (width count : ℕ) (S : List ℕ) (C : Pairs) (ns : List ℕ) (a : Answer) → unless-conflict width count S C ns ≡ taken a
-    → (conflict-slot width row C ≡ width) × (answer-of width count S C ns ≡ a)
-unfolding unless-conflict
-unless-conflict-taken width count S C ns a e = go (ltb (conflict-slot width row C) width) refl e
-  where
-    go : (b : Bool) → ltb (conflict-slot width row C) width ≡ b → cond b (refused 40 (conflict-slot width row C)) (taken (answer-of width count S C ns)) ≡ taken a
-        → (conflict-slot width row C ≡ width) × (answer-of width count S C ns ≡ a)
-    go true q z = absurd (let z : _≡_ {A = ℕ} 0 1 = cc in omega arith)
-    go false q z =
-        (le-antisymm (conflict-slot-top row C width) (ltb-false (conflict-slot width row C) width q), let x : answer-of width count S C ns ≡ a = cc in x)
+  -- One or the other, by the outputs' room, the slip, the card and the tally.
+  by-room : is-full y ≡ false → (S : List ℕ) → read-card counts card ≡ taken S → (I : List Pair) → read-slip counts slip ≡ taken I
+      → (a b c : Bool) → ltb (rooms .for-card) (byte-count (card-bits width)) ≡ a → ltb (rooms .for-changes) changes-room ≡ b → ltb (rooms .for-fired) (byte-count (length (f .rules))) ≡ c
+      → HandedIn f y card slip rooms ⊎ Before
+  unfolding answer-by-rules _and-then_ if-room
+  by-room e S p I q true b c u v w = inr (30, 1, (λ x. one-of-other of-end 30 tt 30 x refl), λ way. rw (e, p, q, u) refl)
+  by-room e S p I q false true c u v w = inr (30, 2, (λ x. one-of-other of-end 30 tt 30 x refl), λ way. rw (e, p, q, u, v) refl)
+  by-room e S p I q false false true u v w = inr (30, 3, (λ x. one-of-other of-end 30 tt 30 x refl), λ way. rw (e, p, q, u, v, w) refl)
+  by-room e S p I q false false false u v w =
+      inl (record { not-full = room-left y e; S = S; I = I; card-is = p; slip-is = q; room = record { for-card = ltb-false _ _ u; for-changes = ltb-false _ _ v; for-fired = ltb-false _ _ w } })
 
--- 40: a slot is in conflict, and this is its lowest.
-pub unless-conflict-40 : (width count : ℕ) (S : List ℕ) (C : Pairs) (ns : List ℕ) (s : ℕ) → unless-conflict width count S C ns ≡ refused 40 s
-    → (conflict-slot width row C < width) × (conflict-slot width row C ≡ s)
-unfolding unless-conflict
-unless-conflict-40 width count S C ns s e = go (ltb (conflict-slot width row C) width) refl e
-  where
-    go : (b : Bool) → ltb (conflict-slot width row C) width ≡ b → cond b (refused 40 (conflict-slot width row C)) (taken (answer-of width count S C ns)) ≡ refused 40 s
-        → (conflict-slot width row C < width) × (conflict-slot width row C ≡ s)
-    go true q z = (ltb-true (conflict-slot width row C) width q, let x : conflict-slot width row C ≡ s = cc in x)
-    go false q z = absurd (let z : _≡_ {A = ℕ} 0 1 = cc in omega arith)
+  by-slip : is-full y ≡ false → (S : List ℕ) → read-card counts card ≡ taken S → (u : OrRefused (List Pair)) → read-slip counts slip ≡ u → HandedIn f y card slip rooms ⊎ Before
+  unfolding answer-by-rules _and-then_
+  by-slip e S p (taken I) q = by-room e S p I q _ _ _ refl refl refl
+  by-slip e S p (refused k s) q =
+      inr (k, s, earlier of-slip (one-of-other of-slip 40 tt) (one-of-other of-slip 41 tt) (one-of-other of-slip 42 tt) k (only-e (OneOf of-slip) (read-slip counts slip) k s (slip-refused counts slip) q), λ way. rw (e, p, q) refl)
 
--- Where every value in C is one of an array's row, this is the lowest slot to which C gives two.
-pub lowest-of : (C : Pairs) (width : ℕ) → ((p : Pair) → T (C p) → p .value < row) → conflict-slot width row C < width → LowestConflict C (conflict-slot width row C)
-unfolding InConflict
-lowest-of C width small l = record {
-  conflict = (let w = conflict-e row C (conflict-slot width row C) (conflict-slot-right row C width l) in (w .0, w .1, w .2, w .4, w .5));
-  lowest = λ r h w. conflict-slot-lowest row C width r h (conflict-i row C r (w .0) (w .1) (w .2) (small (pair r (w .1)) (w .4)) (w .3) (w .4));
-}
+  by-card : is-full y ≡ false → (u : OrRefused (List ℕ)) → read-card counts card ≡ u → HandedIn f y card slip rooms ⊎ Before
+  unfolding answer-by-rules _and-then_
+  by-card e (taken S) p = by-slip e S p (read-slip counts slip) refl
+  by-card e (refused k s) p =
+      inr (k, s, earlier of-card (one-of-other of-card 40 tt) (one-of-other of-card 41 tt) (one-of-other of-card 42 tt) k (only-e (OneOf of-card) (read-card counts card) k s (card-refused counts card) p), λ way. rw (e, p) refl)
+
+  by-tally : (b : Bool) → is-full y ≡ b → HandedIn f y card slip rooms ⊎ Before
+  by-tally true e = inr (32, 0, (λ x. one-of-other of-end 32 tt 32 x refl), λ way. rw e refl)
+  by-tally false e = by-card e (read-card counts card) refl
+
+  -- All is in order, or it is refused before.
+  pub in-order-or-before : HandedIn f y card slip rooms ⊎ Before
+  in-order-or-before = by-tally (is-full y) refl
+
+  -- Where all is in order it is what the rules come to.
+  pub in-order-comes : (way : Way) (d : HandedIn f y card slip rooms) → comes way f y card slip rooms ≡ answer-by way counts (f .rules) (d .S) (d .I)
+  unfolding answer-by-rules _and-then_ if-room
+  in-order-comes way d = rw (not-full-i y (d .not-full), d .card-is, d .slip-is, le-ltb _ _ (d .room .for-card), le-ltb _ _ (d .room .for-changes), le-ltb _ _ (d .room .for-fired)) refl
+
+  -- And only there does it end so.
+  pub ends-in-order : (way : Way) (w : OrRefused Answer) → Final w → comes way f y card slip rooms ≡ w → (d : HandedIn f y card slip rooms) × (answer-by way counts (f .rules) (d .S) (d .I) ≡ w)
+  ends-in-order way w l e = ⊎-elim (λ d. (d, sym (in-order-comes way d) ∙ e)) (λ b. absurd (b .2 (subst Final (sym e ∙ b .3 way) l))) in-order-or-before

@@ -13,7 +13,9 @@ use Rattle.model.specs.Strata.{weak}
 use Rattle.model.specs.Circles.{circle-of}
 use Rattle.model.specs.Least.{strata-of}
 use Rattle.model.proofs.Strata.{least-strata}
-use Rattle.soundness.specs.Sound.{sound}
+use Rattle.table.specs.declared.Way.the-variants.{Strata}
+use Rattle.soundness.specs.Sound.{takes}
+use Rattle.soundness.proofs.Taken.{sound-taken}
 use Rattle.laws.specs.Limits.{text-limit}
 use Rattle.grammar.specs.Files.{File}
 use Rattle.grammar.specs.Meaning.{Is-file}
@@ -30,9 +32,8 @@ use Rattle.rule_file.specs.Carries.{Carries}
 use Rattle.rule_file.proofs.Answers.{reading-accepted-iff, reading-carries, reading-passes}
 use Rattle.printing.specs.Printing.{print-of, print-into}
 use Rattle.printing.proofs.Fitting.{print-is, refused-first}
-use Rattle.cards.specs.Cards.{if-sound}
 use Rattle.tally.specs.declared.Tally.{Tally}
-use Rattle.response.specs.Respond.{Rooms, answer-by-table, answer-to}
+use Rattle.response.specs.Respond.{Rooms, answer-by-table, answer-in}
 use Rattle.promises.specs.Agreement.{responds}
 use Rattle.promises.specs.HouseStyle.{Alike, InStyle, HouseStyle}
 use Rattle.promises.proofs.Outcomes.{comes-34, comes-33, comes-whole, is-34, is-33, is-whole}
@@ -136,9 +137,9 @@ module _ (text : List ℕ) (room : ℕ) (bytes : List ℕ) (e : print-into text 
 
 -- Tables that have the same counts and rules, and pass 31, answer alike.
 answers-alike : (text text′ : List ℕ) → Alike text text′ → (y : Tally) (card slip : List ℕ) (rooms : Rooms) → responds text y card slip rooms ≡ responds text′ y card slip rooms
-unfolding answer-to answer-by-table if-sound
+unfolding answer-in answer-by-table
 answers-alike text text′ a y card slip rooms =
-    rw (is-true (sound (reading text .table)) (reading-passes text), is-true (sound (reading text′ .table)) (reading-passes text′), a .same-counts, a .same-rules)
+    rw (is-true (takes Strata (reading text .table)) (sound-taken Strata (reading text .table) (reading-passes text)), is-true (takes Strata (reading text′ .table)) (sound-taken Strata (reading text′ .table) (reading-passes text′)), a .same-counts, a .same-rules)
 
 -- THE HOUSE STYLE.
 pub house-style : HouseStyle

@@ -1,39 +1,28 @@
 -- For the rules of a file without a circle, a card and a slip that pass their tests: what the answer shows, and what 40 names, of every complete and consistent firing order.
 -- Assumes nothing.
-use Prim.Native.Nat.{ℕ, _≤_, _<_}
-use native.Mathlib.Omega.{arith}
-use mathlib.Core.Path.{_≡_, sym, ap, subst, _∙_}
-use mathlib.Core.Bool.{Bool}
+use Prim.Native.Nat.{ℕ, _<_}
+use mathlib.Core.Path.{_≡_, sym, subst, _∙_}
 use mathlib.Core.List.{List}
-use mathlib.Core.Logic.{⊎-elim}
 use lib.Dec.{T}
-use lib.ListN.{length, getD, List·getD-eq-default}
-use Rattle.laws.specs.Numbers.{how-many}
-use Rattle.laws.proofs.Truth.{le-or-lt}
+use lib.ListN.{length}
 use Rattle.model.specs.Rules.{Pair, Pairs}
 use Rattle.model.specs.Orders.{names, changes, whole-order, firing-order}
 use Rattle.model.specs.Strata.{weak}
 use Rattle.model.specs.Circles.{circle-of}
 use Rattle.model.specs.Response.{response}
-use Rattle.model.specs.Result.{pair, conflict-slot, new-card, changes-slip, Bounded}
-use Rattle.model.proofs.Orders.{whole-e, rules-of}
-use Rattle.model.proofs.Lengths.{order-length}
+use Rattle.model.specs.Result.{conflict-slot}
+use Rattle.model.proofs.Orders.{whole-e}
 use Rattle.model.proofs.Demand3.{response-is-whole, demand-3}
-use Rattle.model.proofs.Results.{slip-length, no-conflict-e, slip-exact, new-card-length, new-card-at, new-value-kept, new-value-is}
 use Rattle.laws.specs.Limits.{row}
 use Rattle.grammar.specs.Files.{File, slot-counts}
 use Rattle.grammar.proofs.Declared.{Declared-file}
 use Rattle.laws.specs.Answers.{passed, taken}
 use Rattle.cards.specs.Forms.{card-test, slip-test, read-card, read-slip}
-use Rattle.cards.proofs.Passed.{card-pass}
-use Rattle.cards.proofs.Having.{Has}
-use Rattle.cards.proofs.RoundTrip.{card-reads-back, slip-reads-back}
-use Rattle.results.specs.Record.{ones-in}
-use Rattle.response.specs.Ending.{fired-record, answer-of}
-use Rattle.promises.specs.Agreement.{InConflict, LowestConflict, Shows, Agreed}
-use Rattle.promises.proofs.Ends.{lowest-of}
-use Rattle.promises.proofs.FiredBits.{record-bit, record-length, record-ones}
-use Rattle.promises.proofs.Bounds.{file-slots, changes-has, changes-bounded, changes-pass, new-card-passes}
+use Rattle.response.specs.Ending.{answer-of}
+use Rattle.promises.specs.Agreement.{LowestConflict, Shows, Agreed}
+use Rattle.promises.proofs.Conflicts.{lowest-of}
+use Rattle.promises.proofs.Bounds.{changes-bounded}
+use Rattle.promises.proofs.Shows.{shows-alike}
 
 module _ (f : File) (declared : Declared-file f) (no-circle : circle-of weak (f .rules) ≡ 0) (S : List ℕ) (I : List Pair)
     (card : card-test (slot-counts (f .slots)) S ≡ passed) (slip : slip-test (slot-counts (f .slots)) I ≡ passed) where
@@ -49,12 +38,6 @@ module _ (f : File) (declared : Declared-file f) (no-circle : circle-of weak (f 
 
   order : T (firing-order (f .rules) S I ours)
   order = whole-e (f .rules) S I ours (response-is-whole weak (f .rules) S I no-circle) .order
-
-  has : (p : Pair) → T (C p) → Has (slot-counts (f .slots)) p
-  has = changes-has f declared S I slip ours order
-
-  bounded : Bounded width row C
-  bounded = changes-bounded f declared S I slip ours order
 
   same-C : (ns : List ℕ) → T (whole-order (f .rules) S I ns) → changes (f .rules) I ns ≡ C
   same-C ns A = demand-3 weak (f .rules) S I no-circle .1 ns A .1
@@ -76,50 +59,10 @@ module _ (f : File) (declared : Declared-file f) (no-circle : circle-of weak (f 
     each-order = each;
   }
 
-  -- The changes and the new card unpack.
-  slip-unpacks : read-slip (slot-counts (f .slots)) (answer-of width (length (f .rules)) S C ours .changes) ≡ taken (changes-slip width row C)
-  unfolding answer-of
-  slip-unpacks =
-      slip-reads-back (slot-counts (f .slots)) (changes-slip width row C) (file-slots f declared) (omega (arith, slip-length row C width, file-slots f declared .few)) (changes-pass (slot-counts (f .slots)) C has)
-
-  card-unpacks : read-card (slot-counts (f .slots)) (answer-of width (length (f .rules)) S C ours .new-card) ≡ taken (new-card width row C S)
-  unfolding answer-of
-  card-unpacks = card-reads-back (slot-counts (f .slots)) (new-card width row C S) (file-slots f declared) (new-card-passes (slot-counts (f .slots)) C S has card)
-
-  module _ (none : conflict-slot width row C ≡ width) where
-    card-new : (s v : ℕ) → T (C (pair s v)) → getD (new-card width row C S) s 0 ≡ v
-    card-new s v t =
-        new-card-at row C width s S (bounded .slot-below (pair s v) t)
-        ∙ new-value-is row C S s v (bounded .value-below (pair s v) t) t (λ w u. no-conflict-e row C width bounded none s w v u t)
-
-    card-old : (s : ℕ) → ((v : ℕ) → ¬ T (C (pair s v))) → getD (new-card width row C S) s 0 ≡ getD S s 0
-    card-old s lacks =
-        ⊎-elim
-        (λ (l : width ≤ s). List·getD-eq-default (new-card width row C S) 0 {n = s} (rw (new-card-length row C width S) l) ∙ sym (List·getD-eq-default S 0 {n = s} (rw (card-pass (slot-counts (f .slots)) S card .0) l)))
-        (λ (l : s < width). new-card-at row C width s S l ∙ new-value-kept row C S s (λ v h. lacks v)) (le-or-lt width s)
-
-    -- Where no slot is in conflict the answer shows every such order.
-    pub shows-order : (ns : List ℕ) → T (whole-order (f .rules) S I ns) → Shows f S I (answer-of width (length (f .rules)) S C ours) ns
-    unfolding answer-of InConflict
-    shows-order ns A =
-        let e = same-C ns A in
-        let g = same-names ns A in
-        let n : ones-in (fired-record (length (f .rules)) ours) ≡ how-many (names ns) (length (f .rules)) =
-        record-ones (length (f .rules)) ours ∙ ap (λ (h : ℕ → Bool). how-many h (length (f .rules))) (sym g) in
-        record {
-          pairs = changes-slip width row C;
-          changes-are = slip-unpacks;
-          same-changes = λ p. ap (λ (D : Pairs). D p) (e ∙ sym (slip-exact row C width bounded none));
-          same-fired = λ m. ap (λ (h : ℕ → Bool). h m) g ∙ record-bit (length (f .rules)) ours (rules-of (f .rules) S I ours (whole-e (f .rules) S I ours (response-is-whole weak (f .rules) S I no-circle))) m;
-          fired-length = record-length (length (f .rules)) ours;
-          how-many-fired = (n, n ∙ order-length (f .rules) S I ns (whole-e (f .rules) S I ns A .order));
-          no-conflict = λ s w. omega (arith, w .2, no-conflict-e row C width bounded none s (w .0) (w .1) (subst (λ (D : Pairs). T (D (pair s (w .0)))) e (w .3)) (subst (λ (D : Pairs). T (D (pair s (w .1)))) e (w .4)));
-          values = new-card width row C S;
-          card-is = card-unpacks;
-          new-value = λ s v t. card-new s v (subst (λ (D : Pairs). T (D (pair s v))) e t);
-          old-value = λ s lacks. card-old s (λ v t. lacks v (subst (λ (D : Pairs). T (D (pair s v))) (sym e) t));
-        }
+  -- Where no slot is in conflict the answer shows every such order.
+  pub shows-order : conflict-slot width row C ≡ width → (ns : List ℕ) → T (whole-order (f .rules) S I ns) → Shows f S I (answer-of width (length (f .rules)) S C ours) ns
+  shows-order none ns A = shows-alike f declared S I card slip ours order none ns (whole-e (f .rules) S I ns A .order) (same-C ns A) (same-names ns A)
 
   -- Where a slot is in conflict, the lowest is that of every such order.
   pub lowest-conflict : conflict-slot width row C < width → (ns : List ℕ) → T (whole-order (f .rules) S I ns) → LowestConflict (changes (f .rules) I ns) (conflict-slot width row C)
-  lowest-conflict l ns A = subst (λ (D : Pairs). LowestConflict D (conflict-slot width row C)) (sym (same-C ns A)) (lowest-of C width (bounded .value-below) l)
+  lowest-conflict l ns A = subst (λ (D : Pairs). LowestConflict D (conflict-slot width row C)) (sym (same-C ns A)) (lowest-of C width (changes-bounded f declared S I slip ours order .value-below) l)

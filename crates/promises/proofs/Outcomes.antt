@@ -2,7 +2,7 @@
 -- Assumes nothing.
 use Prim.Native.Nat.{ℕ, _≤_, _<_}
 use native.Mathlib.Omega.{arith}
-use mathlib.Core.Path.{_≡_, refl, sym, ap, subst, _∙_}
+use mathlib.Core.Path.{_≡_, refl, sym, ap, ap₂, subst, _∙_}
 use mathlib.Core.Bool.{Bool, true, false, cond}
 use mathlib.Core.List.{List}
 use mathlib.Core.Logic.{_⊎_, inl, inr, ⊎-elim}
@@ -13,6 +13,8 @@ use Rattle.laws.proofs.Truth.{le-or-lt}
 use Rattle.text.specs.Tokens.{tokens}
 use Rattle.model.specs.Strata.{weak}
 use Rattle.model.specs.Circles.{circle-of}
+use Rattle.table.specs.declared.Way.{Way}
+use Rattle.table.specs.declared.Way.the-variants.{Strata, Marks}
 use Rattle.table.specs.Empty.{empty-table}
 use Rattle.laws.specs.Limits.{text-limit}
 use Rattle.grammar.specs.Files.{File}
@@ -22,14 +24,22 @@ use Rattle.grammar.specs.Refusals.{Stands-at}
 use Rattle.grammar.proofs.Refusals.{text-refused-iff}
 use Rattle.strata.specs.Layered.{with-strata}
 use Rattle.grammar.specs.TableFor.{table-for}
+use Rattle.reader.specs.declared.Outcome.{Outcome}
 use Rattle.reader.specs.declared.Outcome.the-variants.{Accepted, Refused}
+use Rattle.reader.specs.Tables.{reading-refusal, reading-second}
 use Rattle.reader.specs.declared.FileRead.{FileRead}
-use Rattle.rule_file.specs.Whole.{layered, answered-whole, reading}
-use Rattle.rule_file.proofs.Answers.{refused-range, reading-18-iff}
+use Rattle.rule_file.specs.Whole.{layered, answered-whole, reading, unlayered, read-by}
+use Rattle.rule_file.proofs.Answers.{reading-file, without-18-file, whole-refused, refused-range, reading-18-iff}
+use Rattle.rule_file.proofs.Unlayered.{refused-without-18}
 use Rattle.printing.specs.Printing.{print-of, print-into}
 use Rattle.printing.proofs.Fitting.{fitted-34, fitted-33, fitted-all, refused-first, then-fitted}
 use Rattle.promises.specs.Reasons.{FileReason, over-long, at-token, no-strata}
 use Rattle.promises.proofs.Refusals.{Only, Other}
+
+-- A refusal by its numbers.
+pub by-numbers : (x : Outcome) (k n : ℕ) → 0 < k → reading-refusal x ≡ k → reading-second x ≡ n → x ≡ Refused k n
+by-numbers Accepted k n l e q = absurd (omega (arith, l, e))
+by-numbers (Refused j m) k n l e q = ap₂ Refused e q
 
 -- The numbers of a reading's refusals.
 abbrev pub OfFile : ℕ → Type 0
@@ -39,53 +49,65 @@ OfFile k = (10 ≤ k) × (k ≤ 18)
 abbrev Reads : FileRead → Type 0
 Reads r = (r .outcome ≡ Accepted) ⊎ ((k : ℕ) × (n : ℕ) × OfFile k × (r ≡ record { outcome = Refused k n; table = empty-table }))
 
-file-comes : (f : File) → Reads (layered f)
+layered-comes : (f : File) → Reads (layered f)
 unfolding layered
-file-comes f = go (eqb (circle-of weak (f .rules)) 0)
+layered-comes f = go (eqb (circle-of weak (f .rules)) 0)
   where
     go : (b : Bool) → Reads (cond b (record { outcome = Accepted; table = with-strata (table-for f) }) (record { outcome = Refused 18 (circle-of weak (f .rules)); table = empty-table }))
     go true = inl refl
     go false = inr (18, circle-of weak (f .rules), (omega arith, omega arith), refl)
 
-pub text-comes : (text : List ℕ) → Reads (reading text)
-unfolding reading answered-whole
-text-comes text = go (parse text) refl
-  where
-    go : (a : Parsed) → parse text ≡ a → Reads (answered-whole a)
-    go (accepted f) e = file-comes f
-    go (grammar.refused k n) e = let r = refused-range text k n e in inr (k, n, (r .0, omega (arith, r .1)), refl)
+file-comes : (way : Way) (text : List ℕ) (f : File) → parse text ≡ accepted f → Reads (read-by way text)
+unfolding unlayered
+file-comes Strata text f e = subst Reads (sym (reading-file text f e)) (layered-comes f)
+file-comes Marks text f e = inl (ap (λ (r : FileRead). r .outcome) (without-18-file text f e))
 
-grammar-refuses : (text : List ℕ) (k n : ℕ) → ((k ≡ 10) × (n ≡ 0) × (text-limit < length text)) ⊎ ((length text ≤ text-limit) × Stands-at (tokens text) k n) → reading text .outcome ≡ Refused k n
-unfolding reading answered-whole
-grammar-refuses text k n h = ap (λ (a : Parsed). answered-whole a .outcome) (text-refused-iff text k n .1 h)
+pub text-comes : (way : Way) (text : List ℕ) → Reads (read-by way text)
+text-comes way text = go (parse text) refl
+  where
+    go : (a : Parsed) → parse text ≡ a → Reads (read-by way text)
+    go (accepted f) e = file-comes way text f e
+    go (grammar.refused k n) e = let r = refused-range text k n e in inr (k, n, (r .0, omega (arith, r .1)), sym (whole-refused way text k n e))
+
+grammar-refuses : (way : Way) (text : List ℕ) (k n : ℕ) → ((k ≡ 10) × (n ≡ 0) × (text-limit < length text)) ⊎ ((length text ≤ text-limit) × Stands-at (tokens text) k n) → read-by way text .outcome ≡ Refused k n
+grammar-refuses way text k n h = sym (ap (λ (r : FileRead). r .outcome) (whole-refused way text k n (text-refused-iff text k n .1 h)))
 
 -- A refusal has its reason,
-pub file-reason : (text : List ℕ) (k n : ℕ) → reading text .outcome ≡ Refused k n → FileReason text k n
+strata-reason : (text : List ℕ) (k n : ℕ) → reading text .outcome ≡ Refused k n → FileReason text Strata k n
 unfolding reading answered-whole layered
-file-reason text k n o = go (parse text) refl o
+strata-reason text k n o = go (parse text) refl o
   where
-    go : (a : Parsed) → parse text ≡ a → answered-whole a .outcome ≡ Refused k n → FileReason text k n
+    go : (a : Parsed) → parse text ≡ a → answered-whole a .outcome ≡ Refused k n → FileReason text Strata k n
     go (accepted f) e q = by-circle (eqb (circle-of weak (f .rules)) 0) q
       where
-        by-circle : (b : Bool) → cond {A = FileRead} b (record { outcome = Accepted; table = with-strata (table-for f) }) (record { outcome = Refused 18 (circle-of weak (f .rules)); table = empty-table }) .outcome ≡ Refused k n → FileReason text k n
+        by-circle : (b : Bool) → cond {A = FileRead} b (record { outcome = Accepted; table = with-strata (table-for f) }) (record { outcome = Refused 18 (circle-of weak (f .rules)); table = empty-table }) .outcome ≡ Refused k n → FileReason text Strata k n
         by-circle true q = absurd (let z : _≡_ {A = ℕ} 0 1 = cc in omega arith)
         by-circle false q =
             let z : 18 ≡ k = cc in
             let w = reading-18-iff text n .0 (o ∙ ap (λ (j : ℕ). Refused j n) (sym z)) in
-            subst (λ (j : ℕ). FileReason text j n) z (no-strata (w .1) (w .2))
+            subst (λ (j : ℕ). FileReason text Strata j n) z (no-strata (w .1) (w .2))
     go (grammar.refused j m) e q =
         let y : j ≡ k = cc in
         let z : m ≡ n = cc in
-        subst (λ (i : ℕ). FileReason text i n) y (subst (λ (i : ℕ). FileReason text j i) z (at text j m e))
+        subst (λ (i : ℕ). FileReason text Strata i n) y (subst (λ (i : ℕ). FileReason text Strata j i) z (at text j m e))
       where
-        at : (text : List ℕ) (j m : ℕ) → parse text ≡ grammar.refused j m → FileReason text j m
+        at : (text : List ℕ) (j m : ℕ) → parse text ≡ grammar.refused j m → FileReason text Strata j m
         at text j m e = ⊎-elim (λ h. rw (h .0, h .1) (over-long (h .2))) (λ h. at-token (h .0) (h .1)) (text-refused-iff text j m .0 e)
 
+but-18 : (w : Way) (text : List ℕ) (k n : ℕ) → k ≤ 17 → FileReason text w k n → FileReason text Marks k n
+but-18 w text k n h (over-long l) = over-long l
+but-18 w text k n h (at-token s l) = at-token s l
+but-18 w text k n h (no-strata i l) = absurd (omega (arith, h))
+
+pub file-reason : (way : Way) (text : List ℕ) (k n : ℕ) → read-by way text .outcome ≡ Refused k n → FileReason text way k n
+file-reason Strata text k n o = strata-reason text k n o
+file-reason Marks text k n o = let w = refused-without-18 text k n o in but-18 Strata text k n (w .1) (strata-reason text k n (ap (λ (r : FileRead). r .outcome) (w .2) ∙ o))
+
 -- and where a reason holds it is refused so.
-pub reason-file : (text : List ℕ) (k n : ℕ) → FileReason text k n → reading text .outcome ≡ Refused k n
-reason-file text k n (over-long l) = grammar-refuses text 10 0 (inl (refl, refl, l))
-reason-file text k n (at-token s l) = grammar-refuses text k n (inr (s, l))
-reason-file text k n (no-strata {f = f} i l) = reading-18-iff text n .1 (f, i, l)
+pub reason-file : (way : Way) (text : List ℕ) (k n : ℕ) → FileReason text way k n → read-by way text .outcome ≡ Refused k n
+reason-file way text k n (over-long l) = grammar-refuses way text 10 0 (inl (refl, refl, l))
+reason-file way text k n (at-token s l) = grammar-refuses way text k n (inr (s, l))
+reason-file way text k n (no-strata {f = f} i l) = reading-18-iff text n .1 (f, i, l)
 
 module _ (text : List ℕ) (room : ℕ) where
   -- The print of the text, whatever its length.
@@ -109,7 +131,7 @@ module _ (text : List ℕ) (room : ℕ) where
   comes-whole h = then-fitted text room (h .0) ∙ fitted-all whole room (h .1) (h .2)
 
   pub prints : Prints (print-into text room)
-  prints = ⊎-elim accepts (λ w. rw (refused-first text room (w .0) (w .1) (ap (λ (r : FileRead). r .outcome) (w .3))) (own-refusal (w .2) (ap (λ (r : FileRead). r .outcome) (w .3)))) (text-comes text)
+  prints = ⊎-elim accepts (λ w. rw (refused-first text room (w .0) (w .1) (ap (λ (r : FileRead). r .outcome) (w .3))) (own-refusal (w .2) (ap (λ (r : FileRead). r .outcome) (w .3)))) (text-comes Strata text)
     where
       accepts : reading text .outcome ≡ Accepted → Prints (print-into text room)
       accepts o =

@@ -11,9 +11,11 @@ use Rattle.laws.specs.Answers.{OrRefused, taken, refused}
 use Rattle.laws.proofs.Equations.{is-true}
 use Rattle.model.specs.Rules.{Pair, Rule}
 use Rattle.table.specs.declared.Table.{Table}
+use Rattle.table.specs.declared.Way.{Way}
+use Rattle.table.specs.declared.Way.the-variants.{Strata}
 use Rattle.table.specs.Link.{rules-of, value-counts}
 use Rattle.grammar.proofs.Declared.{file-declared}
-use Rattle.soundness.specs.Sound.{sound}
+use Rattle.soundness.specs.Sound.{sound, takes}
 use Rattle.reader.specs.declared.FileRead.{FileRead}
 use Rattle.reader.specs.declared.Outcome.{Outcome}
 use Rattle.reader.specs.declared.Outcome.the-variants.{Accepted, Refused}
@@ -22,9 +24,9 @@ use Rattle.rule_file.proofs.Answers.{reading-passes, reading-carries}
 use Rattle.cards.proofs.EntryTrips.{few-slots}
 use Rattle.tally.specs.Counting.{fresh}
 use Rattle.response.specs.Ending.{Answer}
-use Rattle.response.specs.Respond.{Rooms, answer-by-table, answer-to}
+use Rattle.response.specs.Respond.{Rooms, answer-by-table, answer-to, answer-in}
 use Rattle.listing.specs.Listing.{refusal, program-rooms, list-response, list-reading, listing}
-use Rattle.promises.specs.Reasons.{ValuesReason, another-count, value-above, CardReason, card-length, values-refused, card-padding, ChangeFault, slot-lacking, not-rising, value-lacking, SlipReason, slip-length, slip-change, slip-padding, TableReason, not-sound, of-others, RoomReason, card-short, changes-short, fired-short, RoomRight, RulesReason, of-card, of-slip, of-room, conflict, RulesRight}
+use Rattle.promises.specs.Reasons.{ValuesReason, another-count, value-above, CardReason, card-length, values-refused, card-padding, ChangeFault, slot-lacking, not-rising, value-lacking, SlipReason, slip-length, slip-change, slip-padding, TableReason, not-passed, of-others, RoomReason, card-short, changes-short, fired-short, RoomRight, EndReason, conflict, clash, unknown, RulesReason, of-card, of-slip, of-room, of-end, RulesRight}
 use Rattle.promises.specs.Refusals.{Passes}
 use Rattle.promises.specs.Program.{NoneOfCaller}
 use Rattle.promises.proofs.Judged.{Judged}
@@ -58,16 +60,21 @@ room-not width count rooms s h (card-short l) = omega (arith, h .for-card, l)
 room-not width count rooms s h (changes-short c l) = omega (arith, h .for-changes, l)
 room-not width count rooms s h (fired-short c d l) = omega (arith, h .for-fired, l)
 
-rules-not : (counts : List ℕ) (rs : List Rule) (card slip : List ℕ) (rooms : Rooms) (k s : ℕ) → RoomRight (length counts) (length rs) rooms → RulesReason counts rs card slip rooms k s → ¬ (k ≡ 30)
-rules-not counts rs card slip rooms k s h (of-card r) e = card-not counts card k s r e
-rules-not counts rs card slip rooms k s h (of-slip c r) e = slip-not counts slip k s r e
-rules-not counts rs card slip rooms k s h (of-room c i r) e = room-not (length counts) (length rs) rooms s h r
-rules-not counts rs card slip rooms k s h (conflict c i r l) e = omega (arith, e)
+end-not : (way : Way) (counts : List ℕ) (rs : List Rule) (card slip : List ℕ) (k s : ℕ) → EndReason counts rs card slip way k s → ¬ (k ≡ 30)
+end-not way counts rs card slip k s (conflict l) e = omega (arith, e)
+end-not way counts rs card slip k s (clash p d b) e = omega (arith, e)
+end-not way counts rs card slip k s (unknown n p d b) e = omega (arith, e)
 
-table-not : (t : Table) (card slip : List ℕ) (rooms : Rooms) (k s : ℕ) → RoomRight (length (value-counts t)) (length (rules-of t)) rooms
-    → TableReason t (RulesReason (value-counts t) (rules-of t) card slip rooms) k s → ¬ (k ≡ 30)
-table-not t card slip rooms k s h (not-sound n) e = omega (arith, e)
-table-not t card slip rooms k s h (of-others p r) e = rules-not (value-counts t) (rules-of t) card slip rooms k s h r e
+rules-not : (way : Way) (counts : List ℕ) (rs : List Rule) (card slip : List ℕ) (rooms : Rooms) (k s : ℕ) → RoomRight (length counts) (length rs) rooms → RulesReason way counts rs card slip rooms k s → ¬ (k ≡ 30)
+rules-not way counts rs card slip rooms k s h (of-card r) e = card-not counts card k s r e
+rules-not way counts rs card slip rooms k s h (of-slip c r) e = slip-not counts slip k s r e
+rules-not way counts rs card slip rooms k s h (of-room c i r) e = room-not (length counts) (length rs) rooms s h r
+rules-not way counts rs card slip rooms k s h (of-end c i r l) e = end-not way counts rs card slip k s l e
+
+table-not : (way : Way) (t : Table) (card slip : List ℕ) (rooms : Rooms) (k s : ℕ) → RoomRight (length (value-counts t)) (length (rules-of t)) rooms
+    → TableReason (takes way t) (RulesReason way (value-counts t) (rules-of t) card slip rooms) k s → ¬ (k ≡ 30)
+table-not way t card slip rooms k s h (not-passed n) e = omega (arith, e)
+table-not way t card slip rooms k s h (of-others p r) e = rules-not way (value-counts t) (rules-of t) card slip rooms k s h r e
 
 module _ (text card slip : List ℕ) where
   abbrev t : Table
@@ -83,11 +90,11 @@ module _ (text card slip : List ℕ) where
       record { for-card = omega (arith, slots); for-changes = omega arith; for-fired = omega (arith, rules) }
 
   answer-not-30 : reading text .outcome ≡ Accepted → (s : ℕ) → ¬ (answer-to t fresh card slip program-rooms ≡ refused 30 s)
-  unfolding answer-to
+  unfolding answer-in
   answer-not-30 o s e =
-      let b : answer-by-table t card slip program-rooms ≡ refused 30 s = rw fresh-not-full at e in
-      table-not t card slip program-rooms 30 s (enough o)
-      (subst (Judged (TableReason t (RulesReason (value-counts t) (rules-of t) card slip program-rooms)) (λ a. Passes t (RulesRight (value-counts t) (rules-of t) card slip program-rooms a))) b (table-judged t card slip program-rooms)) refl
+      let b : answer-by-table Strata t card slip program-rooms ≡ refused 30 s = rw fresh-not-full at e in
+      table-not Strata t card slip program-rooms 30 s (enough o)
+      (subst (Judged (TableReason (takes Strata t) (RulesReason Strata (value-counts t) (rules-of t) card slip program-rooms)) (λ a. Passes (takes Strata t) (RulesRight Strata (value-counts t) (rules-of t) card slip program-rooms a))) b (table-judged Strata t card slip program-rooms)) refl
 
   -- A listing that is a refusal is the response's, or the reading's.
   response-refuses : (u : OrRefused Answer) (k s : ℕ) → list-response text t u ≡ refusal k s → u ≡ refused k s
@@ -102,7 +109,7 @@ module _ (text card slip : List ℕ) where
   refuses (Refused j n) q k s e =
       let y : j ≡ k = cc in
       inr (⊎-elim (λ o. absurd (let z : Accepted ≡ Refused j n = sym o ∙ q in let w : _≡_ {A = ℕ} 0 1 = cc in omega arith))
-      (λ w. let z : w .0 ≡ j = same (w .0) j (w .1) n (sym (ap (λ (r : FileRead). r .outcome) (w .3)) ∙ q) in omega (arith, w .2 .1, y, z)) (text-comes text))
+      (λ w. let z : w .0 ≡ j = same (w .0) j (w .1) n (sym (ap (λ (r : FileRead). r .outcome) (w .3)) ∙ q) in omega (arith, w .2 .1, y, z)) (text-comes Strata text))
     where
       same : (a b m p : ℕ) → Refused a m ≡ Refused b p → a ≡ b
       same a b m p c = let z : a ≡ b = cc in z
@@ -115,6 +122,6 @@ module _ (text card slip : List ℕ) where
   pub none-of-caller : NoneOfCaller text card slip
   none-of-caller = record {
     no-30 = λ s. never 30 s (omega arith) (λ o. answer-not-30 o s);
-    no-31 = λ s. never 31 s (omega arith) (λ o. reading-no-31 text fresh card slip program-rooms s);
-    no-32 = λ s. never 32 s (omega arith) (λ o. fresh-no-32 t card slip program-rooms s);
+    no-31 = λ s. never 31 s (omega arith) (λ o. reading-no-31 Strata text fresh card slip program-rooms s);
+    no-32 = λ s. never 32 s (omega arith) (λ o. fresh-no-32 Strata t card slip program-rooms s);
   }

@@ -14,15 +14,18 @@ use Rattle.laws.specs.Packed.{byte-count}
 use Rattle.model.specs.Rules.{Pair, Pairs, Rule}
 use Rattle.model.specs.Result.{conflict-slot}
 use Rattle.table.specs.declared.Table.{Table}
+use Rattle.table.specs.declared.Way.{Way}
+use Rattle.table.specs.declared.Way.the-variants.{Strata, Marks}
 use Rattle.laws.specs.Limits.{row}
 use Rattle.table.specs.Link.{rules-of, value-counts}
-use Rattle.soundness.specs.Sound.{sound}
-use Rattle.cards.specs.Cards.{if-sound}
+use Rattle.soundness.specs.Sound.{takes}
+use Rattle.marks.specs.Marks.{declared-pairs}
+use Rattle.marks.specs.Selection.{no-clash, all-known, selection-refusal, selection}
 use Rattle.laws.specs.Answers.{Verdict, passed, fault, OrRefused, taken, refused, after}
 use Rattle.cards.specs.Forms.{count-in, card-bits, slip-bits, padding, values-in, changes-in, values-test, card-test, change-fault, changes-test, slip-test, read-card, read-slip}
-use Rattle.response.specs.Ending.{answer-of, unless-conflict, answer-by-firing}
+use Rattle.response.specs.Ending.{Answer, answer-of, unless-conflict, answer-by-firing, unless-refused, answer-by-marks}
 use Rattle.tally.specs.declared.Tally.{Tally}
-use Rattle.response.specs.Respond.{_and-then_, Rooms, changes-room, if-room, answer-by-rules, answer-by-table, answer-to}
+use Rattle.response.specs.Respond.{_and-then_, Rooms, changes-room, if-room, answer-by, answer-by-rules, answer-by-table, answer-in}
 use Rattle.tally.specs.Counting.{is-full}
 
 -- One of these numbers.
@@ -44,7 +47,7 @@ of-slip = 24 ∷ 25 ∷ 26 ∷ 27 ∷ 28 ∷ []
 
 -- Those of a response by a table and a tally that are in order, and of any.
 abbrev pub of-rules : List ℕ
-of-rules = 20 ∷ 21 ∷ 22 ∷ 23 ∷ 24 ∷ 25 ∷ 26 ∷ 27 ∷ 28 ∷ 30 ∷ 40 ∷ []
+of-rules = 20 ∷ 21 ∷ 22 ∷ 23 ∷ 24 ∷ 25 ∷ 26 ∷ 27 ∷ 28 ∷ 30 ∷ 40 ∷ 41 ∷ 42 ∷ []
 
 abbrev pub of-response : List ℕ
 of-response = 32 ∷ 31 ∷ of-rules
@@ -201,32 +204,47 @@ unfolding unless-conflict
 conflict-refused width count S C ns =
     only-cond (OneOf of-rules) (ltb (conflict-slot width row C) width) (refused 40 (conflict-slot width row C)) (taken (answer-of width count S C ns)) (one-of of-rules 40 tt) tt
 
--- A response where table and tally are in order,
-pub rules-refused : (counts : List ℕ) (rs : List Rule) (card slip : List ℕ) (rooms : Rooms) → Only (OneOf of-rules) (answer-by-rules counts rs card slip rooms)
-unfolding answer-by-rules answer-by-firing
-rules-refused counts rs card slip rooms =
+marks-refused : (counts : List ℕ) (rs : List Rule) (S : List ℕ) (I : List Pair) → Only (OneOf of-rules) (answer-by-marks rs counts S I)
+unfolding answer-by-marks unless-refused selection-refusal
+marks-refused counts rs S I = go (no-clash (declared-pairs counts) rs S I (selection (declared-pairs counts) rs S I)) (all-known (declared-pairs counts) rs S I (selection (declared-pairs counts) rs S I)) _
+  where
+    go : (clear known : Bool) (a : Answer) → Only (OneOf of-rules) (unless-refused (cond clear (cond known 0 42) 41) a)
+    go true true a = tt
+    go true false a = one-of of-rules 42 tt
+    go false known a = one-of of-rules 41 tt
+
+-- What a response comes to,
+end-refused : (way : Way) (counts : List ℕ) (rs : List Rule) (S : List ℕ) (I : List Pair) → Only (OneOf of-rules) (answer-by way counts rs S I)
+unfolding answer-by answer-by-firing
+end-refused Strata counts rs S I = conflict-refused (length counts) (length rs) S _ _
+end-refused Marks counts rs S I = marks-refused counts rs S I
+
+-- a response where table and tally are in order,
+pub rules-refused : (way : Way) (counts : List ℕ) (rs : List Rule) (card slip : List ℕ) (rooms : Rooms) → Only (OneOf of-rules) (answer-by-rules way counts rs card slip rooms)
+unfolding answer-by-rules
+rules-refused way counts rs card slip rooms =
     only-then (OneOf of-rules) (read-card counts card) _ (only-more (OneOf of-card) (OneOf of-rules) (one-of-more of-card of-rules tt) (read-card counts card) (card-refused counts card))
     (λ S. only-then (OneOf of-rules) (read-slip counts slip) _ (only-more (OneOf of-slip) (OneOf of-rules) (one-of-more of-slip of-rules tt) (read-slip counts slip) (slip-refused counts slip))
-    (λ I. room-refused (length counts) (length rs) rooms (answer-by-firing rs (length counts) S I) (conflict-refused (length counts) (length rs) S _ _)))
+    (λ I. room-refused (length counts) (length rs) rooms (answer-by way counts rs S I) (end-refused way counts rs S I)))
 
 -- where the tally is,
 abbrev of-table : List ℕ
 of-table = 31 ∷ of-rules
 
-table-refused : (t : Table) (card slip : List ℕ) (rooms : Rooms) → Only (OneOf of-table) (answer-by-table t card slip rooms)
-unfolding answer-by-table if-sound
-table-refused t card slip rooms =
-    only-cond (OneOf of-table) (sound t) (answer-by-rules (value-counts t) (rules-of t) card slip rooms) (refused 31 0)
-    (only-more (OneOf of-rules) (OneOf of-table) (one-of-more of-rules of-table tt) (answer-by-rules (value-counts t) (rules-of t) card slip rooms) (rules-refused (value-counts t) (rules-of t) card slip rooms))
+table-refused : (way : Way) (t : Table) (card slip : List ℕ) (rooms : Rooms) → Only (OneOf of-table) (answer-by-table way t card slip rooms)
+unfolding answer-by-table
+table-refused way t card slip rooms =
+    only-cond (OneOf of-table) (takes way t) (answer-by-rules way (value-counts t) (rules-of t) card slip rooms) (refused 31 0)
+    (only-more (OneOf of-rules) (OneOf of-table) (one-of-more of-rules of-table tt) (answer-by-rules way (value-counts t) (rules-of t) card slip rooms) (rules-refused way (value-counts t) (rules-of t) card slip rooms))
     (one-of of-table 31 tt)
 
 -- and any.
-pub response-refused : (t : Table) (y : Tally) (card slip : List ℕ) (rooms : Rooms) → Only (OneOf of-response) (answer-to t y card slip rooms)
-unfolding answer-to
-response-refused t y card slip rooms =
-    only-cond (OneOf of-response) (is-full y) (refused 32 0) (answer-by-table t card slip rooms) (one-of of-response 32 tt)
-    (only-more (OneOf of-table) (OneOf of-response) (one-of-more of-table of-response tt) (answer-by-table t card slip rooms) (table-refused t card slip rooms))
+pub response-refused : (way : Way) (t : Table) (y : Tally) (card slip : List ℕ) (rooms : Rooms) → Only (OneOf of-response) (answer-in way t y card slip rooms)
+unfolding answer-in
+response-refused way t y card slip rooms =
+    only-cond (OneOf of-response) (is-full y) (refused 32 0) (answer-by-table way t card slip rooms) (one-of of-response 32 tt)
+    (only-more (OneOf of-table) (OneOf of-response) (one-of-more of-table of-response tt) (answer-by-table way t card slip rooms) (table-refused way t card slip rooms))
 
 -- What follows the tally's test gives no 32.
-pub by-table-other : (t : Table) (card slip : List ℕ) (rooms : Rooms) → Only (Other 32) (answer-by-table t card slip rooms)
-by-table-other t card slip rooms = only-more (OneOf of-table) (Other 32) (one-of-other of-table 32 tt) (answer-by-table t card slip rooms) (table-refused t card slip rooms)
+pub by-table-other : (way : Way) (t : Table) (card slip : List ℕ) (rooms : Rooms) → Only (Other 32) (answer-by-table way t card slip rooms)
+by-table-other way t card slip rooms = only-more (OneOf of-table) (Other 32) (one-of-other of-table 32 tt) (answer-by-table way t card slip rooms) (table-refused way t card slip rooms)

@@ -1,15 +1,16 @@
 -- What the number of a response tells.
 -- Assumes nothing.
-use Prim.Native.Nat.{ℕ}
+use Prim.Native.Nat.{ℕ, _<_}
 use native.Mathlib.Omega.{arith}
 use mathlib.Core.Path.{_≡_, refl, ap}
 use mathlib.Core.List.{List}
 use Rattle.laws.specs.Answers.{OrRefused, taken, refused}
 use Rattle.table.specs.declared.Table.{Table}
+use Rattle.table.specs.declared.Way.{Way}
 use Rattle.tally.specs.declared.Tally.{Tally}
 use Rattle.response.specs.Ending.{Answer}
-use Rattle.response.specs.Respond.{Rooms, Outputs, rooms-of, response-refusal, response-second, outcome-of, answer-to, response-to, outputs-after}
-use Rattle.promises.specs.Returned.{response-told, Answers}
+use Rattle.response.specs.Respond.{Rooms, Outputs, rooms-of, response-refusal, response-second, outcome-of, answer-in, response-in, outputs-after}
+use Rattle.promises.specs.Returned.{told-in, AnswersIn}
 use Rattle.promises.proofs.Refusals.{Only, OneOf, of-response, Other, only-more, one-of-other, response-refused}
 
 no-number : (u : OrRefused Answer) → Only (Other 0) u → response-refusal (outcome-of u) ≡ 0 → (a : Answer) × (u ≡ taken a)
@@ -17,25 +18,28 @@ unfolding outcome-of
 no-number (taken a) h e = (a, refl)
 no-number (refused k s) h e = absurd (h e)
 
-with-40 : (u : OrRefused Answer) → response-refusal (outcome-of u) ≡ 40 → u ≡ refused 40 (response-second (outcome-of u))
+with-number : (k : ℕ) → 0 < k → (u : OrRefused Answer) → response-refusal (outcome-of u) ≡ k → u ≡ refused k (response-second (outcome-of u))
 unfolding outcome-of
-with-40 (taken a) e = absurd (omega (arith, e))
-with-40 (refused k s) e = ap (λ (j : ℕ). refused j s) e
+with-number k l (taken a) e = absurd (omega (arith, l, e))
+with-number k l (refused j s) e = ap (λ (i : ℕ). refused i s) e
 
-module _ (t : Table) (y : Tally) (card slip : List ℕ) (o : Outputs) where
+module _ (way : Way) (t : Table) (y : Tally) (card slip : List ℕ) (o : Outputs) where
   abbrev rooms : Rooms
   rooms = rooms-of (o .card) (o .changes) (o .fired)
 
   -- An answer is told, and its bytes are written.
-  pub answers : (a : Answer) → answer-to t y card slip rooms ≡ taken a → Answers t y card slip o a
-  unfolding response-to outcome-of outputs-after
+  pub answers : (a : Answer) → answer-in way t y card slip rooms ≡ taken a → AnswersIn way t y card slip o a
+  unfolding response-in outcome-of outputs-after
   answers a e = record { told = ap outcome-of e; holds = ap (λ (u : OrRefused Answer). outputs-after u o) e }
 
-  -- Number 0 is an answer, 40 a conflict with the slot that the second number names.
-  pub number-0 : response-refusal (response-told t y card slip o .outcome) ≡ 0 → (a : Answer) × (answer-to t y card slip rooms ≡ taken a)
-  unfolding response-to
-  number-0 e = no-number (answer-to t y card slip rooms) (only-more (OneOf of-response) (Other 0) (one-of-other of-response 0 tt) (answer-to t y card slip rooms) (response-refused t y card slip rooms)) e
+  -- Number 0 is an answer, any other a refusal with both numbers; 40 is a conflict with the slot that the second number names.
+  pub number-0 : response-refusal (told-in way t y card slip o .outcome) ≡ 0 → (a : Answer) × (answer-in way t y card slip rooms ≡ taken a)
+  unfolding response-in
+  number-0 e = no-number (answer-in way t y card slip rooms) (only-more (OneOf of-response) (Other 0) (one-of-other of-response 0 tt) (answer-in way t y card slip rooms) (response-refused way t y card slip rooms)) e
 
-  pub number-40 : response-refusal (response-told t y card slip o .outcome) ≡ 40 → answer-to t y card slip rooms ≡ refused 40 (response-second (response-told t y card slip o .outcome))
-  unfolding response-to
-  number-40 e = with-40 (answer-to t y card slip rooms) e
+  pub number-above : (k : ℕ) → 0 < k → response-refusal (told-in way t y card slip o .outcome) ≡ k → answer-in way t y card slip rooms ≡ refused k (response-second (told-in way t y card slip o .outcome))
+  unfolding response-in
+  number-above k l e = with-number k l (answer-in way t y card slip rooms) e
+
+  pub number-40 : response-refusal (told-in way t y card slip o .outcome) ≡ 40 → answer-in way t y card slip rooms ≡ refused 40 (response-second (told-in way t y card slip o .outcome))
+  number-40 e = number-above 40 (omega arith) e

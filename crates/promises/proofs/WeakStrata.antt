@@ -16,12 +16,14 @@ use Rattle.model.specs.Response.{response}
 use Rattle.model.proofs.Causes.{uncaused}
 use Rattle.model.proofs.Gradings.{to-weak}
 use Rattle.model.proofs.Exists.{response-whole}
+use Rattle.table.specs.declared.Way.the-variants.{Strata}
 use Rattle.grammar.specs.Files.{File, slot-counts}
 use Rattle.grammar.specs.Meaning.{Is-file}
 use Rattle.reader.specs.declared.Outcome.the-variants.{Accepted}
 use Rattle.rule_file.specs.Whole.{reading}
 use Rattle.rule_file.proofs.Answers.{reading-accepted-iff}
 use Rattle.soundness.proofs.Sound.{sound-iff-least}
+use Rattle.soundness.proofs.Taken.{takes-strata}
 use Rattle.cards.specs.Forms.{read-card, read-slip}
 use Rattle.tally.specs.declared.Tally.{Tally}
 use Rattle.response.specs.Ending.{Answer}
@@ -55,9 +57,9 @@ pub weak-strata : WeakStrata
 weak-strata = record {
   tested = sound-iff-least;
   refused-31 = λ t w y q card slip rooms.
-      let i = exactly-31 t y card slip rooms q in
+      let i = exactly-31 Strata t y card slip rooms q in
       let s = sound-iff-least t w in
-      (λ e l. i .0 e (s .1 l), λ n. i .1 (λ u. n (s .0 u)));
+      (λ e l. i .0 e (rw (takes-strata t) (s .1 l)), λ n. i .1 (λ u. n (s .0 (rw (takes-strata t) at u))));
   idle = none-fired;
   section-7 = λ text f h u s. let w = to-weak strict (f .rules) u s in (reading-accepted-iff text .0 (f, h, (u, w)), λ S I. response-whole weak (f .rules) u w S I);
 }

@@ -1,17 +1,19 @@
--- A day of calls: document 01, 'The tally holds slips answered and slips refused', 32, and 'Agreement' (each call is answered, not the first alone).
+-- A day of calls, by strata and by marks mixed: document 01, 'The tally holds slips answered and slips refused', 32, and 'Agreement' (each call is answered, not the first alone).
 use Prim.Native.Nat.{ℕ, suc}
 use mathlib.Core.Bool.{cond}
 use mathlib.Core.List.{List, [], _∷_}
 use lib.Dec.{eqb}
 use Rattle.table.specs.declared.Table.{Table}
+use Rattle.table.specs.declared.Way.{Way}
 use Rattle.laws.specs.Answers.{OrRefused, taken, refused}
 use Rattle.tally.specs.declared.Tally.{Tally}
 use Rattle.tally.specs.Counting.{fresh}
 use Rattle.response.specs.Ending.{Answer}
-use Rattle.response.specs.Respond.{Rooms, answer-to, response-to}
+use Rattle.response.specs.Respond.{Rooms, answer-in, response-in}
 
--- A call: the table, the card, the slip and the lengths of the outputs. The tally is handed on.
+-- A call: which response is asked, the table, the card, the slip and the lengths of the outputs. The tally is handed on.
 pub record Call : Type 0 where
+  pub way : Way
   pub table : Table
   pub card : List ℕ
   pub slip : List ℕ
@@ -19,10 +21,10 @@ pub record Call : Type 0 where
 
 -- What comes of a call at a tally, and the tally after it.
 abbrev pub answer-at : Tally → Call → OrRefused Answer
-answer-at y c = answer-to (c .table) y (c .card) (c .slip) (c .rooms)
+answer-at y c = answer-in (c .way) (c .table) y (c .card) (c .slip) (c .rooms)
 
 abbrev pub next-tally : Tally → Call → Tally
-next-tally y c = response-to (c .table) y (c .card) (c .slip) (c .rooms) .tally
+next-tally y c = response-in (c .way) (c .table) y (c .card) (c .slip) (c .rooms) .tally
 
 -- The tally after some calls, each at the tally that the one before it left.
 unfoldable pub tally-over : Tally → List Call → Tally

@@ -9,4 +9,6 @@ pub mod WeakStrata
 pub mod Called
 pub mod HouseStyle
 pub mod CalledPrint
+pub mod Selections
+pub mod ByMarks
 pub mod Program

@@ -1,13 +1,14 @@
--- Why something is refused, by its number and its second number: document 01, 'Refusals by who can cause them'. A reason holds only where none that comes before it does.
+-- Why something is refused, by its number and its second number: document 01, 'Refusals by who can cause them', and document 02, sections 1 (33, 34) and 3 (41, 42). A reason holds only where none that comes before it does.
 use Prim.Native.Nat.{ℕ, suc, _+_, _-_, _≤_, _<_}
 use mathlib.Core.Path.{_≡_}
+use mathlib.Core.Bool.{Bool}
 use mathlib.Core.List.{List}
 use mathlib.Core.Logic.{_⊎_}
 use lib.Dec.{T}
 use lib.ListN.{length, getD, take, drop}
 use Rattle.laws.specs.Packed.{byte-count}
 use Rattle.text.specs.Tokens.{tokens}
-use Rattle.model.specs.Rules.{Pair, Pairs, Rule}
+use Rattle.model.specs.Rules.{Pair, Pairs, Rule, among}
 use Rattle.model.specs.Orders.{changes}
 use Rattle.model.specs.Result.{pair}
 use Rattle.model.specs.Strata.{weak, Strata}
@@ -16,6 +17,8 @@ use Rattle.model.specs.Response.{response}
 use Rattle.table.specs.declared.Name as stretch
 use Rattle.table.specs.declared.Slot.{Slot}
 use Rattle.table.specs.declared.Table.{Table}
+use Rattle.table.specs.declared.Way.{Way}
+use Rattle.table.specs.declared.Way.the-variants as way
 use Rattle.table.specs.Zero.{zero-name, zero-slot}
 use Rattle.table.specs.Link.{rules-of, value-counts}
 use Rattle.laws.specs.Limits.{text-limit, slot-limit, value-limit, tally-limit}
@@ -25,7 +28,9 @@ use Rattle.grammar.specs.Reading.{parse}
 use Rattle.grammar.specs.Refusals.{Stands-at}
 use Rattle.printing.specs.Printing.{print-of}
 use Rattle.names.specs.Names.{Showing}
-use Rattle.soundness.specs.Sound.{sound}
+use Rattle.soundness.specs.Sound.{takes}
+use Rattle.marks.specs.Marks.{Marks, declared-pairs, is-both, is-unknown}
+use Rattle.marks.specs.Selection.{Move, order-fired, marks-after, selection}
 use Rattle.cards.specs.Forms.{card-bits, slip-bits, count-in, values-in, changes-in, padding}
 use Rattle.tally.specs.declared.Tally.{Tally}
 use Rattle.response.specs.Ending.{Answer, answer-of}
@@ -33,22 +38,27 @@ use Rattle.response.specs.Respond.{Rooms, changes-room}
 use Rattle.promises.specs.Returned.{IsAccepted}
 use Rattle.promises.specs.Agreement.{InConflict, LowestConflict}
 
--- A rule file. 10: its length. 11 to 17: the smallest fault of the earliest faulty token, or of the end, after so many completed rules. 18: the lowest rule on a circle through a NOT.
-pub data FileReason (text : List ℕ) : ℕ → ℕ → Type 0 where
-  over-long : text-limit < length text → FileReason text 10 0
-  at-token : {k n : ℕ} → length text ≤ text-limit → Stands-at (tokens text) k n → FileReason text k n
-  no-strata : {f : File} {n : ℕ} → Is-file text f → LowestThroughNot (f .rules) n → FileReason text 18 n
+-- A rule file. 10: its length. 11 to 17: the smallest fault of the earliest faulty token, or of the end, after so many completed rules.
+-- 18, where it is read for the response by strata: the lowest rule on a circle through a NOT.
+pub data FileReason (text : List ℕ) : Way → ℕ → ℕ → Type 0 where
+  over-long : {w : Way} → text-limit < length text → FileReason text w 10 0
+  at-token : {w : Way} {k n : ℕ} → length text ≤ text-limit → Stands-at (tokens text) k n → FileReason text w k n
+  no-strata : {f : File} {n : ℕ} → Is-file text f → LowestThroughNot (f .rules) n → FileReason text way.Strata 18 n
 
--- None of these: the text is a file, and its rules have strata.
-pub record FileRight (text : List ℕ) : Type 0 where
+-- What test 18 asks of rules: that they have strata; for the response by marks, nothing.
+abbrev pub Stratified : Way → List Rule → Type 0
+Stratified way.Strata rs = (u : ℕ → ℕ) × Strata weak rs u
+Stratified way.Marks rs = Unit
+
+-- None of these: the text is a file, and its rules have strata where that is asked.
+pub record FileRight (text : List ℕ) (w : Way) : Type 0 where
   pub file : File
   pub is-file : Is-file text file
-  pub strata : ℕ → ℕ
-  pub are-strata : Strata weak (file .rules) strata
+  pub stratified : Stratified w (file .rules)
 
 -- A print: the reading's own; then 34, its length; 33, an output that is shorter.
 pub data PrintReason (text : List ℕ) (room : ℕ) : ℕ → ℕ → Type 0 where
-  own : {k n : ℕ} → FileReason text k n → PrintReason text room k n
+  own : {k n : ℕ} → FileReason text way.Strata k n → PrintReason text room k n
   print-over : IsAccepted text → text-limit < length (print-of (parse text)) → PrintReason text room 34 0
   print-room : IsAccepted text → length (print-of (parse text)) ≤ text-limit → room < length (print-of (parse text)) → PrintReason text room 33 0
 
@@ -167,10 +177,10 @@ pub record PackedSlipRight (counts : List ℕ) (ps : List Pair) (room : ℕ) : T
   pub changes-right : ChangesRight counts ps
   pub enough : byte-count (slip-bits (length ps)) ≤ room
 
--- 31, a table that is not in order, before other reasons.
-pub data TableReason (t : Table) (Other : ℕ → ℕ → Type 0) : ℕ → ℕ → Type 0 where
-  not-sound : ¬ T (sound t) → TableReason t Other 31 0
-  of-others : {k s : ℕ} → T (sound t) → Other k s → TableReason t Other k s
+-- 31, a table that does not pass its test, before other reasons.
+pub data TableReason (test : Bool) (Other : ℕ → ℕ → Type 0) : ℕ → ℕ → Type 0 where
+  not-passed : ¬ T test → TableReason test Other 31 0
+  of-others : {k s : ℕ} → T test → Other k s → TableReason test Other k s
 
 -- 30: the first output that is too short for so many slots and rules, 1 the card, 2 the changes, 3 the fired record.
 pub data RoomReason (width count : ℕ) (rooms : Rooms) : ℕ → Type 0 where
@@ -184,28 +194,49 @@ pub record RoomRight (width count : ℕ) (rooms : Rooms) : Type 0 where
   pub for-changes : changes-room ≤ rooms .for-changes
   pub for-fired : byte-count count ≤ rooms .for-fired
 
--- The rules that the response fires from the card's values and the slip's changes, in the order fired, and the C that they end with.
-abbrev pub fired-by : List Rule → List ℕ → List ℕ → List ℕ
-fired-by rs card slip = response weak rs (values-in card) (changes-in slip)
+-- By rules over slots of so many values each, the selection from the card's values and the slip's changes, and the marks that it ends with.
+abbrev pub selected : List ℕ → List Rule → List ℕ → List ℕ → List Move
+selected counts rs card slip = selection (declared-pairs counts) rs (values-in card) (changes-in slip)
 
-abbrev pub ends-with : List Rule → List ℕ → List ℕ → Pairs
-ends-with rs card slip = changes rs (changes-in slip) (fired-by rs card slip)
+abbrev pub marks-left : List ℕ → List Rule → List ℕ → List ℕ → Marks
+marks-left counts rs card slip = marks-after rs (changes-in slip) (selected counts rs card slip)
 
--- A response by rules over slots of so many values each: the card's reasons, the slip's, 30, and 40 with the lowest slot that has two values in C.
-pub data RulesReason (counts : List ℕ) (rs : List Rule) (card slip : List ℕ) (rooms : Rooms) : ℕ → ℕ → Type 0 where
-  of-card : {k s : ℕ} → CardReason counts card k s → RulesReason counts rs card slip rooms k s
-  of-slip : {k s : ℕ} → CardRight counts card → SlipReason counts slip k s → RulesReason counts rs card slip rooms k s
-  of-room : {s : ℕ} → CardRight counts card → SlipRight counts slip → RoomReason (length counts) (length rs) rooms s → RulesReason counts rs card slip rooms 30 s
-  conflict : {s : ℕ} → CardRight counts card → SlipRight counts slip → RoomRight (length counts) (length rs) rooms
-      → LowestConflict (ends-with rs card slip) s → RulesReason counts rs card slip rooms 40 s
+-- The rules that the response fires from there, in the order fired, and the C that they end with; by marks those of the selection, and its positive pairs.
+abbrev pub fired-by : Way → List ℕ → List Rule → List ℕ → List ℕ → List ℕ
+fired-by way.Strata counts rs card slip = response weak rs (values-in card) (changes-in slip)
+fired-by way.Marks counts rs card slip = order-fired (selected counts rs card slip)
 
--- None of these, and the answer: no slot has two values in C, and these are its bytes.
-pub record RulesRight (counts : List ℕ) (rs : List Rule) (card slip : List ℕ) (rooms : Rooms) (a : Answer) : Type 0 where
+abbrev pub ends-with : Way → List ℕ → List Rule → List ℕ → List ℕ → Pairs
+ends-with way.Strata counts rs card slip = changes rs (changes-in slip) (fired-by way.Strata counts rs card slip)
+ends-with way.Marks counts rs card slip = marks-left counts rs card slip .positive
+
+-- How a response ends. By strata, 40: the lowest slot that has two values in C. By marks, 41: a declared pair is both positive and negative; 42: none is, and one is unknown.
+pub data EndReason (counts : List ℕ) (rs : List Rule) (card slip : List ℕ) : Way → ℕ → ℕ → Type 0 where
+  conflict : {s : ℕ} → LowestConflict (ends-with way.Strata counts rs card slip) s → EndReason counts rs card slip way.Strata 40 s
+  clash : (p : Pair) → T (among p (declared-pairs counts)) → T (is-both (marks-left counts rs card slip) p) → EndReason counts rs card slip way.Marks 41 0
+  unknown : ((p : Pair) → T (among p (declared-pairs counts)) → ¬ T (is-both (marks-left counts rs card slip) p))
+      → (p : Pair) → T (among p (declared-pairs counts)) → T (is-unknown (marks-left counts rs card slip) p) → EndReason counts rs card slip way.Marks 42 0
+
+-- None of these.
+abbrev pub EndRight : List ℕ → List Rule → List ℕ → List ℕ → Way → Type 0
+EndRight counts rs card slip way.Strata = (s : ℕ) → s < length counts → ¬ InConflict (ends-with way.Strata counts rs card slip) s
+EndRight counts rs card slip way.Marks = (p : Pair) → T (among p (declared-pairs counts)) → ¬ T (is-both (marks-left counts rs card slip) p) × ¬ T (is-unknown (marks-left counts rs card slip) p)
+
+-- A response by rules over slots of so many values each: the card's reasons, the slip's, 30, and then that of its end.
+pub data RulesReason (way : Way) (counts : List ℕ) (rs : List Rule) (card slip : List ℕ) (rooms : Rooms) : ℕ → ℕ → Type 0 where
+  of-card : {k s : ℕ} → CardReason counts card k s → RulesReason way counts rs card slip rooms k s
+  of-slip : {k s : ℕ} → CardRight counts card → SlipReason counts slip k s → RulesReason way counts rs card slip rooms k s
+  of-room : {s : ℕ} → CardRight counts card → SlipRight counts slip → RoomReason (length counts) (length rs) rooms s → RulesReason way counts rs card slip rooms 30 s
+  of-end : {k s : ℕ} → CardRight counts card → SlipRight counts slip → RoomRight (length counts) (length rs) rooms
+      → EndReason counts rs card slip way k s → RulesReason way counts rs card slip rooms k s
+
+-- None of these, and the answer: these are its bytes.
+pub record RulesRight (way : Way) (counts : List ℕ) (rs : List Rule) (card slip : List ℕ) (rooms : Rooms) (a : Answer) : Type 0 where
   pub card-right : CardRight counts card
   pub slip-right : SlipRight counts slip
   pub room-right : RoomRight (length counts) (length rs) rooms
-  pub no-conflict : (s : ℕ) → s < length counts → ¬ InConflict (ends-with rs card slip) s
-  pub answer-is : a ≡ answer-of (length counts) (length rs) (values-in card) (ends-with rs card slip) (fired-by rs card slip)
+  pub end-right : EndRight counts rs card slip way
+  pub answer-is : a ≡ answer-of (length counts) (length rs) (values-in card) (ends-with way counts rs card slip) (fired-by way counts rs card slip)
 
 -- A tally is full: either count at 9,999 or above; or it is not.
 abbrev pub Full : Tally → Type 0
@@ -215,9 +246,9 @@ abbrev pub NotFull : Tally → Type 0
 NotFull y = (y .answered < tally-limit) × (y .refused < tally-limit)
 
 -- A response: 32, a full tally; then the others.
-pub data ResponseReason (t : Table) (y : Tally) (card slip : List ℕ) (rooms : Rooms) : ℕ → ℕ → Type 0 where
-  full-tally : Full y → ResponseReason t y card slip rooms 32 0
-  of-table : {k s : ℕ} → NotFull y → TableReason t (RulesReason (value-counts t) (rules-of t) card slip rooms) k s → ResponseReason t y card slip rooms k s
+pub data ResponseReason (way : Way) (t : Table) (y : Tally) (card slip : List ℕ) (rooms : Rooms) : ℕ → ℕ → Type 0 where
+  full-tally : Full y → ResponseReason way t y card slip rooms 32 0
+  of-table : {k s : ℕ} → NotFull y → TableReason (takes way t) (RulesReason way (value-counts t) (rules-of t) card slip rooms) k s → ResponseReason way t y card slip rooms k s
 
 -- The table has a slot, a slot has a value; names of them that the table has.
 abbrev pub HasSlot : Table → ℕ → Type 0

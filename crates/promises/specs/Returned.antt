@@ -5,6 +5,8 @@ use mathlib.Core.List.{List}
 use lib.ListN.{length}
 use Rattle.laws.specs.Answers.{written, output-of}
 use Rattle.table.specs.declared.Table.{Table}
+use Rattle.table.specs.declared.Way.{Way}
+use Rattle.table.specs.declared.Way.the-variants.{Strata}
 use Rattle.reader.specs.Tables.{reading-refusal}
 use Rattle.rule_file.specs.Whole.{reading}
 use Rattle.printing.specs.declared.Printing.{Printing}
@@ -20,7 +22,7 @@ use Rattle.results.specs.Record.{ones-in}
 use Rattle.response.specs.declared.Response.{Response}
 use Rattle.response.specs.declared.Outcome.the-variants.{Answered}
 use Rattle.response.specs.Ending.{Answer}
-use Rattle.response.specs.Respond.{Outputs, outputs, rooms-of, answer-to, response-to, outputs-after}
+use Rattle.response.specs.Respond.{Outputs, outputs, rooms-of, answer-in, response-in, outputs-after}
 
 -- A file is accepted when its reading gives no refusal.
 abbrev pub IsAccepted : List ℕ → Type 0
@@ -53,14 +55,21 @@ slip-packing t c out = packing-of (packed-slip t c (length out))
 abbrev pub slip-left : Table → Slip → List ℕ → List ℕ
 slip-left t c out = output-of (packed-slip t c (length out)) out
 
--- `respond`, and what its three outputs hold afterwards.
-abbrev pub response-told : Table → Tally → List ℕ → List ℕ → Outputs → Response
-response-told t y card slip o = response-to t y card slip (rooms-of (o .card) (o .changes) (o .fired))
+-- `respond` by strata or by marks, and what its three outputs hold afterwards.
+abbrev pub told-in : Way → Table → Tally → List ℕ → List ℕ → Outputs → Response
+told-in way t y card slip o = response-in way t y card slip (rooms-of (o .card) (o .changes) (o .fired))
 
-abbrev pub response-left : Table → Tally → List ℕ → List ℕ → Outputs → Outputs
-response-left t y card slip o = outputs-after (answer-to t y card slip (rooms-of (o .card) (o .changes) (o .fired))) o
+abbrev pub left-in : Way → Table → Tally → List ℕ → List ℕ → Outputs → Outputs
+left-in way t y card slip o = outputs-after (answer-in way t y card slip (rooms-of (o .card) (o .changes) (o .fired))) o
 
 -- An answer is returned: its length of changes and its count of fired rules are told, and the outputs hold its bytes at their front and beyond them what they held.
-pub record Answers (t : Table) (y : Tally) (card slip : List ℕ) (o : Outputs) (a : Answer) : Type 0 where
-  pub told : response-told t y card slip o .outcome ≡ Answered (length (a .changes)) (ones-in (a .fired))
-  pub holds : response-left t y card slip o ≡ outputs (written (a .new-card) (o .card)) (written (a .changes) (o .changes)) (written (a .fired) (o .fired))
+pub record AnswersIn (way : Way) (t : Table) (y : Tally) (card slip : List ℕ) (o : Outputs) (a : Answer) : Type 0 where
+  pub told : told-in way t y card slip o .outcome ≡ Answered (length (a .changes)) (ones-in (a .fired))
+  pub holds : left-in way t y card slip o ≡ outputs (written (a .new-card) (o .card)) (written (a .changes) (o .changes)) (written (a .fired) (o .fired))
+
+-- The same of the response by strata.
+abbrev pub response-told : Table → Tally → List ℕ → List ℕ → Outputs → Response
+response-told t y card slip o = told-in Strata t y card slip o
+
+abbrev pub Answers : Table → Tally → List ℕ → List ℕ → Outputs → Answer → Type 0
+Answers t y card slip o a = AnswersIn Strata t y card slip o a

@@ -1,4 +1,4 @@
--- The answer to a card and a slip that are in order, from the arrays that firing gives.
+-- The answer of changes and fired rules to a card that is in order, from the arrays that hold them.
 -- Assumes nothing.
 use mathlib.Core.Path.{_≡_, refl, sym, ap, ap₂, fun-ext, _∙_}
 use mathlib.Core.Bool.{Bool, true, false, cond}
@@ -7,7 +7,7 @@ use mathlib.Core.Logic.{⊎-elim}
 use Prim.Native.Nat.{ℕ, suc, zero, _≤_, _<_}
 use native.Mathlib.Omega.{arith}
 use lib.Dec.{T, ltb, ltb→lt}
-use lib.ListN.{length, getD, take, drop, replicate, length-append, List·getD-map, List·getD-eq-default}
+use lib.ListN.{length, getD, take, drop, length-append, List·getD-map}
 use lib.Seq.{take-append-seam}
 use borrow.Author.Tests.{lt-ltb, le-ltb}
 use Rattle.laws.specs.Truth.{_∧ᵇ_}
@@ -15,79 +15,34 @@ use Rattle.laws.specs.Listed.{all-of}
 use Rattle.laws.specs.Filled.{filled}
 use Rattle.laws.specs.Tabulated.{tabulate}
 use Rattle.laws.specs.Packed.{byte-count, pack}
-use Rattle.laws.proofs.Truth.{le-or-lt, or-e, and-l, and-r, and-i}
+use Rattle.laws.proofs.Truth.{le-or-lt, and-l, and-r, and-i}
 use Rattle.laws.proofs.Listed.{all-e, all-append}
 use Rattle.laws.proofs.Tabulated.{tabulate-length, tabulate-at, is-tabulate}
 use Rattle.laws.proofs.Fronts.{filled-at}
 use Rattle.laws.proofs.Packed.{pack-length}
-use Rattle.model.specs.Rules.{Pair, Pairs, Rule, same, among}
-use Rattle.model.specs.Orders.{names, changes}
-use Rattle.model.specs.Strata.{weak}
-use Rattle.model.specs.Response.{response}
-use Rattle.model.specs.Result.{pair, value-in, is-changed, new-value, conflict-slot, new-card, changes-slip}
+use Rattle.model.specs.Rules.{Pair, Pairs}
+use Rattle.model.specs.Orders.{names}
+use Rattle.model.specs.Result.{pair, value-in, is-changed, new-value, new-card, changes-slip}
 use Rattle.model.proofs.Alike.{SameCard}
-use Rattle.model.proofs.Pairs.{same-eq}
-use Rattle.laws.specs.Limits.{slot-limit, row, rule-limit}
-use Rattle.table.specs.inner.Shape.{Shaped}
-use Rattle.table.specs.Link.{rules-of}
-use Rattle.table.specs.inner.Flat.{set-of, add-pairs, pair-places}
-use Rattle.table.proofs.Link.{rules-length}
-use Rattle.rows.specs.inner.Rows.{table-in, RowsFit}
-use Rattle.rows.proofs.Laws.{rows-count, rows-table-shaped}
+use Rattle.laws.specs.Limits.{slot-limit, row}
+use Rattle.table.specs.inner.Flat.{set-of}
 use Rattle.cards.specs.declared.Card.{Card}
 use Rattle.cards.specs.declared.Slip.{Slip}
-use Rattle.laws.specs.Answers.{taken, refused, written}
+use Rattle.laws.specs.Answers.{taken, written}
 use Rattle.cards.specs.Forms.{card-bits, slip-bits, card-bytes, slip-bytes}
-use Rattle.cards.specs.Cards.{no-change, pair-of, change-of, card-values, changes-of, card-of, slip-of}
+use Rattle.cards.specs.Cards.{no-change, change-of, card-values, changes-of, card-of, slip-of}
 use Rattle.cards.specs.inner.Fitting.{CardFits, SlipFits}
 use Rattle.cards.proofs.Formed.{slip-length}
 use Rattle.cards.proofs.EntryTrips.{card-of-values, slip-of-changes}
 use Rattle.cards.proofs.Written.{card-bytes-length, slip-bytes-length}
-use Rattle.firing.specs.inner.Firing.{table-firing}
 use Rattle.results.specs.Record.{ones-in}
 use Rattle.results.specs.inner.Record.{fired-bits, flag-record}
 use Rattle.results.specs.inner.Ending.{new-places}
-use Rattle.response.specs.Ending.{fired-record, answer-of, unless-conflict, answer-by-firing}
-use Rattle.response.specs.declared.Outcome.the-variants.{Answered, Refused}
-use Rattle.response.specs.Respond.{Outputs, outputs, outcome-of, outputs-after}
-use Rattle.response.specs.inner.InOrder.{InOrder, Ends}
-use Rattle.response.proofs.Fired.{AllPlaced, fired-changes, fired-rules}
-
--- A card whose places beyond its count are empty has the values of its places.
-pub values-same : (c : Card) → ((s : ℕ) → c .count ≤ s → getD (c .values) s 0 ≡ 0) → SameCard (c .values) (card-values c)
-unfolding SameCard card-values
-values-same c rest s =
-    ⊎-elim (λ h. rest s h ∙ sym (List·getD-eq-default (tabulate (λ i. getD (c .values) i 0) (c .count)) 0 (rw (tabulate-length (λ i. getD (c .values) i 0) (c .count)) h)))
-    (λ h. sym (tabulate-at (λ i. getD (c .values) i 0) (c .count) s 0 h)) (le-or-lt (c .count) s)
-
--- A pair of a tabulated list is one of its entries.
-tabulated-pair : (f : ℕ → Pair) (n : ℕ) (p : Pair) → T (among p (tabulate f n)) → (j : ℕ) × (j < n) × (p ≡ f j)
-unfolding tabulate among
-tabulated-pair f zero p t = absurd t
-tabulated-pair f (suc n) p t = ⊎-elim (λ x. (0, omega arith, same-eq p (f 0) x)) (λ x. let w = tabulated-pair (λ i. f (suc i)) n p x in (suc (w .0), omega (arith, w .1), w .2)) (or-e (same p (f 0)) _ t)
-
--- The pairs of a slip that fits have a place.
-pub slip-placed : (s : Slip) → SlipFits s → AllPlaced (changes-of s)
-unfolding changes-of
-slip-placed s F p t =
-    let w = tabulated-pair (λ j. pair-of (getD (s .changes) j no-change)) (s .count) p t in
-    rw (w .2) (record { in-slots = F .slots-fit (w .0) (w .1); in-row = F .values-fit (w .0) (w .1) })
-
-module _ (rs : List Rule) (width : ℕ) (S : List ℕ) (I : List Pair) where
-  abbrev ours : List ℕ
-  ours = response weak rs S I
-
-  abbrev C : Pairs
-  C = changes rs I ours
-
-  -- A conflict, or the answer.
-  pub by-firing-conflict : conflict-slot width row C < width → answer-by-firing rs width S I ≡ refused 40 (conflict-slot width row C)
-  unfolding answer-by-firing unless-conflict
-  by-firing-conflict h = rw (lt-ltb (conflict-slot width row C) width h) refl
-
-  pub by-firing-answer : width ≤ conflict-slot width row C → answer-by-firing rs width S I ≡ taken (answer-of width (length rs) S C ours)
-  unfolding answer-by-firing unless-conflict
-  by-firing-answer h = rw (le-ltb (conflict-slot width row C) width h) refl
+use Rattle.response.specs.Ending.{fired-record, answer-of}
+use Rattle.response.specs.declared.Outcome.the-variants.{Answered}
+use Rattle.response.specs.Respond.{outputs, outcome-of, outputs-after}
+use Rattle.response.specs.inner.InOrder.{Ends}
+use Rattle.response.proofs.InOrder.{values-same}
 
 -- The card of so many values in their places has them.
 pub card-values-back : (width : ℕ) (xs : List ℕ) → length xs ≡ width → card-values (record { values = filled slot-limit 0 xs; count = width }) ≡ xs
@@ -165,12 +120,11 @@ module _ (D : Pairs) (width : ℕ) (few : width ≤ slot-limit) where
   listed-room = omega (arith, slip-count, slip-few D width, few)
 
 -- The record of the flags is that of the rules fired.
-pub record-same : (ns : List ℕ) (ran : List Bool) (count : ℕ) → ran ≡ tabulate (λ i. names ns (suc i)) rule-limit → count ≤ rule-limit → flag-record ran count ≡ fired-record count ns
+record-same : (ns : List ℕ) (ran : List Bool) (count : ℕ) → ((i : ℕ) → i < count → getD ran i false ≡ names ns (suc i)) → flag-record ran count ≡ fired-record count ns
 unfolding flag-record fired-bits fired-record
-record-same ns ran count e h =
-    rw e (ap pack (is-tabulate (λ i. names ns (suc i)) count false (tabulate (λ i. getD (tabulate (λ k. names ns (suc k)) rule-limit) i false) count)
-    (tabulate-length (λ i. getD (tabulate (λ k. names ns (suc k)) rule-limit) i false) count)
-    (λ i l. tabulate-at (λ i. getD (tabulate (λ k. names ns (suc k)) rule-limit) i false) count i false l ∙ tabulate-at (λ k. names ns (suc k)) rule-limit i false (omega (arith, l, h)))))
+record-same ns ran count same =
+    ap pack (is-tabulate (λ i. names ns (suc i)) count false (tabulate (λ i. getD ran i false) count)
+    (tabulate-length (λ i. getD ran i false) count) (λ i l. tabulate-at (λ i. getD ran i false) count i false l ∙ same i l))
 
 -- The record takes the bytes that its bits fill.
 record-length : (ran : List Bool) (count : ℕ) → length (flag-record ran count) ≡ byte-count count
@@ -185,103 +139,63 @@ record-there ran count c c′ e = rw (e, length-append (flag-record ran count) (
 front-is : (ys out : List ℕ) (n : ℕ) → length ys ≡ n → ys ++ drop n out ≡ written ys out
 front-is ys out n e = rw e refl
 
--- Rows have as many rules as are entered in them.
-pub rules-counted : (rows : List (List ℕ)) (n : ℕ) → RowsFit rows n → length (rules-of (table-in rows n)) ≡ n
-rules-counted rows n f =
-    let k = rows-count rows n in
-    rules-length (table-in rows n) (omega (arith, f .few, rows-table-shaped rows n (f .rows-shaped) .rule-places)) ∙ k
+-- The new card fits where the card does.
+pub next-in-order : (width : ℕ) (card : Card) (bs : List Bool) → width ≤ slot-limit → card .count ≡ width → CardFits card → CardFits (record { values = new-places width bs (card .values); count = width })
+unfolding new-places
+next-in-order width card bs few same fits =
+    next-fits width (new-card width row (set-of bs) (card .values)) few (new-card-length width (set-of bs) (card .values))
+    (new-value-fits width (set-of bs) (card .values) (λ i h. fits .values-fit i (omega (arith, h, same))))
 
--- The values of a card that is in order go into 4 bits, also beyond those that it counts.
-pub values-small : (c : Card) → CardFits c → ((s : ℕ) → c .count ≤ s → getD (c .values) s 0 ≡ 0) → (s : ℕ) → s < slot-limit → getD (c .values) s 0 < row
-values-small c f rest s h = ⊎-elim (λ k. rw (rest s k) (omega arith)) (λ k. f .values-fit s k) (le-or-lt (c .count) s)
-
--- What the code leaves where no slot is in conflict.
-module _ (rows : List (List ℕ)) (n width : ℕ) (card : Card) (slip : Slip) (O : InOrder rows n width card slip) (bs ran : List Bool)
-    (ends : bs ≡ table-firing (table-in rows n) (card .values) (add-pairs (changes-of slip) (replicate pair-places false)) .changes)
-    (runs : ran ≡ table-firing (table-in rows n) (card .values) (add-pairs (changes-of slip) (replicate pair-places false)) .fired) where
-  abbrev rs : List Rule
-  rs = rules-of (table-in rows n)
-
-  shape : Shaped (table-in rows n)
-  shape = rows-table-shaped rows n (O .rows-fit .rows-shaped)
-
-  abbrev fired-in-order : List ℕ
-  fired-in-order = response weak rs (card-values card) (changes-of slip)
-
-  abbrev ends-with : Pairs
-  ends-with = changes rs (changes-of slip) fired-in-order
-
-  pub same-changes : set-of bs ≡ ends-with
-  same-changes = fired-changes (table-in rows n) (O .fireable) shape (card .values) (card-values card) (changes-of slip) (values-same card (O .rest-empty)) (slip-placed slip (O .slip-fits)) bs ends
-
-  same-rules : ran ≡ tabulate (λ i. names fired-in-order (suc i)) rule-limit
-  same-rules = fired-rules (table-in rows n) (O .fireable) shape (card .values) (card-values card) (changes-of slip) (values-same card (O .rest-empty)) (slip-placed slip (O .slip-fits)) ran runs
-
-  -- 40 leaves the outputs.
-  pub conflict-ends : (slot : ℕ) (o : Outputs) → slot ≡ conflict-slot width row (set-of bs) → slot < width
-      → Ends (answer-by-firing rs width (card-values card) (changes-of slip)) (Refused 40 slot) o o
-  unfolding outcome-of outputs-after
-  conflict-ends slot o e h =
-      let w : slot ≡ conflict-slot width row ends-with = e ∙ ap (conflict-slot width row) same-changes in
-      rw (by-firing-conflict rs width (card-values card) (changes-of slip) (omega (arith, w, h)), w) (refl, refl)
-
-  -- The new card in its places, and its values.
-  pub next-values : card-values (record { values = new-places width bs (card .values); count = width }) ≡ new-card width row ends-with (card-values card)
+-- The answer is written: of changes C and rules fired, which the arrays hold, over a card that is empty beyond its count.
+module _ (n width : ℕ) (card : Card) (bs ran : List Bool) (C : Pairs) (ns : List ℕ) (same-changes : set-of bs ≡ C) (same-rules : (i : ℕ) → i < n → getD ran i false ≡ names ns (suc i))
+    (rest : (s : ℕ) → card .count ≤ s → getD (card .values) s 0 ≡ 0) where
+  next-values : card-values (record { values = new-places width bs (card .values); count = width }) ≡ new-card width row C (card-values card)
   unfolding new-places
   next-values =
       card-values-back width (new-card width row (set-of bs) (card .values)) (new-card-length width (set-of bs) (card .values))
-      ∙ new-card-same width (set-of bs) ends-with (card .values) (card-values card) same-changes (values-same card (O .rest-empty))
+      ∙ new-card-same width (set-of bs) C (card .values) (card-values card) same-changes (values-same card rest)
 
-  pub next-in-order : CardFits (record { values = new-places width bs (card .values); count = width })
-  unfolding new-places
-  next-in-order =
-      next-fits width (new-card width row (set-of bs) (card .values)) (O .few-slots) (new-card-length width (set-of bs) (card .values))
-      (new-value-fits width (set-of bs) (card .values) (λ i h. O .card-fits .values-fit i (omega (arith, h, O .same-width))))
-
-  -- The answer is written.
-  pub answer-ends : (slot l m : ℕ) (a b c a′ b′ c′ : List ℕ) → slot ≡ conflict-slot width row (set-of bs) → width ≤ slot
+  pub answer-ends : (l m : ℕ) (a b c a′ b′ c′ : List ℕ)
       → a′ ≡ card-bytes (card-values (record { values = new-places width bs (card .values); count = width })) ++ drop (byte-count (card-bits width)) a
       → (s : Slip) → s ≡ slip-of (changes-slip width row (set-of bs))
       → l ≡ byte-count (slip-bits (s .count)) → b′ ≡ slip-bytes (changes-of s) ++ drop (byte-count (slip-bits (s .count))) b
       → c′ ≡ flag-record ran n ++ drop (byte-count n) c → m ≡ ones-in (take (byte-count n) c′)
-      → Ends (answer-by-firing rs width (card-values card) (changes-of slip)) (Answered l m) (outputs a b c) (outputs a′ b′ c′)
+      → Ends (taken (answer-of width n (card-values card) C ns)) (Answered l m) (outputs a b c) (outputs a′ b′ c′)
   unfolding outcome-of outputs-after answer-of
-  answer-ends slot l m a b c a′ b′ c′ e h ea s es en eb ec em =
-      let w : slot ≡ conflict-slot width row ends-with = e ∙ ap (conflict-slot width row) same-changes in
-      let x = by-firing-answer rs width (card-values card) (changes-of slip) (omega (arith, w, h)) in
-      rw x (ap₂ (λ (i j : ℕ). Answered i j) (en ∙ changes-size) (em ∙ ap ones-in fired-front), λ i. outputs (card-part i) (changes-part i) (fired-part i))
+  answer-ends l m a b c a′ b′ c′ ea s es en eb ec em =
+      (ap₂ (λ (i j : ℕ). Answered i j) (en ∙ changes-size) (em ∙ ap ones-in fired-front), λ i. outputs (card-part i) (changes-part i) (fired-part i))
     where
-      listed : changes-of s ≡ changes-slip width row ends-with
+      listed : changes-of s ≡ changes-slip width row C
       listed = ap changes-of es ∙ slip-of-changes (changes-slip width row (set-of bs)) ∙ ap (changes-slip width row) same-changes
 
-      size : s .count ≡ length (changes-slip width row ends-with)
+      size : s .count ≡ length (changes-slip width row C)
       size = sym (slip-length s) ∙ ap length listed
 
-      changes-size : byte-count (slip-bits (s .count)) ≡ length (slip-bytes (changes-slip width row ends-with))
-      changes-size = ap (λ (k : ℕ). byte-count (slip-bits k)) size ∙ sym (slip-bytes-length (changes-slip width row ends-with))
+      changes-size : byte-count (slip-bits (s .count)) ≡ length (slip-bytes (changes-slip width row C))
+      changes-size = ap (λ (k : ℕ). byte-count (slip-bits k)) size ∙ sym (slip-bytes-length (changes-slip width row C))
 
-      record-is : flag-record ran n ≡ fired-record (length rs) fired-in-order
-      record-is = record-same fired-in-order ran n same-rules (O .rows-fit .few) ∙ ap (λ (k : ℕ). fired-record k fired-in-order) (sym (rules-counted rows n (O .rows-fit)))
+      record-is : flag-record ran n ≡ fired-record n ns
+      record-is = record-same ns ran n same-rules
 
       record-size : length (flag-record ran n) ≡ byte-count n
       record-size = record-length ran n
 
-      fired-front : take (byte-count n) c′ ≡ fired-record (length rs) fired-in-order
+      fired-front : take (byte-count n) c′ ≡ fired-record n ns
       fired-front =
           ap (take (byte-count n)) ec ∙ ap (λ (k : ℕ). take k (flag-record ran n ++ drop (byte-count n) c)) (sym record-size)
           ∙ take-append-seam (flag-record ran n) (drop (byte-count n) c) ∙ record-is
 
-      card-part : a′ ≡ written (card-bytes (new-card width row ends-with (card-values card))) a
+      card-part : a′ ≡ written (card-bytes (new-card width row C (card-values card))) a
       card-part =
           ea ∙ ap (λ (vs : List ℕ). card-bytes vs ++ drop (byte-count (card-bits width)) a) next-values
-          ∙ front-is (card-bytes (new-card width row ends-with (card-values card))) a (byte-count (card-bits width))
-          (card-bytes-length (new-card width row ends-with (card-values card)) ∙ ap (λ (k : ℕ). byte-count (card-bits k)) (new-card-length width ends-with (card-values card)))
+          ∙ front-is (card-bytes (new-card width row C (card-values card))) a (byte-count (card-bits width))
+          (card-bytes-length (new-card width row C (card-values card)) ∙ ap (λ (k : ℕ). byte-count (card-bits k)) (new-card-length width C (card-values card)))
 
-      changes-part : b′ ≡ written (slip-bytes (changes-slip width row ends-with)) b
+      changes-part : b′ ≡ written (slip-bytes (changes-slip width row C)) b
       changes-part =
           eb ∙ ap (λ (ps : List Pair). slip-bytes ps ++ drop (byte-count (slip-bits (s .count))) b) listed
-          ∙ front-is (slip-bytes (changes-slip width row ends-with)) b (byte-count (slip-bits (s .count))) (sym changes-size)
+          ∙ front-is (slip-bytes (changes-slip width row C)) b (byte-count (slip-bits (s .count))) (sym changes-size)
 
-      fired-part : c′ ≡ written (fired-record (length rs) fired-in-order) c
+      fired-part : c′ ≡ written (fired-record n ns) c
       fired-part =
           ec ∙ front-is (flag-record ran n) c (byte-count n) record-size ∙ ap (λ (ys : List ℕ). written ys c) record-is

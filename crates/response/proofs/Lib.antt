@@ -1,4 +1,7 @@
 pub mod SlipLaws
-pub mod Fired
+pub mod InOrder
 pub mod AnswerLaws
+pub mod Fired
+pub mod Selected
+pub mod Declared
 pub mod RespondLaws

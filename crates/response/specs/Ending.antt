@@ -1,5 +1,5 @@
 -- What is answered to a card and a slip that are in order: document 01, 'If C then holds two values for a slot, the answer is 40. Otherwise it is ..'.
-use Prim.Native.Nat.{ℕ, suc}
+use Prim.Native.Nat.{ℕ, zero, suc}
 use mathlib.Core.Bool.{cond}
 use mathlib.Core.List.{List}
 use lib.Dec.{ltb}
@@ -12,6 +12,8 @@ use Rattle.model.specs.Strata.{weak}
 use Rattle.model.specs.Response.{response}
 use Rattle.model.specs.Result.{conflict-slot, new-card, changes-slip}
 use Rattle.laws.specs.Limits.{row}
+use Rattle.marks.specs.Marks.{declared-pairs}
+use Rattle.marks.specs.Selection.{marks-after, selection-refusal, selection, order-fired}
 use Rattle.laws.specs.Answers.{OrRefused, taken, refused}
 use Rattle.cards.specs.Forms.{card-bytes, slip-bytes}
 
@@ -37,3 +39,14 @@ unless-conflict width count S C ns =
 -- All firing ends before conflicts are looked for.
 unfoldable pub answer-by-firing : List Rule → ℕ → List ℕ → List Pair → OrRefused Answer
 answer-by-firing rs width S I = unless-conflict width (length rs) S (changes rs I (response weak rs S I)) (response weak rs S I)
+
+-- The response by marks, document 02, section 3: 41 where a pair would be both positive and negative, otherwise 42 where a pair stays unknown, else the answer of the positive pairs and the rules fired.
+unfoldable pub unless-refused : ℕ → Answer → OrRefused Answer
+unless-refused zero a = taken a
+unless-refused (suc k) a = refused (suc k) 0
+
+-- All selection ends before it is looked at what it came to.
+unfoldable pub answer-by-marks : List Rule → List ℕ → List ℕ → List Pair → OrRefused Answer
+answer-by-marks rs counts S I =
+    unless-refused (selection-refusal (declared-pairs counts) rs S I (selection (declared-pairs counts) rs S I))
+    (answer-of (length counts) (length rs) S (marks-after rs I (selection (declared-pairs counts) rs S I) .positive) (order-fired (selection (declared-pairs counts) rs S I)))

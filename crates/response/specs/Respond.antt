@@ -1,4 +1,5 @@
 -- The response to a slip: document 01, 'Order of a response: 32, 31, 20 to 28, 30, 40. Each of these but 32 adds one to slips refused; an answer adds one to slips answered.'
+-- In the response by marks (document 02, section 3) 41 and 42 stand in 40's place.
 use Prim.Native.Nat.{ℕ}
 use mathlib.Core.Bool.{cond}
 use mathlib.Core.List.{List}
@@ -6,11 +7,13 @@ use lib.Dec.{ltb}
 use lib.ListN.{length}
 use Rattle.laws.specs.Limits.{slot-limit}
 use Rattle.laws.specs.Packed.{byte-count}
-use Rattle.model.specs.Rules.{Rule}
+use Rattle.model.specs.Rules.{Pair, Rule}
 use Rattle.table.specs.declared.Table.{Table}
+use Rattle.table.specs.declared.Way.{Way}
+use Rattle.table.specs.declared.Way.the-variants.{Strata, Marks}
 use Rattle.table.specs.Link.{rules-of, value-counts}
 use Rattle.laws.specs.Answers.{OrRefused, taken, refused, written}
-use Rattle.cards.specs.Cards.{if-sound}
+use Rattle.soundness.specs.Sound.{takes}
 use Rattle.cards.specs.Forms.{card-bits, slip-bits, read-card, read-slip}
 use Rattle.tally.specs.declared.Tally.{Tally}
 use Rattle.tally.specs.Counting.{is-full, one-answered, one-refused}
@@ -18,7 +21,7 @@ use Rattle.response.specs.declared.Outcome.{Outcome}
 use Rattle.response.specs.declared.Outcome.the-variants.{Answered, Refused}
 use Rattle.response.specs.declared.Response.{Response}
 use Rattle.results.specs.Record.{ones-in}
-use Rattle.response.specs.Ending.{Answer, answer-by-firing}
+use Rattle.response.specs.Ending.{Answer, answer-by-firing, answer-by-marks}
 
 -- First one thing is taken, then another by it; a refusal stays.
 infixl 20 _and-then_
@@ -42,20 +45,25 @@ if-room width count rooms u =
     cond (ltb (rooms .for-card) (byte-count (card-bits width))) (refused 30 1)
     (cond (ltb (rooms .for-changes) changes-room) (refused 30 2) (cond (ltb (rooms .for-fired) (byte-count count)) (refused 30 3) u))
 
--- By rules over slots of so many values each: 20 to 28, 30, then the response.
-unfoldable pub answer-by-rules : List ℕ → List Rule → List ℕ → List ℕ → Rooms → OrRefused Answer
-answer-by-rules counts rs card slip rooms =
+-- By rules over slots of so many values each, to a card and a slip that are in order.
+unfoldable pub answer-by : Way → List ℕ → List Rule → List ℕ → List Pair → OrRefused Answer
+answer-by Strata counts rs S I = answer-by-firing rs (length counts) S I
+answer-by Marks counts rs S I = answer-by-marks rs counts S I
+
+-- 20 to 28 and 30 before that.
+unfoldable pub answer-by-rules : Way → List ℕ → List Rule → List ℕ → List ℕ → Rooms → OrRefused Answer
+answer-by-rules way counts rs card slip rooms =
     read-card counts card and-then λ S.
     read-slip counts slip and-then λ I.
-    if-room (length counts) (length rs) rooms (answer-by-firing rs (length counts) S I)
+    if-room (length counts) (length rs) rooms (answer-by way counts rs S I)
 
 -- 31 before them.
-unfoldable pub answer-by-table : Table → List ℕ → List ℕ → Rooms → OrRefused Answer
-answer-by-table t card slip rooms = if-sound t (answer-by-rules (value-counts t) (rules-of t) card slip rooms)
+unfoldable pub answer-by-table : Way → Table → List ℕ → List ℕ → Rooms → OrRefused Answer
+answer-by-table way t card slip rooms = cond (takes way t) (answer-by-rules way (value-counts t) (rules-of t) card slip rooms) (refused 31 0)
 
 -- 32 before all.
-unfoldable pub answer-to : Table → Tally → List ℕ → List ℕ → Rooms → OrRefused Answer
-answer-to t y card slip rooms = cond (is-full y) (refused 32 0) (answer-by-table t card slip rooms)
+unfoldable pub answer-in : Way → Table → Tally → List ℕ → List ℕ → Rooms → OrRefused Answer
+answer-in way t y card slip rooms = cond (is-full y) (refused 32 0) (answer-by-table way t card slip rooms)
 
 -- The outcome: an answer says the length of the changes and how many rules fired.
 unfoldable pub outcome-of : OrRefused Answer → Outcome
@@ -72,8 +80,22 @@ unfoldable pub tally-after : Tally → OrRefused Answer → Tally
 tally-after y u = cond (is-full y) y (counted y u)
 
 -- The response.
-unfoldable pub response-to : Table → Tally → List ℕ → List ℕ → Rooms → Response
-response-to t y card slip rooms = record { outcome = outcome-of (answer-to t y card slip rooms); tally = tally-after y (answer-to t y card slip rooms) }
+unfoldable pub response-in : Way → Table → Tally → List ℕ → List ℕ → Rooms → Response
+response-in way t y card slip rooms = record { outcome = outcome-of (answer-in way t y card slip rooms); tally = tally-after y (answer-in way t y card slip rooms) }
+
+-- The response by strata.
+abbrev pub answer-to : Table → Tally → List ℕ → List ℕ → Rooms → OrRefused Answer
+answer-to t y card slip rooms = answer-in Strata t y card slip rooms
+
+abbrev pub response-to : Table → Tally → List ℕ → List ℕ → Rooms → Response
+response-to t y card slip rooms = response-in Strata t y card slip rooms
+
+-- The response by marks.
+abbrev pub marks-answer-to : Table → Tally → List ℕ → List ℕ → Rooms → OrRefused Answer
+marks-answer-to t y card slip rooms = answer-in Marks t y card slip rooms
+
+abbrev pub marks-response-to : Table → Tally → List ℕ → List ℕ → Rooms → Response
+marks-response-to t y card slip rooms = response-in Marks t y card slip rooms
 
 -- The contents of the three outputs, and their lengths.
 pub record Outputs : Type 0 where

@@ -4,18 +4,24 @@ pub mod slips;
 
 ghost use mathlib.Core.Path.{_≡_};
 ghost use mathlib.Core.Bool.{false};
+ghost use Rattle.table.specs.declared.Table as tables;
 ghost use Rattle.table.specs.Link.{rules-of};
+ghost use Rattle.table.specs.inner.Shape.{Shaped};
+ghost use Rattle.soundness.specs.Sound.{well-formed};
+ghost use Rattle.soundness.specs.inner.Admitted.{Enters};
 ghost use Rattle.rows.specs.inner.Rows.{table-in};
 ghost use Rattle.cards.specs.inner.Fitting.{counts-in};
 ghost use Rattle.tally.specs.Counting.{is-full, one-refused};
 ghost use Rattle.response.specs.declared.Outcome.the-variants.{Refused};
-ghost use Rattle.response.specs.Respond.{rooms-of, outputs, outputs-after, answer-by-rules, answer-to, response-to};
+ghost use Rattle.response.specs.Respond.{rooms-of, outputs, outputs-after, answer-by-rules, answer-in, response-in, answer-to, response-to, marks-answer-to, marks-response-to};
 ghost use Rattle.response.specs.inner.InOrder.{Kept, Ends};
 use answering::finish;
 use rows::NUMBERS;
+use soundness::Entry;
 use table::RULES;
 use table::SLOTS;
 use table::Table;
+use table::Way;
 use tally::Tally;
 use tally::is_full;
 use tally::one_answered;
@@ -35,8 +41,9 @@ pub struct Response {
     pub tally: Tally,
 }
 
-// The response by what is left of a table that passed 31, without its tally: 20 to 28, 30, 40, or the answer.
+// The response by what is left of a table that passed 31, without its tally: 20 to 28, 30, then 40, or 41 and 42, or the answer.
 fn work(
+    way: Way,
     rows: &[[u16; NUMBERS]; RULES],
     n: usize,
     width: usize,
@@ -47,8 +54,8 @@ fn work(
     changes: &mut [u8],
     fired: &mut [u8],
 ) -> Outcome
-    requires { ⌜ Kept (now rows) n width (now counts) ⌝ }
-    ensures { λ r. ⌜ Ends (answer-by-rules (counts-in width (now (counts .entry))) (rules-of (table-in (now (rows .entry)) n)) (now (card .entry)) (now (slip .entry)) (rooms-of (now (renewed .entry)) (now (changes .entry)) (now (fired .entry)))) r
+    requires { ⌜ Kept way (now rows) n width (now counts) ⌝ }
+    ensures { λ r. ⌜ Ends (answer-by-rules way (counts-in width (now (counts .entry))) (rules-of (table-in (now (rows .entry)) n)) (now (card .entry)) (now (slip .entry)) (rooms-of (now (renewed .entry)) (now (changes .entry)) (now (fired .entry)))) r
         (outputs (now (renewed .entry)) (now (changes .entry)) (now (fired .entry))) (outputs (now (renewed .exit)) (now (changes .exit)) (now (fired .exit))) ⌝ }
 {
     let first = read_card(card, width, counts);
@@ -63,7 +70,7 @@ fn work(
     }
     let c = first.card;
     let s = next.slip;
-    finish(rows, n, width, c, s, renewed, changes, fired)
+    finish(way, rows, n, width, counts, c, s, renewed, changes, fired)
 }
 
 // A refusal that is counted.
@@ -78,10 +85,12 @@ fn refuse(tally: Tally, number: u8, second: usize) -> Response
     }
 }
 
-// The response to a slip: any table, any tally, any bytes of any length, outputs of any length.
-// It reads the table once: 31 enters what passes into counts and rows, and what comes after goes by these.
-pub fn respond(
-    t: Table,
+// The response by what was entered of a table: 32, 31, then the rest; counted.
+fn conclude(
+    way: Way,
+    entry: Entry,
+    rows: &[[u16; NUMBERS]; RULES],
+    counts: &[usize; SLOTS],
     tally: Tally,
     card: &[u8],
     slip: &[u8],
@@ -89,9 +98,11 @@ pub fn respond(
     changes: &mut [u8],
     fired: &mut [u8],
 ) -> Response
-    ensures { λ r. ⌜ (r ≡ response-to t tally (now (card .entry)) (now (slip .entry)) (rooms-of (now (renewed .entry)) (now (changes .entry)) (now (fired .entry))))
+    requires { ⌜ ((t : tables.Table) × Shaped t × Enters t (well-formed t) entry (now counts) (now rows)) ⌝ }
+    ensures { λ r. ⌜ ((t : tables.Table) → Shaped t → Enters t (well-formed t) entry (now (counts .entry)) (now (rows .entry))
+        → (r ≡ response-in way t tally (now (card .entry)) (now (slip .entry)) (rooms-of (now (renewed .entry)) (now (changes .entry)) (now (fired .entry))))
         × (outputs (now (renewed .exit)) (now (changes .exit)) (now (fired .exit))
-        ≡ outputs-after (answer-to t tally (now (card .entry)) (now (slip .entry)) (rooms-of (now (renewed .entry)) (now (changes .entry)) (now (fired .entry)))) (outputs (now (renewed .entry)) (now (changes .entry)) (now (fired .entry)))) ⌝ }
+        ≡ outputs-after (answer-in way t tally (now (card .entry)) (now (slip .entry)) (rooms-of (now (renewed .entry)) (now (changes .entry)) (now (fired .entry)))) (outputs (now (renewed .entry)) (now (changes .entry)) (now (fired .entry))))) ⌝ }
 {
     if is_full(tally) {
         return Response {
@@ -99,21 +110,20 @@ pub fn respond(
             tally: tally,
         };
     }
-    let mut counts: [usize; SLOTS] = [0; SLOTS];
-    let mut rows: [[u16; NUMBERS]; RULES] = [[0; NUMBERS]; RULES];
-    let n = t.count as usize;
-    let width = t.width as usize;
-    if !soundness::enter(t, &mut counts, &mut rows) {
+    if !entry.passed {
         return refuse(tally, 31, 0);
     }
-    if !leastness::is_least(&rows, n) {
+    let n = entry.count;
+    let width = entry.width;
+    if !soundness::strata_right(rows, n, way) {
         return refuse(tally, 31, 0);
     }
     let outcome = work(
-        &rows,
+        way,
+        rows,
         n,
         width,
-        &counts,
+        counts,
         card,
         slip,
         renewed,
@@ -132,4 +142,67 @@ pub fn respond(
             return refuse(tally, number, second);
         }
     }
+}
+
+// The response to a slip by strata: any table, any tally, any bytes of any length, outputs of any length.
+// The table is handed on at once, to be entered into counts and rows; what comes after goes by these.
+pub fn respond(
+    t: Table,
+    tally: Tally,
+    card: &[u8],
+    slip: &[u8],
+    renewed: &mut [u8],
+    changes: &mut [u8],
+    fired: &mut [u8],
+) -> Response
+    ensures { λ r. ⌜ (r ≡ response-to t tally (now (card .entry)) (now (slip .entry)) (rooms-of (now (renewed .entry)) (now (changes .entry)) (now (fired .entry))))
+        × (outputs (now (renewed .exit)) (now (changes .exit)) (now (fired .exit))
+        ≡ outputs-after (answer-to t tally (now (card .entry)) (now (slip .entry)) (rooms-of (now (renewed .entry)) (now (changes .entry)) (now (fired .entry)))) (outputs (now (renewed .entry)) (now (changes .entry)) (now (fired .entry)))) ⌝ }
+{
+    let mut counts: [usize; SLOTS] = [0; SLOTS];
+    let mut rows: [[u16; NUMBERS]; RULES] = [[0; NUMBERS]; RULES];
+    let entry = soundness::enter(t, &mut counts, &mut rows);
+    conclude(
+        Way::Strata,
+        entry,
+        &rows,
+        &counts,
+        tally,
+        card,
+        slip,
+        renewed,
+        changes,
+        fired,
+    )
+}
+
+// The response to a slip by marks, of the same.
+pub fn respond_by_marks(
+    t: Table,
+    tally: Tally,
+    card: &[u8],
+    slip: &[u8],
+    renewed: &mut [u8],
+    changes: &mut [u8],
+    fired: &mut [u8],
+) -> Response
+    ensures { λ r. ⌜ (r ≡ marks-response-to t tally (now (card .entry)) (now (slip .entry)) (rooms-of (now (renewed .entry)) (now (changes .entry)) (now (fired .entry))))
+        × (outputs (now (renewed .exit)) (now (changes .exit)) (now (fired .exit))
+        ≡ outputs-after (marks-answer-to t tally (now (card .entry)) (now (slip .entry)) (rooms-of (now (renewed .entry)) (now (changes .entry)) (now (fired .entry)))) (outputs (now (renewed .entry)) (now (changes .entry)) (now (fired .entry)))) ⌝ }
+{
+    let mut counts: [usize; SLOTS] = [0; SLOTS];
+    let mut rows: [[u16; NUMBERS]; RULES] = [[0; NUMBERS]; RULES];
+    let entry = soundness::enter(t, &mut counts, &mut rows);
+    conclude(
+        Way::Marks,
+        entry,
+        &rows,
+        &counts,
+        tally,
+        card,
+        slip,
+        renewed,
+        changes,
+        fired,
+    )
 }

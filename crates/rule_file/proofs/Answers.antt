@@ -1,4 +1,4 @@
--- What the whole reading answers: accepted exactly where the text is a file whose rules have strata, and then with its table and the least strata; 18 exactly where the text is a file without strata.
+-- What the whole reading answers, by the response that a text is read for; with test 18: accepted exactly where the text is a file whose rules have strata, and then with its table and the least strata; 18 exactly where the text is a file without strata.
 -- Assumes nothing.
 use mathlib.Core.Path.{_≡_, refl, sym, ap, _∙_}
 use mathlib.Core.Bool.{Bool, true, false}
@@ -16,6 +16,8 @@ use Rattle.model.proofs.Circles.{NoCircle, no-circle-e}
 use Rattle.model.proofs.Strata.{no-circle, least-strata}
 use Rattle.model.proofs.Steps.{through-not-i, lowest-through-not, one-lowest}
 use Rattle.table.specs.declared.Table.{Table}
+use Rattle.table.specs.declared.Way.{Way}
+use Rattle.table.specs.declared.Way.the-variants as way
 use Rattle.table.specs.Empty.{empty-table}
 use Rattle.table.specs.inner.Fits.{TableFits}
 use Rattle.table.specs.inner.Shape.{Shaped}
@@ -39,24 +41,33 @@ use Rattle.grammar.specs.TableFor.{table-for}
 use Rattle.reader.specs.declared.Outcome.the-variants.{Accepted, Refused}
 use Rattle.reader.specs.declared.FileRead.{FileRead}
 use Rattle.rule_file.specs.Carries.{Carries}
-use Rattle.rule_file.specs.Whole.{layered, answered-whole, reading}
+use Rattle.rule_file.specs.Whole.{layered, answered-whole, reading, unlayered, answered-without-18, reading-without-18, read-by}
 use Rattle.rule_file.proofs.FileTable.{file-rules, file-counts, file-shaped, file-well-formed}
 use Rattle.rule_file.proofs.Shown.{slots-show, values-show}
 
-reading-file : (text : List ℕ) (f : File) → parse text ≡ accepted f → reading text ≡ layered f
+pub reading-file : (text : List ℕ) (f : File) → parse text ≡ accepted f → reading text ≡ layered f
 unfolding reading answered-whole
 reading-file text f e = ap answered-whole e
 
-reading-refused : (text : List ℕ) (k n : ℕ) → parse text ≡ refused k n → reading text ≡ record { outcome = Refused k n; table = empty-table }
+pub reading-refused : (text : List ℕ) (k n : ℕ) → parse text ≡ refused k n → reading text ≡ record { outcome = Refused k n; table = empty-table }
 unfolding reading answered-whole
 reading-refused text k n e = ap answered-whole e
 
+-- The same without test 18.
+pub without-18-file : (text : List ℕ) (f : File) → parse text ≡ accepted f → reading-without-18 text ≡ unlayered f
+unfolding reading-without-18 answered-without-18
+without-18-file text f e = ap answered-without-18 e
+
+pub without-18-refused : (text : List ℕ) (k n : ℕ) → parse text ≡ refused k n → reading-without-18 text ≡ record { outcome = Refused k n; table = empty-table }
+unfolding reading-without-18 answered-without-18 answered-whole
+without-18-refused text k n e = ap answered-without-18 e
+
 -- The two answers of a file as read.
-layered-zero : (f : File) → circle-of weak (f .rules) ≡ 0 → layered f ≡ record { outcome = Accepted; table = with-strata (table-for f) }
+pub layered-zero : (f : File) → circle-of weak (f .rules) ≡ 0 → layered f ≡ record { outcome = Accepted; table = with-strata (table-for f) }
 unfolding layered
 layered-zero f z = rw (eq-eqb (circle-of weak (f .rules)) 0 z) refl
 
-layered-circle : (f : File) → (circle-of weak (f .rules) ≡ 0 → ⊥) → layered f ≡ record { outcome = Refused 18 (circle-of weak (f .rules)); table = empty-table }
+pub layered-circle : (f : File) → (circle-of weak (f .rules) ≡ 0 → ⊥) → layered f ≡ record { outcome = Refused 18 (circle-of weak (f .rules)); table = empty-table }
 unfolding layered
 layered-circle f n = rw (ne-eqb (circle-of weak (f .rules)) 0 n) refl
 
@@ -69,23 +80,32 @@ file-table-fits text f e =
 pub file-table-shaped : (text : List ℕ) (f : File) → parse text ≡ accepted f → Shaped (table-for f)
 file-table-shaped text f e = file-shaped f (file-declared text f (accepts-iff text f .0 e))
 
--- What the code answers: a file's table with the least strata, 18, or the grammar's refusal.
-pub whole-layered : (text : List ℕ) (f : File) (u : Table) → parse text ≡ accepted f → circle-of weak (f .rules) ≡ 0 → u ≡ with-strata (table-for f)
-    → record { outcome = Accepted; table = u } ≡ reading text
-whole-layered text f u e z d = ap (λ (x : Table). record { outcome = Accepted; table = x }) d ∙ sym (reading-file text f e ∙ layered-zero f z)
+-- What the code answers: a file's table with the least strata, 18, its table as it is, or the grammar's refusal.
+module _ (w : Way) (text : List ℕ) where
+  pub whole-layered : (f : File) (u : Table) → w ≡ way.Strata → parse text ≡ accepted f → circle-of weak (f .rules) ≡ 0 → u ≡ with-strata (table-for f)
+      → record { outcome = Accepted; table = u } ≡ read-by w text
+  whole-layered f u is e z d = rw is (ap (λ (x : Table). record { outcome = Accepted; table = x }) d ∙ sym (reading-file text f e ∙ layered-zero f z))
 
-pub whole-circle : (text : List ℕ) (f : File) (k : ℕ) → parse text ≡ accepted f → k ≡ circle-of weak (f .rules) → 0 < k
-    → record { outcome = Refused 18 k; table = empty-table } ≡ reading text
-whole-circle text f k e z l = rw z (sym (reading-file text f e ∙ layered-circle f (λ (w : circle-of weak (f .rules) ≡ 0). omega arith)))
+  pub whole-circle : (f : File) (k : ℕ) → w ≡ way.Strata → parse text ≡ accepted f → k ≡ circle-of weak (f .rules) → 0 < k
+      → record { outcome = Refused 18 k; table = empty-table } ≡ read-by w text
+  whole-circle f k is e z l = rw (is, z) (sym (reading-file text f e ∙ layered-circle f (λ (n : circle-of weak (f .rules) ≡ 0). omega arith)))
 
-pub whole-refused : (text : List ℕ) (k n : ℕ) → parse text ≡ refused k n → record { outcome = Refused k n; table = empty-table } ≡ reading text
-whole-refused text k n e = sym (reading-refused text k n e)
+  pub whole-unlayered : (f : File) (u : Table) → w ≡ way.Marks → parse text ≡ accepted f → u ≡ table-for f → record { outcome = Accepted; table = u } ≡ read-by w text
+  unfolding unlayered
+  whole-unlayered f u is e d = rw is (ap (λ (x : Table). record { outcome = Accepted; table = x }) d ∙ sym (without-18-file text f e))
+
+  pub whole-refused : (k n : ℕ) → parse text ≡ refused k n → record { outcome = Refused k n; table = empty-table } ≡ read-by w text
+  whole-refused k n e = go w
+    where
+      go : (v : Way) → record { outcome = Refused k n; table = empty-table } ≡ read-by v text
+      go way.Strata = sym (reading-refused text k n e)
+      go way.Marks = sym (without-18-refused text k n e)
 
 -- The grammar's reading gives 10 to 17.
 pub refused-range : (text : List ℕ) (k n : ℕ) → parse text ≡ refused k n → (10 ≤ k) × (k ≤ 17)
 refused-range text k n e = ⊎-elim (λ w. (omega (arith, w .0), omega (arith, w .0))) (λ w. let r = fault-range k (w .1 .before) (w .1 .after) (w .1 .fault) in (omega (arith, r .0), r .1)) (refusal-stands text k n e)
 
-outcomes-differ : (k n : ℕ) → Accepted ≡ Refused k n → ⊥
+pub outcomes-differ : (k n : ℕ) → Accepted ≡ Refused k n → ⊥
 outcomes-differ k n c = let z : _≡_ {A = ℕ} 0 1 = cc in omega arith
 
 -- A text is accepted exactly where it is a file whose rules have strata.

@@ -1,4 +1,4 @@
--- Cases D and E of document 01 from their texts, and circles of document 02, section 2, by evaluation.
+-- Cases D and E of document 01 from their texts, circles of document 02, section 2, and readings without test 18, by evaluation.
 -- Assumes nothing.
 use Prim.Native.Nat.{ℕ}
 use mathlib.Core.Path.{_≡_, refl}
@@ -11,11 +11,11 @@ use Rattle.strata.specs.Layered.{rule-with-stratum, with-strata}
 use Rattle.grammar.proofs.Cases.{reads, after-slots}
 use Rattle.grammar.specs.TableFor.{table-for}
 use Rattle.reader.specs.declared.Outcome.the-variants.{Accepted, Refused}
-use Rattle.rule_file.specs.Whole.{layered, answered-whole, reading}
+use Rattle.rule_file.specs.Whole.{layered, answered-whole, reading, unlayered, answered-without-18, reading-without-18}
 
 -- `unfolding runs` opens what a whole reading runs.
 unfoldable pub runs : Unit {0}
-unfolding reads computes filled rules-of carried-strata rule-with-stratum with-strata table-for layered answered-whole reading
+unfolding reads computes filled rules-of carried-strata rule-with-stratum with-strata table-for layered answered-whole reading unlayered answered-without-18 reading-without-18
 runs = tt
 
 -- Case D: the rules a and c.
@@ -55,8 +55,10 @@ unfolding runs
 plain-strata = refl
 
 -- 1 waits for 2, 2 for 1 and under NOT for 3, 3 for 2: 18 names rule 1, which no circle through the NOT meets without meeting rule 2 twice.
-pub circle-met-twice : reading (after-slots "WHEN y *= 1 IF TRUE THEN x := 1; WHEN x *= 1 IF NOT z *= 1 THEN y := 1; WHEN y *= 1 IF TRUE THEN z := 1;")
-    ≡ record { outcome = Refused 18 1; table = empty-table }
+abbrev text-twice : List ℕ
+text-twice = after-slots "WHEN y *= 1 IF TRUE THEN x := 1; WHEN x *= 1 IF NOT z *= 1 THEN y := 1; WHEN y *= 1 IF TRUE THEN z := 1;"
+
+pub circle-met-twice : reading text-twice ≡ record { outcome = Refused 18 1; table = empty-table }
 unfolding runs
 circle-met-twice = refl
 
@@ -75,3 +77,20 @@ plain-beside = refl
 pub above-strata : carried-strata (reading (after-slots "WHEN x *= 1 IF NOT z *= 1 THEN y := 1; WHEN y *= 1 IF TRUE THEN x := 1; WHEN x *= 0 IF TRUE THEN z := 1;") .table) ≡ 2 ∷ 2 ∷ 1 ∷ []
 unfolding runs
 above-strata = refl
+
+-- Without test 18 a text with a circle through a NOT is accepted, and stratum 0 stands throughout; so it does in case E, which has strata. The other refusals stay.
+pub circle-unlayered : reading-without-18 text-twice .outcome ≡ Accepted
+unfolding runs
+circle-unlayered = refl
+
+pub circle-unlayered-strata : carried-strata (reading-without-18 text-twice .table) ≡ 0 ∷ 0 ∷ 0 ∷ []
+unfolding runs
+circle-unlayered-strata = refl
+
+pub case-E-unlayered : carried-strata (reading-without-18 text-E .table) ≡ 0 ∷ 0 ∷ []
+unfolding runs
+case-E-unlayered = refl
+
+pub refused-unlayered : reading-without-18 (after-slots "WHEN y *= 1 IF TRUE THEN q := 1;") ≡ record { outcome = Refused 16 0; table = empty-table }
+unfolding runs
+refused-unlayered = refl

@@ -1,11 +1,11 @@
--- The table of a file that is read: it has the file's rules, its places are full, and it is well-formed.
+-- The table of a file that is read: it has the file's rules, with stratum 0 throughout, its places are full, and it is well-formed.
 -- Assumes nothing.
 use mathlib.Core.Path.{_≡_, refl, sym, ap, ap₂, _∙_}
 use mathlib.Core.Bool.{Bool, false}
 use mathlib.Core.List.{List, [], _∷_, map}
 use Prim.Native.Nat.{ℕ, _≤_, _<_}
 use native.Mathlib.Omega.{arith}
-use lib.Dec.{T, leb, ltb, le→leb, lt→ltb}
+use lib.Dec.{T, eqb, leb, ltb, le→leb, lt→ltb}
 use lib.ListN.{length, getD, take, length-map, List·getD-map}
 use Rattle.laws.proofs.Lists.{any-default}
 use Rattle.laws.specs.Truth.{_∧ᵇ_}
@@ -23,13 +23,13 @@ use Rattle.laws.specs.Limits.{slot-limit, value-limit, rule-limit, literal-limi
 use Rattle.table.specs.Zero.{zero-literal, zero-assignment, zero-rule, zero-slot, zero-name}
 use Rattle.table.specs.inner.Shape.{LiteralShaped, AssignmentShaped, RuleShaped, SlotShaped, Shaped}
 use Rattle.table.specs.Empty.{unused-rule, unused-slot}
-use Rattle.table.specs.Link.{literal-of, assignment-of, rule-of, rules-of, value-counts}
+use Rattle.table.specs.Link.{literal-of, assignment-of, rule-of, rules-of, carried-strata, value-counts}
 use Rattle.names.specs.Names.{has-slot, has-value}
 use Rattle.table.proofs.Link.{count-is}
 use Rattle.grammar.specs.Files as files
 use Rattle.grammar.specs.Files.{File, slot-counts}
 use Rattle.grammar.proofs.Declared.{Declared-pair, slot-declared, value-declared, Declared-rule, Valued, Declared-file}
-use Rattle.soundness.specs.Sound.{has-pair, named, well-formed}
+use Rattle.soundness.specs.Sound.{has-pair, named, well-formed, stratum-0}
 use Rattle.soundness.specs.inner.Right.{rule-right}
 use Rattle.soundness.proofs.WellFormed.{well-formed-i}
 use Rattle.grammar.specs.TableFor.{slot-for, name-for, assignment-for, literal-for, rule-for, table-for}
@@ -70,6 +70,16 @@ rules-kept (r ∷ rs) = ap₂ (λ (x : model.Rule) (xs : List model.Rule). x ∷
 pub file-rules : (f : File) → rules-of (table-for f) ≡ f .rules
 unfolding rules-of table-for
 file-rules f = ap (map rule-of) (used-of rule-limit unused-rule rule-for (f .rules)) ∙ rules-kept (f .rules)
+
+-- They have stratum 0 throughout.
+strata-0 : (rs : List model.Rule) → T (all-of (λ s. eqb s 0) (map (λ (r : Rule). r .stratum) (map rule-for rs)))
+unfolding all-of
+strata-0 [] = tt
+strata-0 (r ∷ rs) = and-i _ _ tt (strata-0 rs)
+
+pub file-stratum-0 : (f : File) → T (stratum-0 (table-for f))
+unfolding stratum-0 carried-strata table-for
+file-stratum-0 f = rw (used-of rule-limit unused-rule rule-for (f .rules)) (strata-0 (f .rules))
 
 -- Its slots have the file's values.
 counts-kept : (ss : List files.Slot) → map (λ (s : Slot). s .count) (map slot-for ss) ≡ slot-counts ss

@@ -1,4 +1,5 @@
 pub mod FileTable
 pub mod Shown
 pub mod Answers
+pub mod Unlayered
 pub mod Cases

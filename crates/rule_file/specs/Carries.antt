@@ -5,11 +5,14 @@ use mathlib.Core.Bool.{cond}
 use Prim.Native.Nat.{ℕ, _-_}
 use lib.ListN.{length, getD}
 use Rattle.laws.specs.Numbers.{Numbered}
+use Rattle.model.specs.Rules.{Rule}
 use Rattle.model.specs.Strata.{weak}
 use Rattle.model.specs.Circles.{circle-of}
 use Rattle.model.specs.Least.{strata-of}
 use Rattle.text.specs.Tokens.{Name}
 use Rattle.table.specs.declared.Table.{Table}
+use Rattle.table.specs.declared.Way.{Way}
+use Rattle.table.specs.declared.Way.the-variants.{Strata, Marks}
 use Rattle.table.specs.Link.{rules-of, stratum-at, value-counts}
 use Rattle.names.specs.Names.{Showing, not-shown, has-slot, has-value, show-slot, show-value}
 use Rattle.grammar.specs.Files.{Slot, File, no-slot, values-of, slot-counts}
@@ -30,13 +33,27 @@ declared-value slots s v =
     (cond (has-value (length (values-of slots s)) v) (declared (getD (values-of slots s) (v - 1) (no-slot .name))) not-shown)
     not-shown
 
--- The table carries the rules and slots of the file that the text is, shows the names that it declares, and has the least strata.
-pub record Carries (text : List ℕ) (t : Table) : Type 0 where
+-- What test 18 says of rules: that no circle through a NOT is there; without it, nothing.
+abbrev pub Passed-18 : Way → List Rule → Type 0
+Passed-18 Strata rs = circle-of weak rs ≡ 0
+Passed-18 Marks rs = Unit
+
+-- The strata of rules as they are read: the least; without test 18, 0 throughout.
+abbrev pub strata-by : Way → List Rule → ℕ → ℕ
+strata-by Strata rs n = strata-of weak rs n
+strata-by Marks rs n = 0
+
+-- The table carries the rules and slots of the file that the text is, shows the names that it declares, and has the strata of the response that it is read for.
+pub record CarriesBy (way : Way) (text : List ℕ) (t : Table) : Type 0 where
   pub file : File
   pub is-file : Is-file text file
   pub rules-are : rules-of t ≡ file .rules
   pub counts-are : value-counts t ≡ slot-counts (file .slots)
   pub slots-shown : (s : ℕ) → show-slot text t s ≡ declared-slot (file .slots) s
   pub values-shown : (s v : ℕ) → show-value text t s v ≡ declared-value (file .slots) s v
-  pub strata-are : (n : ℕ) → Numbered (length (file .rules)) n → stratum-at t n ≡ strata-of weak (file .rules) n
-  pub no-circle : circle-of weak (file .rules) ≡ 0
+  pub strata-are : (n : ℕ) → Numbered (length (file .rules)) n → stratum-at t n ≡ strata-by way (file .rules) n
+  pub no-circle : Passed-18 way (file .rules)
+
+-- The same of a table with the least strata.
+abbrev pub Carries : List ℕ → Table → Type 0
+Carries = CarriesBy Strata

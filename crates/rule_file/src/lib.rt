@@ -1,8 +1,8 @@
-// The whole reading of a rule file: refusals 10 to 18, and the table with the least strata.
+// The whole reading of a rule file: refusals 10 to 18, and the table with the least strata; or without 18, and the table with stratum 0 throughout.
 ghost use mathlib.Core.Path.{_≡_};
 ghost use Rattle.table.specs.Empty.{empty-table};
 ghost use Rattle.reader.specs.declared.Outcome.the-variants as outcome;
-ghost use Rattle.rule_file.specs.Whole.{reading};
+ghost use Rattle.rule_file.specs.Whole.{read-by};
 use lines::enter;
 use lines::slot_of;
 use reader::FileRead;
@@ -15,6 +15,7 @@ use table::PAIRS;
 use table::RULES;
 use table::SLOTS;
 use table::Stratum;
+use table::Way;
 
 // A refusal, and the table without slots or rules.
 fn refused(k: u8, n: usize) -> FileRead
@@ -26,10 +27,10 @@ fn refused(k: u8, n: usize) -> FileRead
     }
 }
 
-// The reading of any bytes of any length: the statements one after the other, after each of which the remainder is handed on; at the end the strata.
+// The reading of any bytes of any length: the statements one after the other, after each of which the remainder is handed on; at the end the strata, if asked.
 // The table stands in this function alone, from the first statement to the last stratum, so that it is copied once: where it is returned.
-pub fn read(text: &[u8]) -> FileRead
-    ensures { λ r. ⌜ r ≡ reading (now (text .entry)) ⌝ }
+pub fn read(text: &[u8], way: Way) -> FileRead
+    ensures { λ r. ⌜ r ≡ read-by way (now (text .entry)) ⌝ }
 {
     if TEXT_LIMIT < text.len() {
         return refused(10, 0);
@@ -56,6 +57,12 @@ pub fn read(text: &[u8]) -> FileRead
         let kind = statement.kind;
         match kind {
             Kind::End => {
+                if let Way::Marks = way {
+                    return FileRead {
+                        outcome: Outcome::Accepted,
+                        table: t,
+                    };
+                }
                 let mut rows: [[u16; NUMBERS]; RULES] = [[0; NUMBERS]; RULES];
                 let mut i: usize = 0;
                 'rows: while i < count {

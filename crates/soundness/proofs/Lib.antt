@@ -3,4 +3,5 @@ pub mod WellFormed
 pub mod Admitted
 pub mod Passes
 pub mod Sound
+pub mod Taken
 pub mod Cases

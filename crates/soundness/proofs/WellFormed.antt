@@ -121,7 +121,7 @@ has-placed width counts p u =
     record { in-slots = a .0; in-row = omega (arith, b .1 .0) }
 
 -- The pairs that a rule names: of its trigger, of its literals, of its assignments.
-named-parts : (f : Pair → Bool) (r : Rule) → T (all-of f (named r)) → T (f (rule-of r .trigger)) × T (all-of f (map (λ l. l .pair) (literals-of r))) × T (all-of f (assignments-of r))
+pub named-parts : (f : Pair → Bool) (r : Rule) → T (all-of f (named r)) → T (f (rule-of r .trigger)) × T (all-of f (map (λ l. l .pair) (literals-of r))) × T (all-of f (assignments-of r))
 unfolding named all-of
 named-parts f r u =
     let v = rw (all-append f (map (λ l. l .pair) (literals-of r)) (assignments-of r)) at (and-r _ _ u) in

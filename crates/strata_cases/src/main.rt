@@ -223,7 +223,8 @@ fn layer(t: Table, rows: &[[u16; NUMBERS]; RULES]) -> Layering
 fn write_layering(t: Table) {
     let mut counts: [usize; SLOTS] = [0; SLOTS];
     let mut rows: [[u16; NUMBERS]; RULES] = [[0; NUMBERS]; RULES];
-    if !soundness::enter(t, &mut counts, &mut rows) {
+    let entry = soundness::enter(t, &mut counts, &mut rows);
+    if !entry.passed {
         return;
     }
     let answer = layer(t, &rows);
@@ -336,7 +337,8 @@ fn chain(length: u8, backward: bool, under_not: bool) -> Table {
 fn write_chain(t: Table) {
     let mut counts: [usize; SLOTS] = [0; SLOTS];
     let mut rows: [[u16; NUMBERS]; RULES] = [[0; NUMBERS]; RULES];
-    if !soundness::enter(t, &mut counts, &mut rows) {
+    let entry = soundness::enter(t, &mut counts, &mut rows);
+    if !entry.passed {
         return;
     }
     let answer = layer(t, &rows);

@@ -78,7 +78,7 @@ added-length [] bs = refl
 added-length (p ∷ ps) bs = added-length ps _ ∙ length-set bs _ true
 
 -- A pair is where its place says.
-at-place : (p : Pair) → p .value < row → pair-at (place-of p) ≡ p
+pub at-place : (p : Pair) → p .value < row → pair-at (place-of p) ≡ p
 at-place p h =
     let a : (p .slot * row + p .value) / row ≡ p .slot = omega arith in
     let b : (p .slot * row + p .value) % row ≡ p .value = omega arith in

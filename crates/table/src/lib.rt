@@ -19,6 +19,12 @@ pub const ROW: usize = VALUES + 1;
 
 pub const PAIRS: usize = SLOTS * ROW;
 
+// Which response a table is read for and asked by: the response by strata (document 01), or the response by marks (document 02, section 3).
+pub enum Way {
+    Strata,
+    Marks,
+}
+
 // A stratum, from 1.
 pub type Stratum = u8;
 

@@ -18,11 +18,11 @@ pub fn unpack_card(t: Table, bytes: &[u8]) -> CardRead
 {
     let mut counts: [usize; SLOTS] = [0; SLOTS];
     let mut rows: [[u16; NUMBERS]; RULES] = [[0; NUMBERS]; RULES];
-    let width = t.width as usize;
-    if !soundness::admit(t, &mut counts, &mut rows) {
+    let entry = soundness::admit(t, &mut counts, &mut rows);
+    if !entry.passed {
         return unpack::refused_card(31, 0);
     }
-    read_card(bytes, width, &counts)
+    read_card(bytes, entry.width, &counts)
 }
 
 // Unpacks any bytes as a slip: 31, then 24 to 28.
@@ -31,9 +31,9 @@ pub fn unpack_slip(t: Table, bytes: &[u8]) -> SlipRead
 {
     let mut counts: [usize; SLOTS] = [0; SLOTS];
     let mut rows: [[u16; NUMBERS]; RULES] = [[0; NUMBERS]; RULES];
-    let width = t.width as usize;
-    if !soundness::admit(t, &mut counts, &mut rows) {
+    let entry = soundness::admit(t, &mut counts, &mut rows);
+    if !entry.passed {
         return unpack::refused_slip(31, 0);
     }
-    read_slip(bytes, width, &counts)
+    read_slip(bytes, entry.width, &counts)
 }

@@ -5,13 +5,13 @@ use crate::cards::{
     card_fields, card_length, faulty_changes, pack_card, pack_slip, put, slip_bytes, slip_fields, unpack_card,
     unpack_slip,
 };
-use crate::engine::{Engine, Second};
+use crate::engine::{parts, Engine, Second};
 use crate::fault::Fault;
 use crate::response::{conflict, fired_count, needed, outcome, record, short_output};
 use crate::response::{Answer, Changes, Outputs, Tally, FULL};
 use crate::table::{Name, Pair, Program, Table};
 use crate::table31::tested;
-use crate::{broken_print, broken_reading, broken_strata, refusal, Refusal};
+use crate::{broken_marks, broken_print, broken_reading, broken_strata, refusal, Refusal};
 
 /// The second engine with one fault, and the responses it has given.
 pub struct Broken {
@@ -207,6 +207,10 @@ impl Engine for Broken {
         broken_reading::read(self.fault, text)
     }
 
+    fn read_unlayered(&mut self, text: &[u8]) -> (Option<Refusal>, Box<Table>) {
+        parts(broken_marks::reading(self.fault, text))
+    }
+
     fn print(&mut self, text: &[u8], output: &mut [u8]) -> Result<usize, Refusal> {
         broken_print::print(self.fault, text, output)
     }
@@ -282,6 +286,17 @@ impl Engine for Broken {
                 (refused, Err(why))
             }
         }
+    }
+
+    fn respond_by_marks(
+        &mut self,
+        table: &Table,
+        tally: Tally,
+        card: &[u8],
+        slip: &[u8],
+        outputs: Outputs,
+    ) -> (Tally, Result<usize, Refusal>) {
+        broken_marks::respond(self.fault, table, tally, card, slip, outputs)
     }
 
     fn fired_count(&mut self, record: &[u8]) -> usize {

@@ -5,7 +5,7 @@ use crate::other_strata::{each_number, falling, on_any_circle, on_simple_circle}
 use crate::rule_set::RuleSet;
 use crate::strata::{least, on_circle, reached, waits, Waits};
 use crate::table::{Literal, LiteralPlace, Program, Rule, Table};
-use crate::table31::{tested, unlayered};
+use crate::table31::{tested, tested_for_marks, unlayered};
 use crate::{refusal, Refusal};
 
 /// The rules as the fault's strata see them.
@@ -115,6 +115,7 @@ pub fn program(fault: Fault, table: &Table) -> Result<Program, Refusal> {
             let ones: Vec<u8> = program.strata.iter().map(|number| *number.max(&1)).collect();
             strata(fault, &program.rules) == Ok(ones)
         }
+        Fault::ZeroTaken => tested_for_marks(table).is_ok(),
         Fault::UnusedTested => tested(table).is_ok() && !unused_literals(table),
         Fault::NoAssignments => tested(table).is_ok() && program.rules.iter().all(|rule| !rule.assignments.is_empty()),
         _ => strata(fault, &program.rules).as_ref() == Ok(&program.strata),

@@ -3,8 +3,9 @@
 use std::fmt::Debug;
 use std::path::Path;
 
-use crate::engine::{Engine, Second};
+use crate::engine::{Engine, Second, Way};
 use crate::gen::{self, any_file, File, Rng};
+use crate::gen_marks;
 use crate::gen_tables::{circled_table, damaged};
 use crate::gen_text::Sketch;
 use crate::print::{print_of, put};
@@ -66,17 +67,17 @@ pub struct Entry {
     pub rooms: [usize; 3],
 }
 
-/// The response of an engine with what it left in the outputs.
-fn respond(engine: &mut dyn Engine, table: &Table, entry: &Entry) -> Left<(Tally, Result<usize, Refusal>)> {
+/// The response of an engine by a way with what it left in the outputs.
+fn respond(engine: &mut dyn Engine, way: Way, table: &Table, entry: &Entry) -> Left<(Tally, Result<usize, Refusal>)> {
     lend(entry.rooms, |[card, changes, fired]| {
-        engine.respond(table, entry.tally, &entry.card, &entry.slip, Outputs { card, changes, fired })
+        engine.respond_by(way, table, entry.tally, &entry.card, &entry.slip, Outputs { card, changes, fired })
     })
 }
 
-/// Compares readings: refusals, and tables place by place; after a refusal only that there are no slots or rules.
-fn compare_read(other: &mut dyn Engine, text: &[u8]) -> Result<(Option<Refusal>, Box<Table>), Difference> {
-    let (ours, table) = Second.read(text);
-    let (theirs, given) = other.read(text);
+/// Compares readings for a response: refusals, and tables place by place; after a refusal only that there are no slots or rules.
+fn compare_read(other: &mut dyn Engine, way: Way, text: &[u8]) -> Result<(Option<Refusal>, Box<Table>), Difference> {
+    let (ours, table) = Second.read_for(way, text);
+    let (theirs, given) = other.read_for(way, text);
     same("reading, the refusal", &ours, &theirs)?;
     same("reading, the slot count", &table.width, &given.width)?;
     same("reading, the rule count", &table.count, &given.count)?;
@@ -156,10 +157,10 @@ fn compare_cards(
     same("packing a slip", &ours, &lend([room], |[output]| other.pack_slip(table, &changes, output)))
 }
 
-/// Compares one response, whole outputs with their margins; gives the tally after it.
-fn compare_response(other: &mut dyn Engine, table: &Table, entry: &Entry) -> Result<Tally, Difference> {
-    let ours = respond(&mut Second, table, entry);
-    same("the response", &ours, &respond(other, table, entry))?;
+/// Compares one response by a way, whole outputs with their margins; gives the tally after it.
+fn compare_response(other: &mut dyn Engine, way: Way, table: &Table, entry: &Entry) -> Result<Tally, Difference> {
+    let ours = respond(&mut Second, way, table, entry);
+    same("the response", &ours, &respond(other, way, table, entry))?;
     let (left, outputs) = ours;
     let record = &outputs[2][MARGIN..MARGIN + entry.rooms[2]];
     same("the number of fired rules", &Second.fired_count(record), &other.fired_count(record))?;
@@ -206,55 +207,99 @@ fn entry(rng: &mut Rng, sketch: &Sketch, table: &Table, tally: Tally) -> Entry {
     }
 }
 
-/// An input that showed a difference: the rule text and the entry, if one was reached.
+/// An input that showed a difference: the way of the response asked or read for, the rule text and the entry, if one was reached.
 #[derive(Clone, Debug)]
 pub struct Failing {
     pub seed: u64,
+    pub way: Way,
     pub text: Vec<u8>,
     pub entry: Option<Entry>,
     pub difference: Difference,
 }
 
-/// Compares a day of entries on one table, the tally handed on from each to the next.
+/// A difference, and the entry it was seen with, if one was reached.
+struct Seen {
+    entry: Option<Entry>,
+    difference: Difference,
+}
+
+/// Compares a day of entries on one table by a way, the tally handed on from each to the next.
 fn compare_day(
     other: &mut dyn Engine,
+    way: Way,
     sketch: &Sketch,
     table: &Table,
     rng: &mut Rng,
-) -> Result<(), (Entry, Difference)> {
+) -> Result<(), Box<Seen>> {
     let mut tally = gen::tally(rng);
     for _ in 0..4 {
         let entry = entry(rng, sketch, table, tally);
         let cards = compare_cards(other, table, &entry, sketch, rng);
-        let after = cards.and_then(|_| compare_response(other, table, &entry));
-        tally = after.map_err(|difference| (entry, difference))?;
+        let after = cards.and_then(|_| compare_response(other, way, table, &entry));
+        tally = after.map_err(|difference| Seen { entry: Some(entry), difference })?;
     }
     Ok(())
 }
 
-/// Compares an engine with the second on the inputs of a seed.
+/// A difference seen without an entry.
+fn no_entry(difference: Difference) -> Box<Seen> {
+    Box::new(Seen { entry: None, difference })
+}
+
+/// Says that a difference was seen on a changed table.
+fn on_changed(mut seen: Box<Seen>) -> Box<Seen> {
+    seen.difference.place += " (on a changed table)";
+    seen
+}
+
+/// Compares the strata response with all that belongs to reading, on a file and on a changed table of it; gives the file's table.
+fn compare_by_strata(other: &mut dyn Engine, file: &File, rng: &mut Rng) -> Result<Box<Table>, Box<Seen>> {
+    let (refused, table) = compare_read(other, Way::Strata, &file.text).map_err(no_entry)?;
+    compare_print(other, &file.text, refused).map_err(no_entry)?;
+    compare_strata(other, &file.text).map_err(no_entry)?;
+    compare_names(other, &file.text, &table).map_err(no_entry)?;
+    let sketch = fitting(rng, file, &table);
+    compare_day(other, Way::Strata, &sketch, &table, rng)?;
+    let changed = changed_table(rng, &file.text, refused, &table);
+    compare_names(other, &file.text, &changed).map_err(no_entry).map_err(on_changed)?;
+    let sketch = fitting(rng, file, &changed);
+    compare_day(other, Way::Strata, &sketch, &changed, rng).map_err(on_changed)?;
+    Ok(table)
+}
+
+/// Compares the response by marks on a file as read without test 18, on its table with strata, and on a changed table; and the strata response on the first.
+fn compare_by_marks(other: &mut dyn Engine, file: &File, layered: &Table, rng: &mut Rng) -> Result<(), Box<Seen>> {
+    let (_, table) = compare_read(other, Way::Marks, &file.text).map_err(no_entry)?;
+    let sketch = fitting(rng, file, &table);
+    compare_day(other, Way::Marks, &sketch, &table, rng)?;
+    let entry = entry(rng, &sketch, &table, Tally::default());
+    for (way, table) in [(Way::Marks, layered), (Way::Strata, &table)] {
+        let compared = compare_response(other, way, table, &entry);
+        let seen = |difference| Box::new(Seen { entry: Some(entry.clone()), difference });
+        compared.map_err(|difference| on_changed(seen(difference)))?;
+    }
+    let either = if rng.chance(1, 2) { layered } else { &table };
+    let changed = damaged(rng, either, file.text.len());
+    let sketch = fitting(rng, file, &changed);
+    compare_day(other, Way::Marks, &sketch, &changed, rng).map_err(on_changed)
+}
+
+/// Compares an engine with the second on the inputs of a seed: a file of any kind by both ways, and one made for the response by marks.
 pub fn compare_seed(other: &mut dyn Engine, seed: u64) -> Result<(), Box<Failing>> {
     let mut rng = Rng::new(seed);
-    let file = any_file(&mut rng);
-    let failing = |entry, difference| Box::new(Failing { seed, text: file.text.clone(), entry, difference });
-    let read = compare_read(other, &file.text);
-    let (refused, table) = read.map_err(|difference| failing(None, difference))?;
-    compare_print(other, &file.text, refused).map_err(|difference| failing(None, difference))?;
-    compare_strata(other, &file.text).map_err(|difference| failing(None, difference))?;
-    compare_names(other, &file.text, &table).map_err(|difference| failing(None, difference))?;
-    let sketch = fitting(&mut rng, &file, &table);
-    let day = compare_day(other, &sketch, &table, &mut rng);
-    day.map_err(|(entry, difference)| failing(Some(entry), difference))?;
-    let changed = changed_table(&mut rng, &file.text, refused, &table);
-    let on_table = |mut difference: Difference| {
-        difference.place += " (on a changed table)";
-        difference
+    let failing = |way: Way, file: &File, seen: Box<Seen>| {
+        let Seen { entry, difference } = *seen;
+        Box::new(Failing { seed, way, text: file.text.clone(), entry, difference })
     };
-    let names = compare_names(other, &file.text, &changed);
-    names.map_err(|difference| failing(None, on_table(difference)))?;
-    let sketch = fitting(&mut rng, &file, &changed);
-    let day = compare_day(other, &sketch, &changed, &mut rng);
-    day.map_err(|(entry, difference)| failing(Some(entry), on_table(difference)))
+    let file = any_file(&mut rng);
+    let compared = compare_by_strata(other, &file, &mut rng);
+    let table = compared.map_err(|seen| failing(Way::Strata, &file, seen))?;
+    let compared = compare_by_marks(other, &file, &table, &mut rng);
+    compared.map_err(|seen| failing(Way::Marks, &file, seen))?;
+    let woven = gen_marks::file(&mut rng);
+    let read = compare_read(other, Way::Strata, &woven.text).map_err(no_entry);
+    let (_, table) = read.map_err(|seen| failing(Way::Strata, &woven, seen))?;
+    compare_by_marks(other, &woven, &table, &mut rng).map_err(|seen| failing(Way::Marks, &woven, seen))
 }
 
 /// Compares over seeds from a first on: the first failing input and the number of seeds tried.
@@ -267,19 +312,19 @@ pub fn compare_seeds(other: &mut dyn Engine, first: u64, rounds: u64) -> (Option
     (None, rounds)
 }
 
-/// Whether an engine differs from the second on one text and entry alone.
-fn differs(other: &mut dyn Engine, text: &[u8], entry: Option<&Entry>) -> bool {
-    match (compare_read(other, text), entry) {
+/// Whether an engine differs from the second on one text and entry alone, by a way.
+fn differs(other: &mut dyn Engine, way: Way, text: &[u8], entry: Option<&Entry>) -> bool {
+    match (compare_read(other, way, text), entry) {
         (Err(_), _) => true,
-        (Ok((_, table)), Some(entry)) => compare_response(other, &table, entry).is_err(),
-        (Ok((refused, _)), None) => compare_print(other, text, refused).is_err(),
+        (Ok((_, table)), Some(entry)) => compare_response(other, way, &table, entry).is_err(),
+        (Ok((refused, _)), None) => way == Way::Strata && compare_print(other, text, refused).is_err(),
     }
 }
 
 /// Leaves out statements of a failing input, one after another, while the engines still differ.
 pub fn shrunk(other: &mut dyn Engine, failing: &Failing) -> Failing {
     let mut smaller = failing.clone();
-    if !differs(other, &smaller.text, smaller.entry.as_ref()) {
+    if !differs(other, smaller.way, &smaller.text, smaller.entry.as_ref()) {
         return smaller;
     }
     let mut at = pieces(&smaller.text).len();
@@ -287,7 +332,7 @@ pub fn shrunk(other: &mut dyn Engine, failing: &Failing) -> Failing {
         at -= 1;
         let kept = pieces(&smaller.text).into_iter().enumerate().filter(|(piece, _)| *piece != at);
         let text = kept.map(|(_, piece)| piece).collect::<Vec<&[u8]>>().concat();
-        if differs(other, &text, smaller.entry.as_ref()) {
+        if differs(other, smaller.way, &text, smaller.entry.as_ref()) {
             smaller.text = text;
         }
     }
@@ -303,26 +348,29 @@ pub fn store(folder: &Path, failing: &Failing) -> std::io::Result<()> {
     std::fs::write(folder.join("slip.bin"), entry.map_or(&[0][..], |entry| &entry.slip))?;
     let Difference { place, second, other } = &failing.difference;
     let call = entry.map_or(String::new(), |entry| format!("{:?}\noutput lengths {:?}\n", entry.tally, entry.rooms));
-    let seen = format!("seed {}\n{place}\n{call}second engine: {second}\nother engine: {other}\n", failing.seed);
+    let Failing { seed, way, .. } = failing;
+    let seen = format!("seed {seed} by {way:?}\n{place}\n{call}second engine: {second}\nother engine: {other}\n");
     std::fs::write(folder.join("seen.txt"), seen)
 }
 
-/// How many of a run of seeds give which refusal, to see that all are met: the refusal's number, 0 for none.
-pub fn refusals_met(first: u64, rounds: u64) -> std::collections::BTreeMap<u8, usize> {
+/// How many of a run of seeds give which refusal by a way, to see that all are met: the refusal's number, 0 for none.
+pub fn refusals_met(way: Way, first: u64, rounds: u64) -> std::collections::BTreeMap<u8, usize> {
     let mut met = std::collections::BTreeMap::new();
     for seed in first..first + rounds {
         let mut rng = Rng::new(seed);
         let file = any_file(&mut rng);
-        let (refused, table) = Second.read(&file.text);
+        let (refused, table) = Second.read_for(way, &file.text);
         *met.entry(refused.map_or(0, |why| why.number)).or_default() += 1;
-        let print = Second.print(&file.text, &mut [0; 40]);
-        *met.entry(print.err().map_or(0, |why| why.number)).or_default() += 1;
+        if way == Way::Strata {
+            let print = Second.print(&file.text, &mut [0; 40]);
+            *met.entry(print.err().map_or(0, |why| why.number)).or_default() += 1;
+        }
         for changed in [None, Some(changed_table(&mut rng, &file.text, refused, &table))] {
             let tally = gen::tally(&mut rng);
             let table = changed.as_ref().unwrap_or(&table);
             let sketch = fitting(&mut rng, &file, table);
             let entry = entry(&mut rng, &sketch, table, tally);
-            let result = respond(&mut Second, table, &entry).0 .1;
+            let result = respond(&mut Second, way, table, &entry).0 .1;
             *met.entry(result.err().map_or(0, |why| why.number)).or_default() += 1;
         }
     }

@@ -3,12 +3,22 @@
 use crate::response::{respond, Outputs, Tally};
 use crate::table::{Name, Pair, Table};
 use crate::table31::{slot_name, tested, unlayered, value_name};
-use crate::{cards, print, read, refusal, response, strata, Refusal};
+use crate::{cards, marks, print, read, refusal, response, strata, Refusal};
+
+/// Which response a table is read for and asked by.
+#[derive(Clone, Copy, PartialEq, Eq, Debug)]
+pub enum Way {
+    Strata,
+    Marks,
+}
 
 /// The entry points of an engine, over bytes lent by the caller and tables by value.
 pub trait Engine {
     /// Reads a rule text: the refusal 10 to 18, and the table, which is without slots or rules after a refusal.
     fn read(&mut self, text: &[u8]) -> (Option<Refusal>, Box<Table>);
+
+    /// Reads a rule text without test 18: the refusal 10 to 17, and the table, its strata 0 throughout.
+    fn read_unlayered(&mut self, text: &[u8]) -> (Option<Refusal>, Box<Table>);
 
     /// Prints a rule text in the house style into an output: the print's length, or 10 to 18, 34, 33.
     fn print(&mut self, text: &[u8], output: &mut [u8]) -> Result<usize, Refusal>;
@@ -44,19 +54,62 @@ pub trait Engine {
         outputs: Outputs,
     ) -> (Tally, Result<usize, Refusal>);
 
+    /// The response by marks: the tally after it, and the changes' length or 32, 31, 20 to 28, 30, 41, 42.
+    fn respond_by_marks(
+        &mut self,
+        table: &Table,
+        tally: Tally,
+        card: &[u8],
+        slip: &[u8],
+        outputs: Outputs,
+    ) -> (Tally, Result<usize, Refusal>);
+
     /// How many rules fired, by the fired record.
     fn fired_count(&mut self, record: &[u8]) -> usize;
+
+    /// Reads a rule text for a response.
+    fn read_for(&mut self, way: Way, text: &[u8]) -> (Option<Refusal>, Box<Table>) {
+        match way {
+            Way::Strata => self.read(text),
+            Way::Marks => self.read_unlayered(text),
+        }
+    }
+
+    /// The response of a way.
+    fn respond_by(
+        &mut self,
+        way: Way,
+        table: &Table,
+        tally: Tally,
+        card: &[u8],
+        slip: &[u8],
+        outputs: Outputs,
+    ) -> (Tally, Result<usize, Refusal>) {
+        match way {
+            Way::Strata => self.respond(table, tally, card, slip, outputs),
+            Way::Marks => self.respond_by_marks(table, tally, card, slip, outputs),
+        }
+    }
 }
 
 /// The second engine.
 pub struct Second;
 
+/// The two parts of a reading: the refusal, and the table, which is without slots or rules after one.
+pub fn parts(reading: Result<Box<Table>, Refusal>) -> (Option<Refusal>, Box<Table>) {
+    match reading {
+        Ok(table) => (None, table),
+        Err(why) => (Some(why), Table::empty()),
+    }
+}
+
 impl Engine for Second {
     fn read(&mut self, text: &[u8]) -> (Option<Refusal>, Box<Table>) {
-        match read::read(text) {
-            Ok(table) => (None, table),
-            Err(why) => (Some(why), Table::empty()),
-        }
+        parts(read::read(text))
+    }
+
+    fn read_unlayered(&mut self, text: &[u8]) -> (Option<Refusal>, Box<Table>) {
+        parts(read::read_unlayered(text))
     }
 
     fn print(&mut self, text: &[u8], output: &mut [u8]) -> Result<usize, Refusal> {
@@ -100,6 +153,17 @@ impl Engine for Second {
         outputs: Outputs,
     ) -> (Tally, Result<usize, Refusal>) {
         respond(table, tally, card, slip, outputs)
+    }
+
+    fn respond_by_marks(
+        &mut self,
+        table: &Table,
+        tally: Tally,
+        card: &[u8],
+        slip: &[u8],
+        outputs: Outputs,
+    ) -> (Tally, Result<usize, Refusal>) {
+        marks::respond(table, tally, card, slip, outputs)
     }
 
     fn fired_count(&mut self, record: &[u8]) -> usize {

@@ -181,6 +181,62 @@ faults! {
     FirstOfDay,
     /// The ones of a record are counted in its first 31 bytes.
     LastByteUncounted,
+    /// A file with a circle through a NOT is 18 when read without that test.
+    UnlayeredCircle,
+    /// A file that has strata gets them when read without test 18.
+    UnlayeredLayered,
+    /// Every function takes a table with stratum 0 throughout.
+    ZeroTaken,
+    /// By marks, stratum 0 throughout is 31.
+    ZeroRefused,
+    /// By marks, a table with strata is 31.
+    LayeredRefused,
+    /// By marks, strata are not looked at.
+    MarksUnlayered,
+    /// By marks, each stratum may be 0 or the least.
+    MixedTaken,
+    /// A positive pair leaves the slot's other values unknown.
+    RivalsUnknown,
+    /// A pair of the slip leaves the slot's other values unknown.
+    SlipRivalsUnknown,
+    /// `s *= v` is false where the pair is unknown, and under NOT true.
+    UnknownAsFalse,
+    /// A literal on an unknown pair is false, under NOT too.
+    UnknownLiteralFalse,
+    /// A literal on an unknown pair is true under NOT.
+    UnknownNotTrue,
+    /// By marks, `s *= v` goes by the mark alone where the card has v.
+    HadByMark,
+    /// A pair is ruled out though the last rule that assigns it is not false.
+    AssignerUnseen,
+    /// A rule's trigger is not looked at where a pair is ruled out.
+    TriggerUnseen,
+    /// Only pairs that no rule assigns are ruled out.
+    UnassignedOnly,
+    /// Pairs are ruled out before the first rule fires, not after.
+    RuledOutOnce,
+    /// Pairs that only wait for each other are ruled out together.
+    UnfoundedSets,
+    /// By marks, a rule whose assignments are all positive already does not fire.
+    MarkedIdle,
+    /// A pair that would be both positive and negative keeps its mark, and nothing is 41.
+    ClashIgnored,
+    /// 42 is tested before 41.
+    UnknownBeforeClash,
+    /// What stays unknown is taken as negative, and nothing is 42.
+    UnknownNegative,
+    /// 42 names the lowest slot with an unknown pair.
+    UnknownNamed,
+    /// 40 is answered in place of 41.
+    ClashAsConflict,
+    /// The response by marks goes by strata where there are any.
+    MarksByStrata,
+    /// 41 and 42 are tested before 30.
+    MarksBeforeRoom,
+    /// 41 and 42 are not counted.
+    MarksUncounted,
+    /// The new card is written although 42 is answered.
+    WrittenOnUnknown,
     /// A space is printed before a comma.
     SpaceBeforeComma,
     /// A space is printed before a semicolon.

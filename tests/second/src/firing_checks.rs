@@ -3,7 +3,7 @@
 use std::collections::{BTreeMap, BTreeSet};
 
 use crate::cards::{card_bytes, slip_bytes, unpack_card, unpack_slip};
-use crate::engine::Engine;
+use crate::engine::{Engine, Way};
 use crate::gen::{card_values, plain_file, slip_changes, Rng};
 use crate::gen_rules::{sketch, Ranks, Shape};
 use crate::kinds::{response_kinds, text_kinds, Kind};
@@ -24,17 +24,22 @@ pub struct Given {
     pub fired: Vec<u8>,
 }
 
-/// The response of an engine on a fresh tally with long outputs.
-pub fn given(engine: &mut dyn Engine, table: &Table, card: &[u8], slip: &[u8]) -> Given {
+/// The response of an engine by a way on a fresh tally with long outputs.
+pub fn given_by(engine: &mut dyn Engine, way: Way, table: &Table, card: &[u8], slip: &[u8]) -> Given {
     let (mut new, mut changes, mut fired) = (vec![0; 17], vec![0; 37], vec![0; 32]);
     let outputs = Outputs { card: &mut new, changes: &mut changes, fired: &mut fired };
-    let result = engine.respond(table, Tally::default(), card, slip, outputs).1;
+    let result = engine.respond_by(way, table, Tally::default(), card, slip, outputs).1;
     changes.truncate(result.unwrap_or(0));
     Given { refused: result.err(), card: new, changes, fired }
 }
 
+/// The strata response of an engine on a fresh tally with long outputs.
+pub fn given(engine: &mut dyn Engine, table: &Table, card: &[u8], slip: &[u8]) -> Given {
+    given_by(engine, Way::Strata, table, card, slip)
+}
+
 /// The positions of the one bits of a fired record.
-fn fired_positions(record: &[u8]) -> BTreeSet<usize> {
+pub fn fired_positions(record: &[u8]) -> BTreeSet<usize> {
     (0..record.len() * 8).filter(|at| record[at / 8] >> (7 - at % 8) & 1 == 1).collect()
 }
 
@@ -127,21 +132,22 @@ pub fn rearranged(text: &[u8], slots: usize, rules: usize, rng: &mut Rng) -> (Ve
     (parts.concat(), order)
 }
 
-/// Checks that a rearranged file is accepted and gives the same, each rule's bit in its new place.
+/// Checks that a rearranged file is accepted for a response and gives the same, each rule's bit in its new place.
 pub fn check_rearranged(
     engine: &mut dyn Engine,
+    way: Way,
     text: &[u8],
     table: &Table,
     entry: (&[u8], &[u8]),
     rng: &mut Rng,
 ) -> Result<(), String> {
     let (moved, order) = rearranged(text, table.width as usize, table.count.into(), rng);
-    let (refused, other) = engine.read(&moved);
+    let (refused, other) = engine.read_for(way, &moved);
     if let Some(why) = refused {
         return Err(format!("a rearranged file is refused: {why:?}"));
     }
-    let old = given(engine, table, entry.0, entry.1);
-    let new = given(engine, &other, entry.0, entry.1);
+    let old = given_by(engine, way, table, entry.0, entry.1);
+    let new = given_by(engine, way, &other, entry.0, entry.1);
     let (was, is) = (fired_positions(&old.fired), fired_positions(&new.fired));
     let bits = order.iter().enumerate().all(|(to, from)| was.contains(from) == is.contains(&to));
     let same = old.refused == new.refused && old.card == new.card && old.changes == new.changes;
@@ -186,7 +192,8 @@ pub fn check_small(engine: &mut dyn Engine, seed: u64, counts: &mut Counts) -> R
         let slip = slip_bytes(&slip_changes(&mut rng, &file.sketch));
         counts.meet(response_kinds(&table, &card, &slip));
         let orders = check_orders(engine, &table, &card, &slip, counts);
-        let moved = orders.and_then(|_| check_rearranged(engine, &file.text, &table, (&card, &slip), &mut rng));
+        let moved =
+            orders.and_then(|_| check_rearranged(engine, Way::Strata, &file.text, &table, (&card, &slip), &mut rng));
         moved.map_err(|why| {
             let text = String::from_utf8_lossy(&file.text);
             format!("seed {seed}: {why}\n{text}\ncard {card:02X?} slip {slip:02X?}")

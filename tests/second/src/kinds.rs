@@ -14,7 +14,7 @@ use crate::table::{Pair, Program, Rule, Table};
 use crate::table31::{tested, unlayered};
 use crate::{broken_firing, broken_reading};
 
-/// Makes the enum of kinds and the lists of those of rules, responses and tables.
+/// Makes the enum of kinds and the lists of those of rules, texts, responses and tables.
 macro_rules! kinds {
     ($($(#[$about:meta])* $list:ident { $($(#[$sentence:meta])* $name:ident,)* })*) => {
         /// A kind of rules, of a response or of a table.
@@ -101,10 +101,54 @@ kinds! {
         /// Rules with a circle through a NOT, no number 0.
         Circled,
     }
+
+    /// The kinds of a response by marks.
+    MARK_KINDS {
+        /// An answer of a file that 18 refuses.
+        CircleAnswered,
+        /// An answer in which a rule on a circle through a NOT fires.
+        CircleFired,
+        /// An answer where rules fired in number order give a slot two values.
+        OrderConflicts,
+        /// 41 of a file that 18 refuses.
+        CircleClashes,
+        /// 41 of a file with strata.
+        LayeredClashes,
+        /// 41 with a pair that is still unknown where one order of selection ends.
+        ClashWithUnknown,
+        /// 42 of a file that 18 refuses.
+        CircleUnknown,
+        /// 42 where the strata response answers.
+        UnknownAnswered,
+        /// 42 where the strata response gives 40.
+        UnknownConflict,
+        /// A pair can be ruled out only after a rule fired.
+        OutByFiring,
+        /// A pair is ruled out at the fourth pass over the pairs or later.
+        OutLate,
+        /// A pair is ruled out at the thirtieth pass or later.
+        OutVeryLate,
+    }
+
+    /// The kinds of a table by its strata, where it is asked by marks.
+    MARK_TABLE_KINDS {
+        /// Stratum 0 throughout, of rules that have strata.
+        ZeroLayered,
+        /// Stratum 0 throughout, of rules with a circle through a NOT.
+        ZeroCircled,
+        /// No rules.
+        NoRules,
+        /// The least strata.
+        Least,
+        /// Some numbers 0, the others the least.
+        ZeroMixed,
+        /// Other numbers.
+        OtherNumbers,
+    }
 }
 
 /// The kinds that hold.
-fn holding(kinds: &[(Kind, bool)]) -> Vec<Kind> {
+pub fn holding(kinds: &[(Kind, bool)]) -> Vec<Kind> {
     kinds.iter().filter(|(_, holds)| *holds).map(|(kind, _)| *kind).collect()
 }
 

@@ -7,7 +7,7 @@ const BEFORE: u8 = 165;
 const MARGIN: usize = 16;
 
 /// A number in so many bytes from the front of an input, the most significant first.
-fn number(input: &mut &[u8], bytes: usize) -> usize {
+pub fn number(input: &mut &[u8], bytes: usize) -> usize {
     let (front, rest) = input.split_at(bytes);
     *input = rest;
     front.iter().fold(0, |so_far, byte| so_far * 256 + usize::from(*byte))

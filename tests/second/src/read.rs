@@ -330,3 +330,9 @@ pub fn read(text: &[u8]) -> Result<Box<Table>, Refusal> {
     let strata = strata(&rules).map_err(|rule| refusal(18, rule))?;
     Ok(table_of(&lines, &rules, &strata))
 }
+
+/// The table of a text read without test 18, its strata 0 throughout, or its refusal 10 to 17.
+pub fn read_unlayered(text: &[u8]) -> Result<Box<Table>, Refusal> {
+    let (lines, rules) = read_rules(text)?;
+    Ok(table_of(&lines, &rules, &vec![0; rules.len()]))
+}

@@ -115,16 +115,27 @@ pub fn outcome(program: &Program, card: &[u8], firing: &Firing) -> Result<Answer
     }
 }
 
-/// The answer to a card and a slip, or the refusal 31, 20 to 28, 30 or 40.
-pub fn answer(table: &Table, card: &[u8], slip: &[u8], rooms: [usize; 3]) -> Result<Answer, Refusal> {
-    let program = tested(table)?;
+/// What a way of deciding comes to on a program, a card and a slip, after the refusals 20 to 28 and 30.
+pub fn answered(
+    program: Program,
+    card: &[u8],
+    slip: &[u8],
+    rooms: [usize; 3],
+    decide: impl FnOnce(&Program, &[u8], &[Pair]) -> Result<Answer, Refusal>,
+) -> Result<Answer, Refusal> {
     let card = unpack_card(&program, card)?;
     let slip = unpack_slip(&program, slip)?;
-    if let Some(which) = short_output(needed(&program), rooms) {
-        return Err(refusal(30, which));
+    match short_output(needed(&program), rooms) {
+        Some(which) => Err(refusal(30, which)),
+        None => decide(&program, &card, &slip),
     }
-    let firing = fire(&program, &slip, |changes, rule| enabled(&card, changes, rule));
-    outcome(&program, &card, &firing)
+}
+
+/// The answer to a card and a slip, or the refusal 31, 20 to 28, 30 or 40.
+pub fn answer(table: &Table, card: &[u8], slip: &[u8], rooms: [usize; 3]) -> Result<Answer, Refusal> {
+    answered(tested(table)?, card, slip, rooms, |program, card, slip| {
+        outcome(program, card, &fire(program, slip, |changes, rule| enabled(card, changes, rule)))
+    })
 }
 
 /// The three outputs of a response.
@@ -148,22 +159,31 @@ impl Outputs<'_> {
     }
 }
 
-/// The response: the tally after it, and the changes' length or the refusal.
-pub fn respond(
-    table: &Table,
+/// Writes and counts an answer, made for the outputs' lengths, or counts its refusal; 32 where the tally is full.
+pub fn counted(
     tally: Tally,
-    card: &[u8],
-    slip: &[u8],
     mut outputs: Outputs,
+    answer: impl FnOnce([usize; 3]) -> Result<Answer, Refusal>,
 ) -> (Tally, Result<usize, Refusal>) {
     if tally.answered >= FULL || tally.refused >= FULL {
         return (tally, Err(refusal(32, 0)));
     }
-    match answer(table, card, slip, outputs.rooms()) {
+    match answer(outputs.rooms()) {
         Ok(answer) => {
             outputs.write(&answer);
             (Tally { answered: tally.answered + 1, ..tally }, Ok(answer.changes.len()))
         }
         Err(why) => (Tally { refused: tally.refused + 1, ..tally }, Err(why)),
     }
+}
+
+/// The response: the tally after it, and the changes' length or the refusal.
+pub fn respond(
+    table: &Table,
+    tally: Tally,
+    card: &[u8],
+    slip: &[u8],
+    outputs: Outputs,
+) -> (Tally, Result<usize, Refusal>) {
+    counted(tally, outputs, |rooms| answer(table, card, slip, rooms))
 }

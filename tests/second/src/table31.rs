@@ -59,6 +59,16 @@ pub fn tested(table: &Table) -> Result<Program, Refusal> {
     }
 }
 
+/// The program of a table for the response by marks, or 31: its strata may also be 0 throughout.
+pub fn tested_for_marks(table: &Table) -> Result<Program, Refusal> {
+    let program = unlayered(table)?;
+    if program.strata.iter().all(|stratum| *stratum == 0) {
+        Ok(program)
+    } else {
+        tested(table)
+    }
+}
+
 /// A name that lies inside the text, or 31.
 fn inside(text: &[u8], name: Name) -> Result<Name, Refusal> {
     match text.get(name.range()) {

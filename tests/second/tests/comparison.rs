@@ -5,7 +5,7 @@ use std::process::Command;
 
 use second::broken::Broken;
 use second::compare::{compare_seeds, refusals_met, shrunk, store};
-use second::engine::{Engine, Second};
+use second::engine::{Engine, Second, Way};
 use second::fault::{Fault, FAULTS};
 use second::firing_checks::{check_small, Counts};
 use second::gen::{card_values, slip_changes, Rng};
@@ -36,9 +36,11 @@ fn the_second_engine_agrees_with_itself() {
 
 #[test]
 fn every_refusal_is_met() {
-    let met = refusals_met(1, 4_000);
+    let met = |way: Way| refusals_met(way, 1, 4_000).into_keys().collect::<Vec<u8>>();
     let all = [0, 10, 11, 12, 13, 14, 15, 16, 17, 18, 20, 21, 22, 23, 24, 25, 26, 27, 28, 30, 31, 32, 33, 34, 40];
-    assert_eq!(met.into_keys().collect::<Vec<u8>>(), all);
+    assert_eq!(met(Way::Strata), all);
+    let all = [0, 10, 11, 12, 13, 14, 15, 16, 17, 20, 21, 22, 23, 24, 25, 26, 27, 28, 30, 31, 32, 41, 42];
+    assert_eq!(met(Way::Marks), all);
 }
 
 #[test]

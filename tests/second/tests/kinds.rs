@@ -6,7 +6,8 @@ use second::compare::compare_seeds;
 use second::engine::{Engine, Second};
 use second::firing_checks::{check_small, Counts};
 use second::kinds::{response_kinds, rule_kinds, table_kinds, text_kinds, Kind};
-use second::kinds::{RESPONSE_KINDS, RULE_KINDS, TABLE_KINDS, TEXT_KINDS};
+use second::kinds::{MARK_KINDS, MARK_TABLE_KINDS, RESPONSE_KINDS, RULE_KINDS, TABLE_KINDS, TEXT_KINDS};
+use second::mark_kinds::{mark_kinds, mark_table_kinds};
 use second::response::{Outputs, Tally};
 use second::table::{Name, Pair, Table};
 use second::table31::unlayered;
@@ -38,6 +39,10 @@ impl Engine for Watching {
     fn read(&mut self, text: &[u8]) -> (Option<Refusal>, Box<Table>) {
         meet(&mut self.met, text_kinds(text));
         Second.read(text)
+    }
+
+    fn read_unlayered(&mut self, text: &[u8]) -> (Option<Refusal>, Box<Table>) {
+        Second.read_unlayered(text)
     }
 
     fn print(&mut self, text: &[u8], output: &mut [u8]) -> Result<usize, Refusal> {
@@ -88,6 +93,22 @@ impl Engine for Watching {
         (after, result)
     }
 
+    fn respond_by_marks(
+        &mut self,
+        table: &Table,
+        tally: Tally,
+        card: &[u8],
+        slip: &[u8],
+        outputs: Outputs,
+    ) -> (Tally, Result<usize, Refusal>) {
+        meet(&mut self.met, mark_table_kinds(table));
+        let (after, result) = Second.respond_by_marks(table, tally, card, slip, outputs);
+        if result.map_or_else(|why| why.number > 40, |_| true) {
+            meet(&mut self.met, mark_kinds(table, card, slip));
+        }
+        (after, result)
+    }
+
     fn fired_count(&mut self, record: &[u8]) -> usize {
         Second.fired_count(record)
     }
@@ -99,6 +120,7 @@ fn the_comparison_meets_every_kind() {
     assert!(compare_seeds(&mut watching, 1, 3_000).0.is_none());
     let kinds = [RULE_KINDS, TEXT_KINDS, RESPONSE_KINDS, TABLE_KINDS];
     demand(&watching.met, &kinds, 3);
+    demand(&watching.met, &[MARK_KINDS, MARK_TABLE_KINDS], 10);
 }
 
 #[test]

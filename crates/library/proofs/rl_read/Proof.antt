@@ -1,7 +1,6 @@
 -- `library::rl_read` meets its contract.
 -- Assumes nothing.
-use Rattle.reader.specs.declared.Outcome.the-variants.{Accepted, Refused}
-use Rattle.library.proofs.Results.{read-known}
+use Rattle.library.proofs.Results.{read-numbered}
 use borrow.Author.Needs.{needs}
 use Rattle.library.proofs.rl_read.Statement.{statement}
 use Rattle.library.proofs.rl_read.Tie as tie
@@ -9,20 +8,14 @@ use Rattle.library.proofs.rl_read.Tie as tie
 read-requires : tie.Need-read-requires
 read-requires c κs = search needs
 
-enum-told : tie.Need-enum-told
-enum-told c = search needs
+refusal-of-requires : tie.Need-refusal-of-requires
+refusal-of-requires c κs = search needs
+
+second-of-requires : tie.Need-second-of-requires
+second-of-requires c κs = search needs
 
 returns : tie.Need-returns
-returns c = let k = c .before .before .before in read-known (k .read .result) _ Accepted (k .read .ensures) (c .enum-told .given .1)
-
-enum-known-outcome : tie.Need-enum-known-outcome
-enum-known-outcome c = search needs
-
-returns-2 : tie.Need-returns-2
-returns-2 c =
-    let a = c .before in
-    let k = a .before .before .before in
-    read-known (k .read .result) _ (Refused _ _) (k .read .ensures) (a .outcome .given .1)
+returns c = let k = c .before .before .before in read-numbered (k .read .result) _ _ _ (k .read .ensures) (c .before .refusal-of .ensures) (c .second-of .ensures)
 
 pub rl-read-spec : {M : Type 1} → statement M
-rl-read-spec = tie.close (tie.spec read-requires enum-told returns enum-known-outcome returns-2)
+rl-read-spec = tie.close (tie.spec read-requires refusal-of-requires second-of-requires returns)

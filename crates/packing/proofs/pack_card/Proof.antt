@@ -3,9 +3,10 @@
 use mathlib.Core.Path.{_≡_, refl, sym, ap, _∙_}
 use mathlib.Core.Bool.{true}
 use mathlib.Core.List.{List, _++_}
-use Prim.Native.Nat.{ℕ}
+use Prim.Native.Nat.{ℕ, _≤_}
 use lib.ListN.{length, drop}
 use borrow.Author.Tests.{not-true, not-false}
+use Rattle.laws.specs.Limits.{slot-limit}
 use Rattle.laws.specs.Packed.{byte-count}
 use Rattle.table.specs.inner.Shape.{Shaped}
 use Rattle.table.specs.Link.{value-counts}
@@ -19,7 +20,7 @@ use Rattle.cards.specs.Cards.{card-values}
 use Rattle.cards.specs.inner.Fitting.{verdict-outcome}
 use Rattle.cards.proofs.Formed.{card-length}
 use Rattle.cards.proofs.Written.{card-bytes-length}
-use Rattle.cards.proofs.Passed.{slots-length, card-pass, sound-slots, counts-all, outcome-fault, outcome-passed, card-fits}
+use Rattle.cards.proofs.Passed.{slots-length, card-pass, sound-slots, counts-entered, outcome-fault, outcome-passed, card-fits}
 use Rattle.cards.proofs.Answered.{answer-refused, answer-taken, unsound-card, card-faulty, card-without-room, card-with-room}
 use native.Mathlib.Omega.{arith}
 use borrow.Author.Needs.{needs}
@@ -29,38 +30,43 @@ use Rattle.packing.proofs.pack_card.Tie as tie
 shape : (c : tie.Start) → Shaped (c .args .t)
 shape c = shaped (c .args .t) _ (c .good .0)
 
--- The table is sound.
+-- The table passed,
+entered : (c : tie.Else1) → c .before .before .admit .result .passed ≡ true
+entered c = not-false (c .before .before .admit .result .passed) (c .if1 .left)
+
+-- so it is sound,
 right : (c : tie.Else1) → sound (c .before .before .before .before .before .before .args .t) ≡ true
-right c = sym (c .before .admit .ensures .0) ∙ not-false (c .before .admit .result) (c .if1 .left)
+right c = sym (c .before .before .admit .ensures .says) ∙ entered c
+
+-- and it has as many slots as was said.
+narrow : (c : tie.Else1) → c .before .before .admit .result .width ≤ slot-limit
+narrow c = rw (c .before .before .admit .ensures .width-is (entered c)) (sound-width (c .before .before .before .before .before .before .args .t) (right c))
 
 -- The test is one by the counts of its slots.
 tested : (c : tie.After-check-card) → c .check-card .result ≡ verdict-outcome (card-test (value-counts (c .before .before .before .before .before .before .before .before .args .t)) (card-values (c .before .before .before .before .before .before .before .before .args .c)))
 tested c =
     let e = c .before .before in
-    let g = e .before in
+    let g = e .before .before in
     let a = c .before .before .before .before .before .before .before .before in
-    let k = counts-all (a .args .t) (shape a) (right e) _ _ (g .admit .ensures .1 (not-false (g .admit .result) (e .if1 .left))) in
+    let k = counts-entered (a .args .t) (shape a) (sound-width (a .args .t) (right e)) _ _ _ _ (entered e) (g .admit .ensures) in
     c .check-card .ensures ∙ ap (λ (ns : List ℕ). verdict-outcome (card-test ns (card-values (a .args .c)))) k
 
 -- The form passed.
 passes : (c : tie.After-enum-told) → card-test (value-counts (c .before .before .before .before .before .before .before .before .before .before .args .t)) (card-values (c .before .before .before .before .before .before .before .before .before .before .args .c)) ≡ passed
 passes c = outcome-passed _ (sym (tested (c .before .before)) ∙ c .enum-told .given .1)
 
-cast-width : tie.Need-cast-width
-cast-width c = search needs
-
 admit-requires : tie.Need-admit-requires
 admit-requires c κs = (zero-shaped, refl)
 
 returns : tie.Need-returns
 returns c =
-    let g = c .before in
+    let g = c .before .before in
     let a = c .before .before .before .before .before .before in
-    let e = unsound-card (a .args .t) (sym (g .admit .ensures .0) ∙ not-true (g .admit .result) (c .if1 .taken)) (a .args .c) (length (a .args .out .now)) in
+    let e = unsound-card (a .args .t) (sym (g .admit .ensures .says) ∙ not-true (g .admit .result .passed) (c .if1 .taken)) (a .args .c) (length (a .args .out .now)) in
     answer-refused _ 31 0 (a .args .out .now) e
 
 check-card-requires : tie.Need-check-card-requires
-check-card-requires c κs = sound-width (c .before .before .before .before .before .before .before .args .t) (right (c .before))
+check-card-requires c κs = narrow (c .before)
 
 enum-known-checked : tie.Need-enum-known-checked
 enum-known-checked c = search needs
@@ -79,20 +85,20 @@ enum-told : tie.Need-enum-told
 enum-told c = search needs
 
 -- A card that passed counts the slots.
-counts : (c : tie.After-enum-told) → c .before .before .before .before .before .before .before .before .before .before .args .c .count ≡ c .before .before .before .before .before .before .before .before .before .before .args .t .width
+counts : (c : tie.After-enum-told) → c .before .before .before .before .before .before .before .before .before .before .args .c .count ≡ c .before .before .before .before .before .before .admit .result .width
 counts c =
     let e = c .before .before .before .before in
     let a = c .before .before .before .before .before .before .before .before .before .before in
-    sym (card-length (a .args .c)) ∙ card-pass (value-counts (a .args .t)) (card-values (a .args .c)) (passes c) .0 ∙ slots-length (a .args .t) (shape a) (right e)
+    sym (card-length (a .args .c)) ∙ card-pass (value-counts (a .args .t)) (card-values (a .args .c)) (passes c) .0 ∙ slots-length (a .args .t) (shape a) (sound-width (a .args .t) (right e)) ∙ sym (e .before .before .admit .ensures .width-is (entered e))
 
 mul-bytes-for : tie.Need-mul-bytes-for
-mul-bytes-for c = record { fits = omega (arith, sound-width (c .before .before .before .before .before .before .before .before .before .before .args .t) (right (c .before .before .before .before))) }
+mul-bytes-for c = record { fits = omega (arith, narrow (c .before .before .before .before)) }
 
 add-bytes-for : tie.Need-add-bytes-for
-add-bytes-for c = record { fits = omega (arith, sound-width (c .before .before .before .before .before .before .before .before .before .before .args .t) (right (c .before .before .before .before))) }
+add-bytes-for c = record { fits = omega (arith, narrow (c .before .before .before .before)) }
 
 bytes-for-requires : tie.Need-bytes-for-requires
-bytes-for-requires c κs = omega (arith, sound-width (c .before .before .before .before .before .before .before .before .before .before .args .t) (right (c .before .before .before .before)))
+bytes-for-requires c κs = omega (arith, narrow (c .before .before .before .before))
 
 -- The packed length.
 size : (c : tie.After-bytes-for) → c .bytes-for .result ≡ byte-count (card-bits (c .before .before .before .before .before .before .before .before .before .before .before .args .c .count))
@@ -134,7 +140,6 @@ pub pack-card-spec : {M : Type 1} → statement M
 pack-card-spec =
     tie.close
     (tie.spec
-    cast-width
     admit-requires
     returns
     check-card-requires

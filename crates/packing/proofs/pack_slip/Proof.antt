@@ -3,9 +3,10 @@
 use mathlib.Core.Path.{_≡_, refl, sym, ap, _∙_}
 use mathlib.Core.Bool.{true}
 use mathlib.Core.List.{List, _++_}
-use Prim.Native.Nat.{ℕ}
+use Prim.Native.Nat.{ℕ, _≤_}
 use lib.ListN.{length, drop}
 use borrow.Author.Tests.{not-true, not-false}
+use Rattle.laws.specs.Limits.{slot-limit}
 use Rattle.laws.specs.Packed.{byte-count}
 use Rattle.table.specs.inner.Shape.{Shaped}
 use Rattle.table.specs.Link.{value-counts}
@@ -19,7 +20,7 @@ use Rattle.cards.specs.Cards.{changes-of}
 use Rattle.cards.specs.inner.Fitting.{verdict-outcome}
 use Rattle.cards.proofs.Formed.{slip-length}
 use Rattle.cards.proofs.Written.{slip-bytes-length}
-use Rattle.cards.proofs.Passed.{sound-slots, counts-all, outcome-fault, outcome-passed, slip-fits}
+use Rattle.cards.proofs.Passed.{sound-slots, counts-entered, outcome-fault, outcome-passed, slip-fits}
 use Rattle.cards.proofs.Answered.{answer-refused, answer-taken, unsound-slip, slip-too-many, slip-faulty, slip-without-room, slip-with-room}
 use native.Mathlib.Omega.{arith}
 use borrow.Author.Needs.{needs}
@@ -29,34 +30,39 @@ use Rattle.packing.proofs.pack_slip.Tie as tie
 shape : (c : tie.Start) → Shaped (c .args .t)
 shape c = shaped (c .args .t) _ (c .good .0)
 
--- The table is sound.
+-- The table passed,
+entered : (c : tie.Else1) → c .before .before .admit .result .passed ≡ true
+entered c = not-false (c .before .before .admit .result .passed) (c .if1 .left)
+
+-- so it is sound,
 right : (c : tie.Else1) → sound (c .before .before .before .before .before .before .args .t) ≡ true
-right c = sym (c .before .admit .ensures .0) ∙ not-false (c .before .admit .result) (c .if1 .left)
+right c = sym (c .before .before .admit .ensures .says) ∙ entered c
+
+-- and it has as many slots as was said.
+narrow : (c : tie.Else1) → c .before .before .admit .result .width ≤ slot-limit
+narrow c = rw (c .before .before .admit .ensures .width-is (entered c)) (sound-width (c .before .before .before .before .before .before .args .t) (right c))
 
 -- The test is one by the counts of its slots.
 tested : (c : tie.After-check-slip) → c .check-slip .result ≡ verdict-outcome (slip-test (value-counts (c .before .before .before .before .before .before .before .before .before .args .t)) (changes-of (c .before .before .before .before .before .before .before .before .before .args .s)))
 tested c =
     let e = c .before .before .before in
-    let g = e .before in
+    let g = e .before .before in
     let a = c .before .before .before .before .before .before .before .before .before in
-    let k = counts-all (a .args .t) (shape a) (right e) _ _ (g .admit .ensures .1 (not-false (g .admit .result) (e .if1 .left))) in
+    let k = counts-entered (a .args .t) (shape a) (sound-width (a .args .t) (right e)) _ _ _ _ (entered e) (g .admit .ensures) in
     c .check-slip .ensures ∙ ap (λ (ns : List ℕ). verdict-outcome (slip-test ns (changes-of (a .args .s)))) k
 
 -- The form passed.
 passes : (c : tie.After-enum-told) → slip-test (value-counts (c .before .before .before .before .before .before .before .before .before .before .before .args .t)) (changes-of (c .before .before .before .before .before .before .before .before .before .before .before .args .s)) ≡ passed
 passes c = outcome-passed _ (sym (tested (c .before .before)) ∙ c .enum-told .given .1)
 
-cast-width : tie.Need-cast-width
-cast-width c = search needs
-
 admit-requires : tie.Need-admit-requires
 admit-requires c κs = (zero-shaped, refl)
 
 returns : tie.Need-returns
 returns c =
-    let g = c .before in
+    let g = c .before .before in
     let a = c .before .before .before .before .before .before in
-    let e = unsound-slip (a .args .t) (sym (g .admit .ensures .0) ∙ not-true (g .admit .result) (c .if1 .taken)) (a .args .s) (length (a .args .out .now)) in
+    let e = unsound-slip (a .args .t) (sym (g .admit .ensures .says) ∙ not-true (g .admit .result .passed) (c .if1 .taken)) (a .args .s) (length (a .args .out .now)) in
     answer-refused _ 31 0 (a .args .out .now) e
 
 returns-2 : tie.Need-returns-2
@@ -66,7 +72,7 @@ returns-2 c =
     answer-refused _ 24 0 (a .args .out .now) (slip-too-many (a .args .t) (right e) (a .args .s) (length (a .args .out .now)) (c .if2 .taken))
 
 check-slip-requires : tie.Need-check-slip-requires
-check-slip-requires c κs = (sound-width (c .before .before .before .before .before .before .before .before .args .t) (right (c .before .before)), c .before .if2 .left)
+check-slip-requires c κs = (narrow (c .before .before), c .before .if2 .left)
 
 enum-known-checked : tie.Need-enum-known-checked
 enum-known-checked c = search needs
@@ -136,7 +142,6 @@ pub pack-slip-spec : {M : Type 1} → statement M
 pack-slip-spec =
     tie.close
     (tie.spec
-    cast-width
     admit-requires
     returns
     returns-2

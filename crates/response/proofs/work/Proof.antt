@@ -11,10 +11,9 @@ use Rattle.cards.specs.Forms.{read-card, read-slip}
 use Rattle.cards.specs.Cards.{card-values, changes-of, card-of, slip-of}
 use Rattle.cards.specs.inner.Fitting.{counts-in}
 use Rattle.cards.proofs.EntryTrips.{card-of-values, slip-of-changes}
-use Rattle.response.specs.Ending.{answer-by-firing}
-use Rattle.response.specs.Respond.{rooms-of, if-room}
-use Rattle.response.proofs.AnswerLaws.{rules-counted}
-use Rattle.response.proofs.RespondLaws.{card-taken, card-refused, slip-taken, slip-refused, ends-refused, ends-same, by-rules-card, by-rules-slip, by-rules-on, counts-length, in-order}
+use Rattle.response.specs.Respond.{rooms-of, if-room, answer-by}
+use Rattle.response.proofs.InOrder.{rules-counted, counts-length}
+use Rattle.response.proofs.RespondLaws.{card-taken, card-refused, slip-taken, slip-refused, ends-refused, ends-same, by-rules-card, by-rules-slip, by-rules-on, in-order}
 use borrow.Author.Needs.{needs}
 use Rattle.response.proofs.work.Statement.{statement}
 use Rattle.response.proofs.work.Tie as tie
@@ -45,7 +44,7 @@ enum-known-of-card c = search needs
 
 returns : tie.Need-returns
 returns c =
-    ends-refused _ _ _ _ (by-rules-card _ _ _ _ _ _ _ (card-refused _ _ _ _ (c .before .before .before .read-card .ensures) (c .before .of-card .given .1)))
+    ends-refused _ _ _ _ (by-rules-card _ _ _ _ _ _ _ _ (card-refused _ _ _ _ (c .before .before .before .read-card .ensures) (c .before .of-card .given .1)))
 
 enum-told : tie.Need-enum-told
 enum-told c = search needs
@@ -60,7 +59,7 @@ returns-2 : tie.Need-returns-2
 returns-2 c =
     let q = c .before .before .before in
     let S = card-by q in
-    ends-refused _ _ _ _ (by-rules-slip _ _ _ _ _ (S .0) _ _ (S .1) (slip-refused _ _ _ _ (q .read-slip .ensures) (c .before .of-slip .given .1)))
+    ends-refused _ _ _ _ (by-rules-slip _ _ _ _ _ _ (S .0) _ _ (S .1) (slip-refused _ _ _ _ (q .read-slip .ensures) (c .before .of-slip .given .1)))
 
 enum-told-2 : tie.Need-enum-told-2
 enum-told-2 c = search needs
@@ -71,7 +70,7 @@ finish-requires c κs =
     let s = start q in
     let S = card-by q in
     let I = slip-by c in
-    in-order (s .args .rows .now) (s .args .n) (s .args .width) (s .args .counts .now) (s .pre) _ _ (S .0) (I .0) _ _ (S .1) (I .1) (S .2) (I .2)
+    in-order (s .args .way) (s .args .rows .now) (s .args .n) (s .args .width) (s .args .counts .now) (s .pre) _ _ (S .0) (I .0) _ _ (S .1) (I .1) (S .2) (I .2)
 
 same-length : tie.Need-same-length
 same-length c = search needs
@@ -87,14 +86,15 @@ returns-3 c =
     let f = c .before .before .before .before .before .before in
     let q = by-finish (f .before) in
     let s = start q in
+    let ks = counts-in (s .args .width) (s .args .counts .now) in
     let rs = rules-of (table-in (s .args .rows .now) (s .args .n)) in
     let S = card-by q in
     let I = slip-by (f .before) in
     let rooms = rooms-of (s .args .renewed .now) (s .args .changes .now) (s .args .fired .now) in
     ends-same _ _ _ _ _
-    (by-rules-on (counts-in (s .args .width) (s .args .counts .now)) rs (s .args .card .now) (s .args .slip .now) rooms (S .0) (I .0) (S .1) (I .1)
-    ∙ ap₂ (λ (w m : ℕ). if-room w m rooms (answer-by-firing rs w (S .0) (I .0))) (counts-length (s .args .rows .now) (s .args .n) (s .args .width) (s .args .counts .now) (s .pre)) (rules-counted (s .args .rows .now) (s .args .n) (s .pre .rows-fit))
-    ∙ ap₂ (λ (vs : List ℕ) (ps : List Pair). if-room (s .args .width) (s .args .n) rooms (answer-by-firing rs (s .args .width) vs ps)) (sym (ap card-values (S .2) ∙ card-of-values (S .0))) (sym (ap changes-of (I .2) ∙ slip-of-changes (I .0))))
+    (by-rules-on (s .args .way) ks rs (s .args .card .now) (s .args .slip .now) rooms (S .0) (I .0) (S .1) (I .1)
+    ∙ ap₂ (λ (w m : ℕ). if-room w m rooms (answer-by (s .args .way) ks rs (S .0) (I .0))) (counts-length (s .args .width) (s .args .counts .now)) (rules-counted (s .args .rows .now) (s .args .n) (s .pre .rows-fit))
+    ∙ ap₂ (λ (vs : List ℕ) (ps : List Pair). if-room (s .args .width) (s .args .n) rooms (answer-by (s .args .way) ks rs vs ps)) (sym (ap card-values (S .2) ∙ card-of-values (S .0))) (sym (ap changes-of (I .2) ∙ slip-of-changes (I .0))))
     (f .finish .ensures)
 
 pub work-spec : {M : Type 1} → statement M

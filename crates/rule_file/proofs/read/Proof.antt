@@ -1,120 +1,33 @@
 -- `rule_file::read` meets its contract.
 -- Assumes nothing.
-use Prim.Native.Nat.{ℕ, _-_, _≤_}
+mod Places
+use Prim.Native.Nat.{ℕ}
 use native.Mathlib.Omega.{arith}
-use mathlib.Core.Path.{_≡_, refl, sym, ap, subst, _∙_}
-use Rattle.laws.specs.Limits.{rule-limit}
-use lib.ListN.{length, length-take, length-drop}
+use mathlib.Core.Path.{_≡_, refl, sym, ap, _∙_}
+use lib.ListN.{length-take, length-drop}
 use borrow.Author.Needs.{needs}
-use Rattle.text.specs.Tokens.{tokens}
-use Rattle.grammar.specs.Reading.{parse, accepted, refused, read-tokens}
-use Rattle.grammar.specs.Files.{File}
+use Rattle.grammar.specs.Reading.{refused}
 use Rattle.grammar.proofs.Forward.{read-short, read-long}
-use Rattle.table.specs.inner.Fits.{TableFits}
-use Rattle.table.specs.inner.Shape.{Shaped}
 use Rattle.lines.proofs.LineLaws.{remainder-place}
-use Rattle.reader.specs.inner.Statements.{kind-answer, Kind-lies}
-use Rattle.reader.proofs.ReadLaws.{Halfway, halfway-start, halfway-width, halfway-count, halfway-slot, halfway-rule}
-use Rattle.reader.specs.declared.statements.Kind.{Kind}
-use Rattle.reader.specs.declared.statements.Kind.the-variants as kind
-use Rattle.rows.specs.inner.Rows.{table-in, Entered}
-use Rattle.rows.proofs.Laws.{zero-shaped, entered-start, entered-next, entered-fits, entered-rules, rows-count}
+use Rattle.reader.proofs.ReadLaws.{halfway-start, halfway-width, halfway-count, halfway-slot, halfway-rule}
+use Rattle.rows.proofs.Laws.{zero-shaped, entered-start, entered-next, entered-fits}
 use Rattle.strata.specs.Layered.{with-strata}
-use Rattle.strata.specs.inner.Heights.{least-numbers}
 use Rattle.model.specs.Strata.{weak}
 use Rattle.model.specs.Circles.{circle-of}
-use Rattle.table.specs.Link.{rules-of}
-use Rattle.rule_file.proofs.FileTable.{file-rules}
-use Rattle.strata.proofs.Layered.{same-numbers, number-small, Numbering, numbering-start, numbering-step, numbering-end}
-use Rattle.rule_file.proofs.Answers.{file-table-fits, file-table-shaped, whole-layered, whole-circle, whole-refused}
+use Rattle.strata.proofs.Layered.{number-small, numbering-start, numbering-step, numbering-end}
+use Rattle.rule_file.proofs.Answers.{whole-layered, whole-circle, whole-unlayered, whole-refused}
+use Rattle.rule_file.proofs.read.Proof.Places.{Inv-rows, μ-rows, Inv-strata, μ-strata, Inv-statements, μ-statements, text-at, way-at, table-at, halfway, answer, slot-lies, rule-lies, file-of, ended, fits, shape, rules-are, end-at, table-in-rows, by-strata, entered, circle-is, numbers-are}
 use Rattle.rule_file.proofs.read.Statement.{statement}
 use Rattle.rule_file.proofs.read.Tie as tie
-
-abbrev Inv-rows : tie.InvT-rows
-Inv-rows text t base width count rows₀ i₀ rows i = (count ≤ rule-limit) × (i ≤ count) × Entered (t .rules) rows i
-
-abbrev μ-rows : tie.MeasureT-rows
-μ-rows text t base width count rows₀ i₀ rows i = count - i
-
-abbrev Inv-strata : tie.InvT-strata
-Inv-strata text t₀ base width count i numbers k j₀ t j = (count ≤ rule-limit) × (j ≤ count) × Numbering numbers t₀ j t
-
-abbrev μ-strata : tie.MeasureT-strata
-μ-strata text t₀ base width count i numbers k j₀ t j = count - j
-
-abbrev Inv-statements : tie.InvT-statements
-Inv-statements text classes t₀ slotspans₀ valuespans₀ rest₀ base₀ t slotspans valuespans rest base = Halfway text t slotspans valuespans rest base
-
-abbrev μ-statements : tie.MeasureT-statements
-μ-statements text classes t₀ slotspans₀ valuespans₀ rest₀ base₀ t slotspans valuespans rest base = length rest
-
--- Before a statement, and what the reading comes to by it.
-halfway : (c : tie.After-statement-next Inv-rows μ-rows Inv-strata μ-strata Inv-statements μ-statements) → Halfway (c .before .before .before .before .before .before .before .before .before .args .text .now) (c .before .before .before .before .statements .t) (c .before .before .before .before .statements .slotspans) (c .before .before .before .before .statements .valuespans) (c .before .before .before .before .statements .rest .now) (c .before .before .before .before .statements .base)
-halfway c = c .before .before .before .before .statements .inv
-
-answer : (c : tie.After-statement-next Inv-rows μ-rows Inv-strata μ-strata Inv-statements μ-statements) {x : Kind} → c .statement-next .result .kind ≡ x
-    → read-tokens (tokens (c .before .before .before .before .before .before .before .before .before .args .text .now)) ≡ kind-answer (c .before .before .before .before .before .before .before .before .before .args .text .now) (c .before .before .before .before .statements .rest .now) (c .before .before .before .before .statements .base) (halfway c .slots) (halfway c .rules) x (c .statement-next .result .line) (c .statement-next .result .rule)
-answer c e =
-    let H = halfway c in
-    sym (H .same) ∙ c .statement-next .ensures .0 (H .slots) (H .rules) (H .indexed) (halfway-width H) (halfway-count H)
-    ∙ ap (λ x. kind-answer (c .before .before .before .before .before .before .before .before .before .args .text .now) (c .before .before .before .before .statements .rest .now) (c .before .before .before .before .statements .base) (H .slots) (H .rules) x (c .statement-next .result .line) (c .statement-next .result .rule)) e
-
--- Where the statement lies.
-lies : (c : tie.After-statement-next Inv-rows μ-rows Inv-strata μ-strata Inv-statements μ-statements) {x : Kind} → c .statement-next .result .kind ≡ x
-    → Kind-lies (c .before .before .before .before .before .before .before .before .before .args .text .now) (length (c .before .before .before .before .statements .rest .now)) (c .before .before .before .before .statements .t .width) (c .before .before .before .before .statements .t .count) x (c .statement-next .result .line) (c .statement-next .result .rule)
-lies c e = subst (λ x. Kind-lies (c .before .before .before .before .before .before .before .before .before .args .text .now) (length (c .before .before .before .before .statements .rest .now)) (c .before .before .before .before .statements .t .width) (c .before .before .before .before .statements .t .count) x (c .statement-next .result .line) (c .statement-next .result .rule)) e (c .statement-next .ensures .1)
-
-slot-lies : (c : tie.After-kind Inv-rows μ-rows Inv-strata μ-strata Inv-statements μ-statements) → Kind-lies (c .before .before .before .before .before .before .before .before .before .before .before .args .text .now) (length (c .before .before .before .before .before .before .statements .rest .now)) (c .before .before .before .before .before .before .statements .t .width) (c .before .before .before .before .before .before .statements .t .count) (kind.Slot (c .kind .given .0 .0)) (c .before .before .statement-next .result .line) (c .before .before .statement-next .result .rule)
-slot-lies c = lies (c .before .before) (c .kind .given .1)
-
-rule-lies : (c : tie.After-kind2 Inv-rows μ-rows Inv-strata μ-strata Inv-statements μ-statements) → Kind-lies (c .before .before .before .before .before .before .before .before .before .before .before .args .text .now) (length (c .before .before .before .before .before .before .statements .rest .now)) (c .before .before .before .before .before .before .statements .t .width) (c .before .before .before .before .before .before .statements .t .count) (kind.Rule (c .kind2 .given .0 .0)) (c .before .before .statement-next .result .line) (c .before .before .statement-next .result .rule)
-rule-lies c = lies (c .before .before) (c .kind2 .given .1)
-
--- At the end of the text: the file that it is.
-abbrev file-of : tie.After-enum-told Inv-rows μ-rows Inv-strata μ-strata Inv-statements μ-statements → File
-file-of e = record { slots = halfway (e .before .before) .slots; rules = halfway (e .before .before) .rules }
-
-ended : (e : tie.After-enum-told Inv-rows μ-rows Inv-strata μ-strata Inv-statements μ-statements) → parse (e .before .before .before .before .before .before .before .before .before .before .before .args .text .now) ≡ accepted (file-of e)
-ended e = read-short (e .before .before .before .before .before .before .before .before .before .before .before .args .text .now) (omega (arith, e .before .before .before .before .before .before .before .before .before .if1 .left)) ∙ answer (e .before .before) (e .enum-told .given .1)
-
--- Its table fits, has its places and has the file's rules.
-fits : (e : tie.After-enum-told Inv-rows μ-rows Inv-strata μ-strata Inv-statements μ-statements) → TableFits (e .before .before .before .before .before .before .statements .t)
-fits e = rw (halfway (e .before .before) .tabled) (file-table-fits (e .before .before .before .before .before .before .before .before .before .before .before .args .text .now) (file-of e) (ended e))
-
-shape : (e : tie.After-enum-told Inv-rows μ-rows Inv-strata μ-strata Inv-statements μ-statements) → Shaped (e .before .before .before .before .before .before .statements .t)
-shape e = rw (halfway (e .before .before) .tabled) (file-table-shaped (e .before .before .before .before .before .before .before .before .before .before .before .args .text .now) (file-of e) (ended e))
-
-rules-are : (e : tie.After-enum-told Inv-rows μ-rows Inv-strata μ-strata Inv-statements μ-statements) → rules-of (e .before .before .before .before .before .before .statements .t) ≡ file-of e .rules
-rules-are e = ap rules-of (halfway (e .before .before) .tabled) ∙ file-rules (file-of e)
-
--- Its rules are entered.
-entered : (c : tie.After-numbers Inv-rows μ-rows Inv-strata μ-strata Inv-statements μ-statements) → Entered (c .before .before .before .before .before .before .before .before .before .before .statements .t .rules) (c .before .before .before .rows .rows) (c .before .before .before .before .before .before .before .before .before .before .statements .t .count)
-entered c =
-    let a = c .before .before .before in
-    let e : a .rows .i ≡ c .before .before .before .before .before .before .before .before .before .before .statements .t .count = omega (arith, a .rows .inv .1, c .before .before .rows-test .left) in
-    rw e at (a .rows .inv .2)
-
--- What is found of them is what the table's rules have.
-circle-is : (c : tie.After-find Inv-rows μ-rows Inv-strata μ-strata Inv-statements μ-statements) → c .find .result ≡ circle-of weak (rules-of (c .before .before .before .before .before .before .before .before .before .before .before .statements .t))
-circle-is c =
-    let n = c .before in
-    let e = n .before .before .before .before in
-    c .find .ensures .0 ∙ ap (circle-of weak) (entered-rules (e .before .before .before .before .before .before .statements .t) (n .before .before .before .rows .rows) (shape e) (fits e .rules-fit) (entered n))
-
-numbers-are : (c : tie.After-find Inv-rows μ-rows Inv-strata μ-strata Inv-statements μ-statements) → c .find .result ≡ 0 → c .find .last .1 .1 .0 ≡ least-numbers (c .before .before .before .before .before .before .before .before .before .before .before .statements .t)
-numbers-are c z =
-    let n = c .before in
-    let e = n .before .before .before .before in
-    let rows = n .before .before .before .rows .rows in
-    let t = e .before .before .before .before .before .before .statements .t in
-    c .find .ensures .1 z ∙ same-numbers (table-in rows (t .count)) t (rows-count rows (t .count)) (entered-rules t rows (shape e) (fits e .rules-fit) (entered n))
 
 refused-requires :
     tie.Need-refused-requires Inv-rows μ-rows Inv-strata μ-strata Inv-statements μ-statements
 refused-requires c κs = search needs
 
 returns : tie.Need-returns Inv-rows μ-rows Inv-strata μ-strata Inv-statements μ-statements
-returns c = let t = c .before .before .before .args .text .now in c .refused .ensures ∙ whole-refused t 10 0 (read-long t (c .before .if1 .taken))
+returns c =
+    let s = c .before .before .before in
+    c .refused .ensures ∙ whole-refused (s .args .way) (s .args .text .now) 10 0 (read-long (s .args .text .now) (c .before .if1 .taken))
 
 table-requires : tie.Need-table-requires Inv-rows μ-rows Inv-strata μ-strata Inv-statements μ-statements
 table-requires c κs = search needs
@@ -156,8 +69,20 @@ statement-next-requires c κs = let l = c .before .before .before in let H = l .
 enum-told : tie.Need-enum-told Inv-rows μ-rows Inv-strata μ-strata Inv-statements μ-statements
 enum-told c = search needs
 
+enum-told-2 : tie.Need-enum-told-2 Inv-rows μ-rows Inv-strata μ-strata Inv-statements μ-statements
+enum-told-2 c = search needs
+
+returns-2 : tie.Need-returns-2 Inv-rows μ-rows Inv-strata μ-strata Inv-statements μ-statements
+returns-2 c =
+    let e = c .before .before in
+    let k = e .before .before in
+    whole-unlayered (way-at k) (text-at k) (file-of e) (table-at k) (c .enum-told2 .given .1) (ended e) (halfway k .tabled)
+
+enum-told-3 : tie.Need-enum-told-3 Inv-rows μ-rows Inv-strata μ-strata Inv-statements μ-statements
+enum-told-3 c = search needs
+
 rows-holds : tie.Need-rows-holds Inv-rows μ-rows Inv-strata μ-strata Inv-statements μ-statements
-rows-holds c = (fits c .rules-fit, search needs, entered-start _ _ zero-shaped)
+rows-holds c = (fits (c .before .before) .rules-fit, search needs, entered-start _ _ zero-shaped)
 
 mul-r : tie.Need-mul-r Inv-rows μ-rows Inv-strata μ-strata Inv-statements μ-statements
 mul-r c = record { fits = omega (arith, c .rows-test .taken, c .before .rows .inv .0) }
@@ -176,7 +101,7 @@ index-1-enter-rule c = omega (arith, c .before .rows-test .taken, c .before .bef
 
 enter-rule-requires :
     tie.Need-enter-rule-requires Inv-rows μ-rows Inv-strata μ-strata Inv-statements μ-statements
-enter-rule-requires c κs = let a = c .before .before .before in (fits (a .before) .each-fits (a .rows .i) (c .before .before .rows-test .taken), a .rows .inv .2 .shaped .each-row (a .rows .i) (omega (arith, c .before .before .rows-test .taken, a .rows .inv .0)))
+enter-rule-requires c κs = let a = c .before .before .before in (fits (end-at a) .each-fits (a .rows .i) (c .before .before .rows-test .taken), a .rows .inv .2 .shaped .each-row (a .rows .i) (omega (arith, c .before .before .rows-test .taken, a .rows .inv .0)))
 
 add-i : tie.Need-add-i Inv-rows μ-rows Inv-strata μ-strata Inv-statements μ-statements
 add-i c = record { fits = omega (arith, c .before .before .before .rows-test .taken, c .before .before .before .before .rows .inv .0) }
@@ -195,8 +120,13 @@ refused-requires-2 :
     tie.Need-refused-requires-2 Inv-rows μ-rows Inv-strata μ-strata Inv-statements μ-statements
 refused-requires-2 c κs = search needs
 
-returns-2 : tie.Need-returns-2 Inv-rows μ-rows Inv-strata μ-strata Inv-statements μ-statements
-returns-2 c = let d = c .before .before in let e = d .before .before .before .before .before in c .refused2 .ensures ∙ whole-circle (e .before .before .before .before .before .before .before .before .before .before .before .args .text .now) (file-of e) (d .find .result) (ended e) (circle-is d ∙ ap (circle-of weak) (rules-are e)) (c .before .if2 .taken)
+returns-3 : tie.Need-returns-3 Inv-rows μ-rows Inv-strata μ-strata Inv-statements μ-statements
+returns-3 c =
+    let d = c .before .before in
+    let r = d .before .before .before .before in
+    let e = end-at r in
+    let k = e .before .before in
+    c .refused2 .ensures ∙ whole-circle (way-at k) (text-at k) (file-of e) (d .find .result) (by-strata r) (ended e) (circle-is d ∙ ap (circle-of weak) (rules-are e)) (c .before .if2 .taken)
 
 strata-holds :
     tie.Need-strata-holds Inv-rows μ-rows Inv-strata μ-strata Inv-statements μ-statements
@@ -210,11 +140,12 @@ array-read-s :
 array-read-s c = omega (arith, c .strata-test .taken, c .before .strata .inv .0)
 
 cast-t : tie.Need-cast-t Inv-rows μ-rows Inv-strata μ-strata Inv-statements μ-statements
-cast-t c = let d = c .before .before .before in
-    let e = d .before .before .before .before .before in
-    let t = e .before .before .before .before .before .before .statements .t in
+cast-t c =
+    let d = c .before .before .before in
+    let r = d .before .before .before .before in
+    let e = end-at r in
     let z : d .find .result ≡ 0 = omega (arith, c .before .before .if2 .left) in
-    record { fits = omega (arith, rw (← (numbers-are d z)) at (number-small t (fits e) (shape e) (sym (circle-is d) ∙ z) (c .before .strata .j) (c .strata-test .taken))) }
+    record { fits = omega (arith, rw (← (numbers-are d z)) at (number-small (table-in-rows r) (fits e) (shape e) (sym (circle-is d) ∙ z) (c .before .strata .j) (c .strata-test .taken))) }
 
 mul-t : tie.Need-mul-t Inv-rows μ-rows Inv-strata μ-strata Inv-statements μ-statements
 mul-t c = record { fits = omega (arith, c .strata-test .taken, c .before .strata .inv .0) }
@@ -231,19 +162,22 @@ strata-less c = omega (arith, c .before .strata-test .taken)
 
 strata-again :
     tie.Need-strata-again Inv-rows μ-rows Inv-strata μ-strata Inv-statements μ-statements
-strata-again c = let a = c .before .before in
-    let e = a .before .before .before .before .before .before .before in
-    (a .strata .inv .0, omega (arith, c .before .strata-test .taken), numbering-step _ (e .before .before .before .before .before .before .statements .t) (a .strata .j) (a .strata .t) (omega (arith, shape e .rule-places, c .before .strata-test .taken, a .strata .inv .0)) (a .strata .inv .2))
+strata-again c =
+    let a = c .before .before in
+    let r = a .before .before .before .before .before .before in
+    (a .strata .inv .0, omega (arith, c .before .strata-test .taken), numbering-step _ (table-in-rows r) (a .strata .j) (a .strata .t) (omega (arith, shape (end-at r) .rule-places, c .before .strata-test .taken, a .strata .inv .0)) (a .strata .inv .2))
 
-returns-3 : tie.Need-returns-3 Inv-rows μ-rows Inv-strata μ-strata Inv-statements μ-statements
-returns-3 c = let a = c .before in
+returns-4 : tie.Need-returns-4 Inv-rows μ-rows Inv-strata μ-strata Inv-statements μ-statements
+returns-4 c =
+    let a = c .before in
     let d = a .before .before in
-    let e = d .before .before .before .before .before in
-    let t = e .before .before .before .before .before .before .statements .t in
+    let r = d .before .before .before .before in
+    let e = end-at r in
+    let k = e .before .before in
     let z : d .find .result ≡ 0 = omega (arith, a .before .if2 .left) in
-    let w : a .strata .j ≡ t .count = omega (arith, a .strata .inv .1, c .strata-test .left) in
-    let u = numbering-end t (fits e) (shape e) _ (a .strata .t) (numbers-are d z) (rw w at (a .strata .inv .2)) in
-    whole-layered (e .before .before .before .before .before .before .before .before .before .before .before .args .text .now) (file-of e) (a .strata .t) (ended e) (ap (circle-of weak) (sym (rules-are e)) ∙ sym (circle-is d) ∙ z) (u ∙ ap with-strata (halfway (e .before .before) .tabled))
+    let w : a .strata .j ≡ table-at k .count = omega (arith, a .strata .inv .1, c .strata-test .left) in
+    let u = numbering-end (table-at k) (fits e) (shape e) _ (a .strata .t) (numbers-are d z) (rw w at (a .strata .inv .2)) in
+    whole-layered (way-at k) (text-at k) (file-of e) (a .strata .t) (by-strata r) (ended e) (ap (circle-of weak) (sym (rules-are e)) ∙ sym (circle-is d) ∙ z) (u ∙ ap with-strata (halfway k .tabled))
 
 enum-known-kind :
     tie.Need-enum-known-kind Inv-rows μ-rows Inv-strata μ-strata Inv-statements μ-statements
@@ -257,8 +191,8 @@ slot-of-requires :
     tie.Need-slot-of-requires Inv-rows μ-rows Inv-strata μ-strata Inv-statements μ-statements
 slot-of-requires c κs = slot-lies (c .before .before .before .before .before .before) .6 .few
 
-mul-t62 : tie.Need-mul-t62 Inv-rows μ-rows Inv-strata μ-strata Inv-statements μ-statements
-mul-t62 c = let l = slot-lies (c .before .before .before .before .before .before .before) .2 in record { fits = omega arith }
+mul-t65 : tie.Need-mul-t65 Inv-rows μ-rows Inv-strata μ-strata Inv-statements μ-statements
+mul-t65 c = let l = slot-lies (c .before .before .before .before .before .before .before) .2 in record { fits = omega arith }
 
 element-set-from-t :
     tie.Need-element-set-from-t Inv-rows μ-rows Inv-strata μ-strata Inv-statements μ-statements
@@ -344,12 +278,12 @@ refused-requires-3 :
     tie.Need-refused-requires-3 Inv-rows μ-rows Inv-strata μ-strata Inv-statements μ-statements
 refused-requires-3 c κs = search needs
 
-returns-4 : tie.Need-returns-4 Inv-rows μ-rows Inv-strata μ-strata Inv-statements μ-statements
-returns-4 c = let a = c .before .before in
+returns-5 : tie.Need-returns-5 Inv-rows μ-rows Inv-strata μ-strata Inv-statements μ-statements
+returns-5 c =
+    let a = c .before .before in
     let k = a .before .before in
     let H = halfway k in
-    let t = k .before .before .before .before .before .before .before .before .before .args .text .now in
-    c .refused3 .ensures ∙ whole-refused t _ _ (read-short t (omega (arith, k .before .before .before .before .before .before .before .if1 .left)) ∙ answer k (a .kind3 .given .1) ∙ ap (λ (n : ℕ). refused (a .kind3 .given .0 .0) n) (sym (halfway-count H)))
+    c .refused3 .ensures ∙ whole-refused (way-at k) (text-at k) _ _ (read-short (text-at k) (omega (arith, k .before .before .before .before .before .before .before .if1 .left)) ∙ answer k (a .kind3 .given .1) ∙ ap (λ (n : ℕ). refused (a .kind3 .given .0 .0) n) (sym (halfway-count H)))
 
 pub read-spec : {M : Type 1} → statement M
 read-spec =
@@ -371,6 +305,9 @@ read-spec =
     slice-aggregate-statement-next
     statement-next-requires
     enum-told
+    enum-told-2
+    returns-2
+    enum-told-3
     rows-holds
     mul-r
     element-copy-out-r
@@ -382,7 +319,7 @@ read-spec =
     rows-again
     find-requires
     refused-requires-2
-    returns-2
+    returns-3
     strata-holds
     mul-s
     array-read-s
@@ -392,11 +329,11 @@ read-spec =
     add-j
     strata-less
     strata-again
-    returns-3
+    returns-4
     enum-known-kind
     enter-requires
     slot-of-requires
-    mul-t62
+    mul-t65
     element-set-from-t
     add-t
     sub-rest
@@ -417,4 +354,4 @@ read-spec =
     statements-again-2
     enum-known-kind-3
     refused-requires-3
-    returns-4)
+    returns-5)

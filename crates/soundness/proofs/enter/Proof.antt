@@ -1,7 +1,7 @@
 -- `soundness::enter` meets its contract.
 -- Assumes nothing.
-use mathlib.Core.Path.{_≡_, sym, _∙_}
-use mathlib.Core.Bool.{true, false}
+use mathlib.Core.Path.{_≡_, refl, sym, _∙_}
+use mathlib.Core.Bool.{true}
 use Prim.Native.Nat.{_-_, _≤_}
 use lib.ListN.{getD}
 use borrow.Author.Tests.{not-true, not-false}
@@ -13,7 +13,7 @@ use Rattle.rows.specs.inner.Rows.{Entered}
 use Rattle.rows.proofs.Laws.{entered-start, entered-next}
 use Rattle.soundness.specs.inner.Right.{rule-right}
 use Rattle.soundness.proofs.WellFormed.{Counted, counted-start, counted-step, RightUpTo, right-start, right-more, right-fits, many-slots, no-values, many-values, many-rules, wrong-rule, all-right}
-use Rattle.soundness.proofs.Admitted.{admitted}
+use Rattle.soundness.proofs.Admitted.{admitted, not-entered}
 use native.Mathlib.Omega.{arith}
 use borrow.Author.Needs.{needs}
 use Rattle.soundness.proofs.enter.Statement.{statement}
@@ -46,7 +46,7 @@ cast-width : tie.Need-cast-width Inv-slots μ-slots Inv-rules μ-rules
 cast-width c = search needs
 
 returns : tie.Need-returns Inv-slots μ-slots Inv-rules μ-rules
-returns c = let s = c .before in (many-slots (s .args .t1) (shape s) (c .if1 .taken), λ e. absurd (from-true false e))
+returns c = let s = c .before in not-entered _ _ _ _ (many-slots (s .args .t1) (shape s) (c .if1 .taken))
 
 slots-holds : tie.Need-slots-holds Inv-slots μ-slots Inv-rules μ-rules
 slots-holds c = let s = c .before in (search needs, counted-start (s .args .t1) _ (s .pre .1))
@@ -64,13 +64,13 @@ returns-2 : tie.Need-returns-2 Inv-slots μ-slots Inv-rules μ-rules
 returns-2 c =
     let a = c .before .before .before in
     let s = c .before .before .before .before .before in
-    (no-values (s .args .t1) (shape s) (a .slots .k) (search needs) (omega (arith, c .if2 .taken, c .before .wide .ensures)), λ e. absurd (from-true false e))
+    not-entered _ _ _ _ (no-values (s .args .t1) (shape s) (a .slots .k) (search needs) (omega (arith, c .if2 .taken, c .before .wide .ensures)))
 
 returns-3 : tie.Need-returns-3 Inv-slots μ-slots Inv-rules μ-rules
 returns-3 c =
     let a = c .before .before .before .before in
     let s = c .before .before .before .before .before .before in
-    (many-values (s .args .t1) (shape s) (a .slots .k) (search needs) (omega (arith, c .if3 .taken, c .before .before .wide .ensures)), λ e. absurd (from-true false e))
+    not-entered _ _ _ _ (many-values (s .args .t1) (shape s) (a .slots .k) (search needs) (omega (arith, c .if3 .taken, c .before .before .wide .ensures)))
 
 mul-counts : tie.Need-mul-counts Inv-slots μ-slots Inv-rules μ-rules
 mul-counts c = search needs
@@ -95,7 +95,7 @@ cast-n : tie.Need-cast-n Inv-slots μ-slots Inv-rules μ-rules
 cast-n c = search needs
 
 returns-4 : tie.Need-returns-4 Inv-slots μ-slots Inv-rules μ-rules
-returns-4 c = let s = c .before .before .before .before in (many-rules (s .args .t1) (shape s) (c .if4 .taken), λ e. absurd (from-true false e))
+returns-4 c = let s = c .before .before .before .before in not-entered _ _ _ _ (many-rules (s .args .t1) (shape s) (c .if4 .taken))
 
 rules-holds : tie.Need-rules-holds Inv-slots μ-slots Inv-rules μ-rules
 rules-holds c = let s = c .before .before .before .before in (search needs, right-start _ _, entered-start _ _ (s .pre .0))
@@ -113,7 +113,7 @@ returns-5 : tie.Need-returns-5 Inv-slots μ-slots Inv-rules μ-rules
 returns-5 c =
     let g = c .before in
     let s = c .before .before .before .before .before .before .before .before .before .before in
-    (wrong-rule (s .args .t1) (shape s) (c .before .before .before .before .before .before .before .before .slots .counts) (full (c .before .before .before .before .before .before .before)) (c .before .before .before .before .before .rules .i) (search needs) (sym (g .is-right .ensures) ∙ not-true (g .is-right .result) (c .if5 .taken)), λ e. absurd (from-true false e))
+    not-entered _ _ _ _ (wrong-rule (s .args .t1) (shape s) (c .before .before .before .before .before .before .before .before .slots .counts) (full (c .before .before .before .before .before .before .before)) (c .before .before .before .before .before .rules .i) (search needs) (sym (g .is-right .ensures) ∙ not-true (g .is-right .result) (c .if5 .taken)))
 
 mul-enter-rule : tie.Need-mul-enter-rule Inv-slots μ-slots Inv-rules μ-rules
 mul-enter-rule c = search needs
@@ -144,7 +144,12 @@ returns-6 c =
     let s = c .before .before .before .before .before .before in
     let a = c .before in
     let e : a .rules .i ≡ s .args .t1 .count = omega arith in
-    (all-right (s .args .t1) (shape s) (c .before .before .before .before .slots .counts) (full (c .before .before .before)) (search needs) (search needs) (rw e at (a .rules .inv .1)), λ z. admitted (s .args .t1) (c .before .before .before .before .slots .counts) (a .rules .rows) (shape s) (search needs) (full (c .before .before .before)) (rw e at (a .rules .inv .2)))
+    record {
+      says = all-right (s .args .t1) (shape s) (c .before .before .before .before .slots .counts) (full (c .before .before .before)) (search needs) (search needs) (rw e at (a .rules .inv .1));
+      width-is = λ z. refl;
+      count-is = λ z. refl;
+      admitted = λ z. admitted (s .args .t1) (c .before .before .before .before .slots .counts) (a .rules .rows) (shape s) (search needs) (full (c .before .before .before)) (rw e at (a .rules .inv .2));
+    }
 
 pub enter-spec : {M : Type 1} → statement M
 enter-spec =

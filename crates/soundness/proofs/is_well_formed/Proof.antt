@@ -9,7 +9,7 @@ enter-requires : tie.Need-enter-requires
 enter-requires c κs = (zero-shaped, refl)
 
 returns : tie.Need-returns
-returns c = c .enter .ensures .0
+returns c = c .enter .ensures .says
 
 pub is-well-formed-spec : {M : Type 1} → statement M
 is-well-formed-spec = tie.close (tie.spec enter-requires returns)

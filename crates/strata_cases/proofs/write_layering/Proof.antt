@@ -14,7 +14,7 @@ returns : tie.Need-returns
 returns c = search needs
 
 layer-requires : tie.Need-layer-requires
-layer-requires c κs = let g = c .before .before in g .enter .ensures .1 (not-false (g .enter .result) (c .before .if1 .left)) .rows-fit
+layer-requires c κs = let g = c .before .before .before in g .enter .ensures .admitted (not-false (g .enter .result .passed) (c .before .if1 .left)) .rows-fit
 
 slice-aggregate-write-all : tie.Need-slice-aggregate-write-all
 slice-aggregate-write-all c = search needs

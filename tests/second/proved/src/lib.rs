@@ -3,7 +3,7 @@
 use std::fmt::Write;
 
 use second::engine::Engine;
-use second::raw::{self, given, Card, Change, RlName, Slip};
+use second::raw::{self, given, Card, Change, RlName, RlRead, RlResponse, Slip};
 use second::response::{fired_count, Outputs, Tally};
 use second::table::{program_in, Literal, Name, Pair, Program, Rule, Table, SLOTS};
 use second::{refusal, Refusal};
@@ -61,11 +61,36 @@ fn agrees_on_31(table: &Table, number: u8) -> bool {
     raw::is_sound(table) == (number != 31)
 }
 
+/// The refusal and the table of a reading; a refusal comes with the table without slots or rules.
+fn reading(read: RlRead) -> (Option<Refusal>, Box<Table>) {
+    let fits = read.number == 0 || read.table == *Table::empty();
+    (checked(fits, given(read.number, read.second, ())).err(), Box::new(read.table))
+}
+
+/// A tally in two bytes for each count.
+fn two_bytes(tally: Tally) -> raw::Tally {
+    let count = |n: u32| u16::try_from(n).expect("a tally of two bytes");
+    raw::Tally { answered: count(tally.answered), refused: count(tally.refused) }
+}
+
+impl Proved {
+    /// The tally and the result of a response; a refusal comes without a length or fired rules.
+    fn response(&mut self, table: &Table, response: RlResponse) -> (Tally, Result<usize, Refusal>) {
+        let fits = response.number == 0 || (response.length, response.fired) == (0, 0);
+        self.fired = response.fired;
+        self.record = if response.number == 0 { (table.count as usize + 7) / 8 } else { 0 };
+        let after = Tally { answered: response.tally.answered.into(), refused: response.tally.refused.into() };
+        (after, checked(fits, given(response.number, response.second, response.length)))
+    }
+}
+
 impl Engine for Proved {
     fn read(&mut self, text: &[u8]) -> (Option<Refusal>, Box<Table>) {
-        let read = raw::read(text);
-        let fits = read.number == 0 || read.table == *Table::empty();
-        (checked(fits, given(read.number, read.second, ())).err(), Box::new(read.table))
+        reading(raw::read(text))
+    }
+
+    fn read_unlayered(&mut self, text: &[u8]) -> (Option<Refusal>, Box<Table>) {
+        reading(raw::read_unlayered(text))
     }
 
     fn print(&mut self, text: &[u8], output: &mut [u8]) -> Result<usize, Refusal> {
@@ -128,15 +153,20 @@ impl Engine for Proved {
         slip: &[u8],
         outputs: Outputs,
     ) -> (Tally, Result<usize, Refusal>) {
-        let count = |n: u32| u16::try_from(n).expect("a tally of two bytes");
         let Outputs { card: renewed, changes, fired } = outputs;
-        let before = raw::Tally { answered: count(tally.answered), refused: count(tally.refused) };
-        let response = raw::respond(table, before, card, slip, renewed, changes, fired);
-        let fits = response.number == 0 || (response.length, response.fired) == (0, 0);
-        self.fired = response.fired;
-        self.record = if response.number == 0 { (table.count as usize + 7) / 8 } else { 0 };
-        let after = Tally { answered: response.tally.answered.into(), refused: response.tally.refused.into() };
-        (after, checked(fits, given(response.number, response.second, response.length)))
+        self.response(table, raw::respond(table, two_bytes(tally), card, slip, renewed, changes, fired))
+    }
+
+    fn respond_by_marks(
+        &mut self,
+        table: &Table,
+        tally: Tally,
+        card: &[u8],
+        slip: &[u8],
+        outputs: Outputs,
+    ) -> (Tally, Result<usize, Refusal>) {
+        let Outputs { card: renewed, changes, fired } = outputs;
+        self.response(table, raw::respond_by_marks(table, two_bytes(tally), card, slip, renewed, changes, fired))
     }
 
     /// What the last response said, and the one bits beyond its record.

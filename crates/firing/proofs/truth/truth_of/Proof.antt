@@ -1,23 +1,25 @@
 -- `firing::truth::truth_of` meets its contract.
 -- Assumes nothing.
-use mathlib.Core.Path.{_≡_, sym}
+use mathlib.Core.Bool.{false}
+use mathlib.Core.Path.{_≡_, refl, sym}
 use Prim.Native.Nat.{_-_, _≤_, _<_}
 use Rattle.laws.specs.Limits.{slot-limit, row}
 use Rattle.table.specs.inner.Flat.{pair-places}
-use Rattle.firing.proofs.Truths.{Copied, copied-start, copied-next, Begun, begun-start, begun-next, begun-end}
+use Rattle.firing.proofs.Filling.{Copied, copied-start, copied-next, Begun, begun-start}
+use Rattle.firing.proofs.Truths.{flag-at, had-at, came-at, slot-next, slots-end}
 use native.Mathlib.Omega.{arith}
 use borrow.Author.Needs.{needs}
 use Rattle.firing.proofs.truth.truth_of.Statement.{statement}
 use Rattle.firing.proofs.truth.truth_of.Tie as tie
 
 abbrev Inv-pairs : tie.InvT-pairs
-Inv-pairs card changes truth₀ p₀ truth p = (p ≤ pair-places) × Copied changes truth p
+Inv-pairs card changes truth₀ p₀ truth p = (p ≤ pair-places) × Copied false (flag-at changes) truth p
 
 abbrev μ-pairs : tie.MeasureT-pairs
 μ-pairs card changes truth₀ p₀ truth p = pair-places - p
 
 abbrev Inv-slots : tie.InvT-slots
-Inv-slots card changes truth₀ p s₀ truth s = (s ≤ slot-limit) × Begun card changes truth s
+Inv-slots card changes truth₀ p s₀ truth s = (s ≤ slot-limit) × Begun false (flag-at changes) (had-at card) (came-at card changes) truth s
 
 abbrev μ-slots : tie.MeasureT-slots
 μ-slots card changes truth₀ p s₀ truth s = slot-limit - s
@@ -28,7 +30,7 @@ value c =
     rw (c .wide .ensures) (a .before .before .before .pre (a .slots .s) (search needs))
 
 pairs-holds : tie.Need-pairs-holds Inv-pairs μ-pairs Inv-slots μ-slots
-pairs-holds c = (search needs, copied-start _)
+pairs-holds c = (search needs, copied-start false _)
 
 element-copy-out-truth : tie.Need-element-copy-out-truth Inv-pairs μ-pairs Inv-slots μ-slots
 element-copy-out-truth c = search needs
@@ -48,13 +50,13 @@ pairs-less c = search needs
 pairs-again : tie.Need-pairs-again Inv-pairs μ-pairs Inv-slots μ-slots
 pairs-again c =
     let a = c .before .before in
-    (search needs, copied-next (a .before .args .changes .now) (a .pairs .truth) (a .pairs .p) (search needs) (a .pairs .inv .1))
+    (search needs, copied-next false _ (a .pairs .truth) (a .pairs .p) _ (search needs) refl (a .pairs .inv .1))
 
 slots-holds : tie.Need-slots-holds Inv-pairs μ-pairs Inv-slots μ-slots
 slots-holds c =
     let a = c .before in
     let e : a .pairs .p ≡ pair-places = omega arith in
-    (search needs, begun-start _ (a .before .args .changes .now) (a .pairs .truth) (rw e at (a .pairs .inv .1)))
+    (search needs, begun-start false _ _ _ (a .pairs .truth) (rw e at (a .pairs .inv .1)))
 
 element-copy-out-wide : tie.Need-element-copy-out-wide Inv-pairs μ-pairs Inv-slots μ-slots
 element-copy-out-wide c = search needs
@@ -87,14 +89,14 @@ slots-again : tie.Need-slots-again Inv-pairs μ-pairs Inv-slots μ-slots
 slots-again c =
     let a = c .before .before .before in
     let s = a .before .before .before in
-    (search needs, begun-next (s .args .card .now) (s .args .changes .now) (a .slots .truth) (a .slots .s) (c .wide .result) (search needs) (sym (c .wide .ensures)) (value c) (a .slots .inv .1))
+    (search needs, slot-next (s .args .card .now) (s .args .changes .now) (a .slots .truth) (a .slots .s) (c .wide .result) (search needs) (sym (c .wide .ensures)) (value c) (a .slots .inv .1))
 
 returns : tie.Need-returns Inv-pairs μ-pairs Inv-slots μ-slots
 returns c =
     let a = c .before in
     let s = a .before .before .before in
     let e : a .slots .s ≡ slot-limit = omega arith in
-    begun-end (s .args .card .now) (s .args .changes .now) (a .slots .truth) (rw e at (a .slots .inv .1))
+    slots-end (s .args .card .now) (s .args .changes .now) (a .slots .truth) (rw e at (a .slots .inv .1))
 
 pub truth-of-spec : {M : Type 1} → statement M
 truth-of-spec =

@@ -1,16 +1,18 @@
-//! Demand 3 by experiment over generated small files, for the second engine and the proved one: `orders_check [SEEDS] [FIRST SEED]`.
+//! Demand 3 and section 3 of document 02 by experiment over generated small files, for the second engine and the proved one: `orders_check [SEEDS] [FIRST SEED]`.
 
 use proved::Proved;
 use second::engine::{Engine, Second};
-use second::firing_checks::{check_small, Counts};
+use second::firing_checks::{self, Counts};
+use second::mark_checks::{self, MarkCounts};
 
-/// Runs so many seeds on an engine; what fails is said.
-fn run(engine: &mut dyn Engine, seeds: u64, first: u64) -> Result<Counts, String> {
-    let mut counts = Counts::default();
+/// Runs so many seeds on an engine, by strata and by marks; what fails is said.
+fn run(engine: &mut dyn Engine, seeds: u64, first: u64) -> Result<(Counts, MarkCounts), String> {
+    let (mut counts, mut by_marks) = (Counts::default(), MarkCounts::default());
     for seed in first..first + seeds {
-        check_small(engine, seed, &mut counts)?;
+        firing_checks::check_small(engine, seed, &mut counts)?;
+        mark_checks::check_small(engine, seed, &mut by_marks)?;
     }
-    Ok(counts)
+    Ok((counts, by_marks))
 }
 
 /// Runs both engines.
@@ -21,7 +23,7 @@ fn main() {
     let engines: [(&str, &mut dyn Engine); 2] = [("second", &mut Second), ("proved", &mut Proved::default())];
     for (name, engine) in engines {
         match run(engine, seeds, first) {
-            Ok(counts) => println!("{name}: {counts:?}"),
+            Ok((counts, by_marks)) => println!("{name}: {counts:?}\n{name}: {by_marks:?}"),
             Err(why) => {
                 println!("{name}: {why}");
                 std::process::exit(1);

@@ -1,0 +1,14 @@
+pub mod AfterMoves
+pub mod Truths
+pub mod Known
+pub mod Updates
+pub mod Pairs
+pub mod Selections
+pub mod Closed
+pub mod Agree
+pub mod Sweeps
+pub mod Answered
+pub mod Correct
+pub mod CorrectExample
+pub mod Strict
+pub mod Loop

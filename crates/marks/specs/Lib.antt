@@ -1,0 +1,4 @@
+pub mod Truths
+pub mod Marks
+pub mod Selection
+pub mod inner

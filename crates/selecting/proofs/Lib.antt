@@ -1,0 +1,15 @@
+pub mod Known
+pub mod Slots
+pub mod Negative
+pub mod Tests
+pub mod Joining
+pub mod Chains
+pub mod Counts
+pub mod Live
+pub mod MarkLaws
+pub mod Given
+pub mod Assigning
+pub mod Dropping
+pub mod Standing
+pub mod Turns
+pub mod Sweeping

@@ -1,0 +1,169 @@
+-- The invariants of the loops of `selecting::select`, and what is known at the places that its proof speaks of: a sweep, a rule to look at, one that is not done.
+-- Assumes nothing.
+use mathlib.Core.Path.{_≡_, refl}
+use mathlib.Core.Bool.{false}
+use mathlib.Core.List.{List, []}
+use Prim.Native.Nat.{ℕ, suc, _+_, _-_, _*_, _≤_, _<_}
+use native.Mathlib.Omega.{arith}
+use lib.ListN.{length, getD, replicate}
+use Rattle.laws.specs.Limits.{rule-limit}
+use Rattle.model.specs.Rules.{Pair}
+use Rattle.model.specs.Orders.{rule-at}
+use Rattle.table.specs.Link.{rules-of, rule-of, assignments-of}
+use Rattle.table.specs.inner.Flat.{pair-places}
+use Rattle.rows.specs.inner.Rows.{rule-in, table-in, RowFits}
+use Rattle.firing.specs.inner.Waiting.{Woken}
+use Rattle.marks.specs.inner.Number.{number}
+use Rattle.marks.specs.Marks.{truth-rule, declared-pairs}
+use Rattle.marks.specs.inner.Declared.{Declared}
+use Rattle.selecting.specs.inner.Known.{Known, known, marks-of, Truths}
+use Rattle.selecting.specs.inner.Live.{Live}
+use Rattle.selecting.specs.inner.Waking.{Chained}
+use Rattle.selecting.specs.inner.Selected.{Counts, CardIs, SlipIs, OneValue}
+use Rattle.selecting.proofs.Turns.{Kept, turns-left, sweeps-left, turn-rule, turn-woken, turn-place, turn-seen, turn-over}
+use Rattle.selecting.proofs.Sweeping.{Held, Seen}
+use Rattle.selecting.proofs.Given.{Given, rule-at-row}
+use Rattle.selecting.proofs.Standing.{Standing}
+use Rattle.selecting.proofs.select.Tie as tie
+
+abbrev pub Inv-enter : tie.InvT-enter
+Inv-enter rows n width counts card positive fired live₀ heads₀ nexts₀ e₀ live heads nexts e =
+    (e ≤ n) × (length live ≡ pair-places) × Live rows (replicate rule-limit false) e live × Chained (e * 9) heads nexts
+
+abbrev pub μ-enter : tie.MeasureT-enter
+μ-enter rows n width counts card positive fired live₀ heads₀ nexts₀ e₀ live heads nexts e = n - e
+
+abbrev pub Inv-rules : tie.InvT-rules
+Inv-rules rows n width counts card positive₀ fired₀ live₀ heads nexts e negative₀ truth₀ dead₀ queued₀ woken₀ moved₀ k₀ left₀ positive fired live negative truth dead queued woken moved k left =
+    (k ≤ n) × Woken n left woken × Kept fired₀ dead₀ fired dead moved × Held rows n heads nexts live truth dead
+    × ((ks S : List ℕ) (I : List Pair) → Given rows n ks width counts I → Standing rows n ks S I (known positive₀ negative₀ truth₀) live₀ dead₀ fired₀ → Standing rows n ks S I (known positive negative truth) live dead fired)
+    × (moved ≡ false → Seen rows (known positive negative truth) fired dead k)
+
+abbrev pub μ-rules : tie.MeasureT-rules
+μ-rules rows n width counts card positive₀ fired₀ live₀ heads nexts e negative₀ truth₀ dead₀ queued₀ woken₀ moved₀ k₀ left₀ positive fired live negative truth dead queued woken moved k left =
+    turns-left fired dead n k left
+
+abbrev pub Inv-sweeps : tie.InvT-sweeps
+Inv-sweeps rows n width counts card positive₀ fired₀ live₀ heads nexts e negative₀ truth₀ dead₀ queued₀ woken₀ moved₀ positive fired live negative truth dead queued woken moved =
+    (length fired ≡ rule-limit) × (length dead ≡ rule-limit) × (length woken ≡ rule-limit) × Held rows n heads nexts live truth dead
+    × ((ks S : List ℕ) (I : List Pair) → Given rows n ks width counts I → CardIs S card → SlipIs I positive₀ → OneValue I → Standing rows n ks S I (known positive negative truth) live dead fired)
+    × (moved ≡ false → Seen rows (known positive negative truth) fired dead n)
+
+abbrev pub μ-sweeps : tie.MeasureT-sweeps
+μ-sweeps rows n width counts card positive₀ fired₀ live₀ heads nexts e negative₀ truth₀ dead₀ queued₀ woken₀ moved₀ positive fired live negative truth dead queued woken moved =
+    sweeps-left fired dead moved
+
+-- The places in the code that the proofs speak of: the start, the entering, a sweep, its rules, a rule to look at, one not fired, one not done, one judged, one True or False, a False one, a True one.
+abbrev pub Begins : Type 0
+Begins = tie.Start Inv-enter μ-enter Inv-rules μ-rules Inv-sweeps μ-sweeps
+
+abbrev pub Entering : Type 0
+Entering = tie.At-enter Inv-enter μ-enter Inv-rules μ-rules Inv-sweeps μ-sweeps
+
+abbrev pub Sweep : Type 0
+Sweep = tie.At-sweeps Inv-enter μ-enter Inv-rules μ-rules Inv-sweeps μ-sweeps
+
+abbrev pub Going : Type 0
+Going = tie.At-rules Inv-enter μ-enter Inv-rules μ-rules Inv-sweeps μ-sweeps
+
+abbrev pub Looking : Type 0
+Looking = tie.After-next-rule Inv-enter μ-enter Inv-rules μ-rules Inv-sweeps μ-sweeps
+
+abbrev pub Unfired : Type 0
+Unfired = tie.Else1 Inv-enter μ-enter Inv-rules μ-rules Inv-sweeps μ-sweeps
+
+abbrev pub Open : Type 0
+Open = tie.Else2 Inv-enter μ-enter Inv-rules μ-rules Inv-sweeps μ-sweeps
+
+abbrev pub Judged : Type 0
+Judged = tie.After-rule-truth Inv-enter μ-enter Inv-rules μ-rules Inv-sweeps μ-sweeps
+
+abbrev pub Decided : Type 0
+Decided = tie.Else3 Inv-enter μ-enter Inv-rules μ-rules Inv-sweeps μ-sweeps
+
+abbrev pub IsFalse : Type 0
+IsFalse = tie.Then4 Inv-enter μ-enter Inv-rules μ-rules Inv-sweeps μ-sweeps
+
+abbrev pub IsTrue : Type 0
+IsTrue = tie.Else4 Inv-enter μ-enter Inv-rules μ-rules Inv-sweeps μ-sweeps
+
+abbrev pub entering : Sweep → Entering
+entering p = p .before .before .before .before .before .before .before .before
+
+abbrev pub start : Sweep → Begins
+start p = entering p .before
+
+abbrev pub sweep : Going → Sweep
+sweep u = u .before .before
+
+abbrev pub going : Looking → Going
+going d = d .before .before .before
+
+abbrev pub looking : Open → Looking
+looking c = c .before .before .before
+
+abbrev pub opened : Judged → Open
+opened c = c .before .before .before
+
+-- The rule looked at, and its row.
+abbrev pub rule : Looking → ℕ
+rule d = d .next-rule .result .rule
+
+abbrev pub row-at : Looking → List ℕ
+row-at d = getD (start (sweep (going d)) .args .rows .now) (rule d) []
+
+-- What is known of the pairs.
+abbrev pub knows : Going → Known
+knows u = known (u .rules .positive) (u .rules .negative) (u .rules .truth)
+
+pub is-rule : (d : Looking) → rule d < start (sweep (going d)) .args .n
+is-rule d = let u = going d in turn-rule (u .rules .k) (u .rules .woken) (u .rules .left) (d .next-rule .result) (d .next-rule .ensures) (start (sweep u) .args .n) (d .before .before .rules-test .taken) (u .rules .inv .1)
+
+pub rule-inside : (d : Looking) → rule d < rule-limit
+rule-inside d = omega (arith, is-rule d, start (sweep (going d)) .pre .0 .few)
+
+pub row-fits : (d : Looking) → RowFits (row-at d)
+row-fits d = start (sweep (going d)) .pre .0 .each-fits (rule d) (is-rule d)
+
+-- What the promise of `select` gives for the files it is asked of.
+pub given : (s : Begins) (ks : List ℕ) (I : List Pair) → Counts ks (s .args .width) (s .args .counts .now) → Declared (declared-pairs ks) (rules-of (table-in (s .args .rows .now) (s .args .n))) I
+    → Given (s .args .rows .now) (s .args .n) ks (s .args .width) (s .args .counts .now) I
+given s ks I c D = record { rows-fit = s .pre .0; counted = c; narrow = s .pre .1; few-values = s .pre .2; all-declared = D }
+
+-- Those woken before stay, the place stays within the rules.
+pub still-woken : (d : Looking) → Woken (start (sweep (going d)) .args .n) (d .next-rule .result .left) (going d .rules .woken)
+still-woken d = let u = going d in turn-woken (u .rules .k) (u .rules .woken) (u .rules .left) (d .next-rule .result) (d .next-rule .ensures) (start (sweep u) .args .n) (u .rules .inv .1)
+
+pub place-inside : (d : Looking) → d .next-rule .result .place ≤ start (sweep (going d)) .args .n
+place-inside d = let u = going d in turn-place (u .rules .k) (u .rules .woken) (u .rules .left) (d .next-rule .result) (d .next-rule .ensures) (start (sweep u) .args .n) (d .before .before .rules-test .taken) (u .rules .inv .0)
+
+-- A rule passed over leaves less to look at,
+pub less : (d : Looking) → let u = going d in turns-left (u .rules .fired) (u .rules .dead) (start (sweep u) .args .n) (d .next-rule .result .place) (d .next-rule .result .left) < turns-left (u .rules .fired) (u .rules .dead) (start (sweep u) .args .n) (u .rules .k) (u .rules .left)
+less d = let u = going d in turn-over (u .rules .woken) (u .rules .fired) (u .rules .dead) (start (sweep u) .args .n) (u .rules .k) (u .rules .left) (d .next-rule .result) (d .next-rule .ensures) (d .before .before .rules-test .taken)
+
+-- and is done or Unknown.
+pub over : (d : Looking) → let u = going d in
+    (getD (u .rules .fired) (rule d) false ≡ false → getD (u .rules .dead) (rule d) false ≡ false → (S : List ℕ) → Truths S (knows u) → number (truth-rule S (marks-of (knows u)) (rule-of (rule-in (row-at d)))) ≡ 1)
+    → u .rules .moved ≡ false → Seen (start (sweep u) .args .rows .now) (knows u) (u .rules .fired) (u .rules .dead) (d .next-rule .result .place)
+unfolding Seen
+over d h m =
+    let u = going d in
+    turn-seen (u .rules .k) (u .rules .woken) (u .rules .left) (d .next-rule .result) (d .next-rule .ensures)
+    (λ i. getD (u .rules .fired) i false ≡ false → getD (u .rules .dead) i false ≡ false → (S : List ℕ) → Truths S (knows u) → number (truth-rule S (marks-of (knows u)) (rule-of (rule-in (getD (start (sweep u) .args .rows .now) i [])))) ≡ 1)
+    (u .rules .inv .5 m) h
+
+-- A rule that is not done has neither fired nor been found False.
+pub not-fired : (o : Open) → getD (going (looking o) .rules .fired) (rule (looking o)) false ≡ false
+not-fired o = o .before .if1 .left
+
+pub not-dead : (o : Open) → getD (going (looking o) .rules .dead) (rule (looking o)) false ≡ false
+not-dead o = o .if2 .left
+
+-- What a rule comes to.
+pub comes-to : (c : Judged) (S : List ℕ) → Truths S (knows (going (looking (opened c)))) →
+    let d = looking (opened c) in
+    c .rule-truth .result ≡ number (truth-rule S (marks-of (knows (going d))) (rule-at (rules-of (table-in (start (sweep (going d)) .args .rows .now) (start (sweep (going d)) .args .n))) (suc (rule d))))
+comes-to c S t =
+    let d = looking (opened c) in
+    let s = start (sweep (going d)) in
+    rw (rule-at-row (s .args .rows .now) (s .args .n) (rule d) (is-rule d)) (c .rule-truth .ensures S (knows (going d)) t refl)

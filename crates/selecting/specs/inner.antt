@@ -1,0 +1,4 @@
+pub mod Known
+pub mod Live
+pub mod Selected
+pub mod Waking

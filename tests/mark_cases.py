@@ -1,0 +1,214 @@
+#!/usr/bin/env python3
+"""The stored cases of the response by marks, and what the library should say of them, by a reckoning of its own made from section 3 of document 02 and section 6 of document 002.
+
+  tests/mark_cases.py          writes tests/stored/marks/input and expected
+  tests/mark_cases.py --check  says whether they are what it would write; exit status 1 where they are not
+
+A case is (counts, rules, card, slip): the values of each slot; rules as in strata_cases.py; a value for each slot, 0 for none; pairs.
+The text is read with test 18 and without. The lines of a case say what the first reading gives, and where it is accepted what the strata response gives;
+then what the response by marks gives. A truth is True, False or None for unknown; a pair is positive, negative, or in neither of two sets.
+"""
+import random
+import sys
+
+from card_cases import card_bytes, slip_bytes
+from stored import run
+from strata_cases import circle, dependences, rule, strata
+
+NAMES = 'xyzabcdefghijklmnopq'
+
+
+def holds(card, positive, literal):
+    """The truth of a literal where a change happens exactly if it is positive."""
+    becomes, negated, s, v = literal
+    return (card[s] == v if not becomes else card[s] != v and (s, v) in positive) != bool(negated)
+
+
+def truth(card, positive, negative, literal):
+    """The truth of a literal by section 6.1."""
+    becomes, negated, s, v = literal
+    if not becomes:
+        plain = card[s] == v
+    elif (s, v) in positive and card[s] != v:
+        plain = True
+    elif (s, v) in negative or card[s] == v:
+        plain = False
+    else:
+        return None
+    return plain != bool(negated)
+
+
+def tests(rule):
+    """The trigger as a literal, and the literals."""
+    (s, v), literals, assigned, stratum = rule
+    return [(1, 0, s, v)] + literals
+
+
+def answer(card, rules, changes, fired):
+    """The outputs of an answer in hexadecimal."""
+    new = [dict(changes).get(s, v) for s, v in enumerate(card)]
+    bits = ''.join('1' if n in fired else '0' for n in range(len(rules)))
+    bits += '0' * (-len(bits) % 8)
+    record = bytes(int(bits[i:i + 8], 2) for i in range(0, len(bits), 8))
+    outputs = ('fired', record), ('changes', slip_bytes(sorted(changes))), ('card', card_bytes(new))
+    return ''.join(' %s %s' % (word, data.hex().upper() or '-') for word, data in outputs)
+
+
+def by_strata(rules, card, slip, numbers):
+    """The strata response."""
+    changes, fired = set(slip), set()
+    while True:
+        open_rules = [n for n, r in enumerate(rules) if n not in fired and all(holds(card, changes, t) for t in tests(r))]
+        if not open_rules:
+            break
+        n = min(open_rules, key=lambda n: numbers[n])
+        fired.add(n)
+        changes |= set(rules[n][2])
+    double = [s for s, v in changes if len([w for t, w in changes if t == s]) > 1]
+    return ' refused 40 %d' % min(double) if double else answer(card, rules, changes, fired)
+
+
+def by_marks(counts, rules, card, slip):
+    """The response by marks: rules are fired and pairs are ruled out as long as one can be."""
+    pairs = {(s, v) for s, count in enumerate(counts) for v in range(1, count + 1)}
+    positive, fired = set(slip), set()
+    ruled_out = set()
+
+    def negative():
+        return ruled_out | {(s, v) for s, v in pairs for t, w in positive if s == t and v != w}
+
+    while not positive & negative():
+        truths = [[truth(card, positive, negative(), t) for t in tests(r)] for r in rules]
+        true = [n for n, found in enumerate(truths) if n not in fired and all(found)]
+        live = {pair for r, found in zip(rules, truths) if False not in found for pair in r[2]}
+        out = pairs - positive - negative() - live
+        if true:
+            fired.add(true[0])
+            positive |= set(rules[true[0]][2])
+        elif out:
+            ruled_out.add(min(out))
+        else:
+            break
+    if positive & negative():
+        return ' refused 41 0'
+    if pairs - positive - negative():
+        return ' refused 42 0'
+    return answer(card, rules, positive, fired)
+
+
+def text_of(counts, rules):
+    """A rule file."""
+    def literal(becomes, negated, s, v):
+        return '%s%s %s %d' % ('NOT ' * negated, NAMES[s], '*=' if becomes else '|=', v - 1)
+
+    text = ''.join('SLOT %s {%s};\n' % (NAMES[s], ','.join(str(v) for v in range(n))) for s, n in enumerate(counts))
+    for (s, v), literals, assigned, stratum in rules:
+        condition = ' AND '.join(literal(*l) for l in literals) or 'TRUE'
+        brought = ', '.join('%s := %d' % (NAMES[t], w - 1) for t, w in assigned)
+        text += 'WHEN %s *= %d IF %s THEN {%s};\n' % (NAMES[s], v - 1, condition, brought)
+    return text.encode()
+
+
+def written(case):
+    """The lines of a case."""
+    counts, rules, card, slip = case
+    edges = dependences(rules)
+    low = circle(edges)
+    if low is None:
+        numbers = strata(edges)
+        lines = ['read strata' + ''.join(' %d' % n for n in numbers), 'strata' + by_strata(rules, card, slip, numbers)]
+    else:
+        lines = ['read refused 18 %d' % low]
+    return ''.join(line + '\n' for line in lines + ['marks' + by_marks(counts, rules, card, slip)])
+
+
+X, Y, Z = (0, 2), (1, 2), (2, 2)
+ZEROS, EMPTY = [1, 1, 1], [0, 0, 0]
+
+
+def files(*entries):
+    """Cases over the three slots of document 01."""
+    return [([2, 2, 2], list(rules), card, slip) for rules, card, slip in entries]
+
+
+def documents():
+    """The cases of document 01 and the readings of section 3 of document 02."""
+    a = rule(X, Z, had=[(1, 1)])
+    b = rule(Z, Y, had=[(1, 1)])
+    c = rule(Z, X, had=[(1, 1)])
+    d = rule(Y, Z, under=[X])
+    e = rule(Y, X, had=[(0, 1)])
+    h = rule(X, (0, 1))
+    yield from files(([a], ZEROS, [X]), ([b], ZEROS, [X]), ([a, b], ZEROS, [X]), ([d, e], ZEROS, [Y]), ([a, b], EMPTY, [X]), ([a], ZEROS, [(0, 1)]), ([], ZEROS, [X]), ([], EMPTY, []))
+    # a NOT on another value of the slip's slot is true from the start
+    one, two = rule(X, (1, 1), under=[Z]), rule(X, Z, under=[(1, 1)])
+    yield from files(([one, two], EMPTY, [X, Y]), ([two, one], EMPTY, [X, Y]), ([one, two], EMPTY, [X]), ([one, two], EMPTY, [Y]), ([one, two], EMPTY, [X, (1, 1)]))
+    bar, barred = rule(X, Z, under=[(0, 1)]), rule(X, (0, 1), under=[Z])
+    yield from files(([bar, barred], ZEROS, [X]), ([bar, barred], EMPTY, [X]), ([barred, bar], EMPTY, [X]))
+    # case D: a plain circle with a cause and without
+    yield from files(([a, c], ZEROS, [Y]), ([a, c], ZEROS, [X]), ([c, a], ZEROS, [(2, 2)]), ([a, c], ZEROS, []), ([a, c, rule(Y, Z)], ZEROS, [Y]))
+    yield from files(([rule(X, X)], ZEROS, [Y]), ([rule(X, X)], ZEROS, [X]), ([rule(X, X)], [2, 1, 1], [Y]))
+    # case H: 41, also where a pair stays unknown
+    own = rule(X, Z, under=[Z])
+    yield from files(([h], ZEROS, [X]), ([h], ZEROS, [Y]), ([own], ZEROS, [X]), ([own, h], ZEROS, [X]), ([h, own], ZEROS, [X]), ([own, a, rule(Z, (2, 1))], ZEROS, [X]))
+    # a circle through NOT: unknown, decided by the slip, by the card, by another rule; three of them
+    p, q = rule(X, Z, under=[Y]), rule(X, Y, under=[Z])
+    yield from files(([p, q], ZEROS, [X]), ([p, q], ZEROS, [X, Y]), ([p, q], ZEROS, [X, (1, 1)]), ([p, q], [1, 2, 1], [X]), ([p, q], ZEROS, [Z]), ([p, q, rule(X, Y)], ZEROS, [X]), ([p, q, rule(X, (1, 1))], ZEROS, [X]))
+    yield from files(([own], ZEROS, [X, Z]), ([own], ZEROS, [X, (2, 1)]), ([own], [1, 1, 2], [X]), ([own, rule(X, Z)], ZEROS, [X]))
+    # a pair is ruled out only by all rules that assign it: one is false, the other unknown
+    yield from files(([rule(X, Z, had=[(1, 2)]), rule(Z, Z)], ZEROS, [X]), ([rule(X, Z, had=[(1, 2)]), rule(Z, Z, had=[(1, 2)])], ZEROS, [X]))
+    # a false trigger is enough, and a false literal beside an unknown one
+    yield from files(([rule(Y, Z), rule(Z, Y)], ZEROS, [X]), ([rule(Y, Z), rule(X, Y, under=[X])], ZEROS, [X]), ([rule(X, Z, plain=[Y], under=[X]), rule(Z, Y)], ZEROS, [X]))
+    # 42 where the strata response is in conflict
+    yield from files(([rule(Y, Y), rule(X, Z, under=[Y]), rule(X, (2, 1), under=[Y])], ZEROS, [X]))
+
+
+def chains():
+    """Chains of rules with one trigger over the two values of eleven slots: plain, so that pairs are ruled out one after another; under NOT, so that they are ruled out and brought in turn; both; in either order, from other starts, and with a gap."""
+    counts = [2] * 12
+    link = [(k // 2, k % 2 + 1) for k in range(22)]
+    start = (11, 1)
+    for under in ([], range(21), range(0, 21, 4), range(1, 21, 2)):
+        rules = [rule(start, link[k + 1], **{'under' if k in under else 'plain': [link[k]]}) for k in range(21)]
+        for order in (rules, rules[::-1]):
+            for slip in ([start], [link[0], start], [link[10], start], [link[11], start], [link[0]]):
+                yield (counts, order, [0] * 12, slip)
+            yield (counts, order[:9] + order[10:], [0] * 12, [start])
+
+
+def by_chance():
+    """Small files by chance."""
+    chance = random.Random(3)
+    for i in range(200):
+        counts = [chance.randint(1, 3) for s in range(chance.randint(2, 5))]
+        busy = [(s, chance.randint(1, n)) for s, n in enumerate(counts)] * 2 + [(s, v) for s, n in enumerate(counts) for v in range(1, n + 1)]
+        rules = []
+        for n in range(chance.randint(1, 6)):
+            literals = [(1 - chance.randrange(4) // 3, int(chance.randrange(3) > 0)) + chance.choice(busy) for j in range(chance.choice([0, 1, 1, 2]))]
+            assigned = dict(chance.choice(busy) for j in range(chance.choice([1, 1, 1, 2])))
+            rules.append((chance.choice(busy), literals, sorted(assigned.items()), 0))
+        card = [chance.choice([0, 0, chance.randint(0, n)]) for n in counts]
+        slip = dict(chance.choice([rules[chance.randrange(len(rules))][0], chance.choice(busy)]) for j in range(chance.randint(1, 3)))
+        yield (counts, rules, card, sorted(slip.items()))
+
+
+def cases():
+    for part in (documents, chains, by_chance):
+        yield from part()
+
+
+def stored():
+    """Each file with what it should hold."""
+    given, expected = b'', ''
+    for number, case in enumerate(cases(), 1):
+        counts, rules, card, slip = case
+        text = text_of(counts, rules)
+        given += len(text).to_bytes(2, 'big') + text
+        given += b''.join(bytes([len(data)]) + data for data in (card_bytes(card), slip_bytes(slip)))
+        expected += 'case %d\n%s' % (number, written(case))
+    yield 'tests/stored/marks/input', given
+    yield 'tests/stored/marks/expected', expected.encode()
+
+
+if __name__ == '__main__':
+    sys.exit(run(stored()))
