@@ -295,19 +295,29 @@ pub fn pack_slip(table: &Table, slip: Slip, out: &mut [u8]) -> RlPacked {
     unsafe { rl_pack_slip(*table, slip, out.as_mut_ptr(), out.len()) }
 }
 
-/// Responds to a packed card and a packed slip.
+/// A function of the library that responds: by strata, or by marks.
+type Responds = unsafe extern "C" fn(
+    Table,
+    Tally,
+    *const u8,
+    usize,
+    *const u8,
+    usize,
+    *mut u8,
+    usize,
+    *mut u8,
+    usize,
+    *mut u8,
+    usize,
+) -> RlResponse;
+
+/// The packed card and the packed slip as the first two slices, then the three outputs.
 #[inline]
-pub fn respond(
-    table: &Table,
-    tally: Tally,
-    card: &[u8],
-    slip: &[u8],
-    new_card: &mut [u8],
-    changes: &mut [u8],
-    fired: &mut [u8],
-) -> RlResponse {
+fn respond_with(responds: Responds, table: &Table, tally: Tally, given: [&[u8]; 2], outputs: [&mut [u8]; 3]) -> RlResponse {
+    let [card, slip] = given;
+    let [new_card, changes, fired] = outputs;
     unsafe {
-        rl_respond(
+        responds(
             *table,
             tally,
             card.as_ptr(),
@@ -324,6 +334,20 @@ pub fn respond(
     }
 }
 
+/// Responds to a packed card and a packed slip.
+#[inline]
+pub fn respond(
+    table: &Table,
+    tally: Tally,
+    card: &[u8],
+    slip: &[u8],
+    new_card: &mut [u8],
+    changes: &mut [u8],
+    fired: &mut [u8],
+) -> RlResponse {
+    respond_with(rl_respond, table, tally, [card, slip], [new_card, changes, fired])
+}
+
 /// Responds to a packed card and a packed slip by marks.
 #[inline]
 pub fn respond_by_marks(
@@ -335,20 +359,5 @@ pub fn respond_by_marks(
     changes: &mut [u8],
     fired: &mut [u8],
 ) -> RlResponse {
-    unsafe {
-        rl_respond_by_marks(
-            *table,
-            tally,
-            card.as_ptr(),
-            card.len(),
-            slip.as_ptr(),
-            slip.len(),
-            new_card.as_mut_ptr(),
-            new_card.len(),
-            changes.as_mut_ptr(),
-            changes.len(),
-            fired.as_mut_ptr(),
-            fired.len(),
-        )
-    }
+    respond_with(rl_respond_by_marks, table, tally, [card, slip], [new_card, changes, fired])
 }

@@ -107,12 +107,3 @@ module _ (f : File) (S : List ℕ) (I : List Pair) where
       go : (k : ℕ) (b : Answer) → unless-refused k b ≡ taken a → (k ≡ 0) × (b ≡ a)
       go zero b e = (refl, let x : b ≡ a = cc in x)
       go (suc k) b e = absurd (let z : _≡_ {A = ℕ} 0 1 = cc in omega arith)
-
-  -- A refusal: its number is that of the selection, and the second number is 0.
-  pub refused-by-marks : (k s : ℕ) → answer-by-marks (f .rules) (slot-counts (f .slots)) S I ≡ refused k s → (selection-refusal (file-pairs f) (f .rules) S I (our-selection f S I) ≡ k) × (s ≡ 0)
-  unfolding answer-by-marks unless-refused
-  refused-by-marks k s e = go (selection-refusal (file-pairs f) (f .rules) S I (our-selection f S I)) marks-answer e
-    where
-      go : (j : ℕ) (b : Answer) → unless-refused j b ≡ refused k s → (j ≡ k) × (s ≡ 0)
-      go zero b e = absurd (let z : _≡_ {A = ℕ} 0 1 = cc in omega arith)
-      go (suc j) b e = (let x : suc j ≡ k = cc in x, let y : s ≡ 0 = cc in y)

@@ -3,7 +3,6 @@
 use mathlib.Core.Path.{_≡_, refl, _∙_}
 use mathlib.Core.Bool.{Bool, true, false}
 use mathlib.Core.List.{List, map}
-use mathlib.Core.Logic.{⊎-elim}
 use Prim.Native.Nat.{ℕ, _+_, _≤_, _<_}
 use native.Mathlib.Omega.{arith}
 use lib.Dec.{T, leb, leb→le, le→leb}
@@ -11,8 +10,8 @@ use lib.ListN.{length, getD, take, set, length-take, length-map, length-set, Lis
 use lib.Seq.{getD-take, getD-set-same, getD-set-other}
 use Rattle.laws.specs.Truth.{_∧ᵇ_}
 use Rattle.laws.specs.Listed.{all-of}
-use Rattle.laws.proofs.Truth.{and-l, and-r, and-i, bool-ext, le-or-lt}
-use Rattle.laws.proofs.Equations.{is-true, from-true, either}
+use Rattle.laws.proofs.Truth.{and-l, and-r, and-i, bool-ext}
+use Rattle.laws.proofs.Equations.{is-true, from-true}
 use Rattle.laws.proofs.Listed.{all-i, all-e, all-append, all-same}
 use Rattle.model.specs.Rules.{Pair, each-once}
 use Rattle.table.specs.declared.Rule.{Rule}

@@ -3,13 +3,13 @@
 use mathlib.Core.Path.{_≡_, refl}
 use mathlib.Core.Bool.{false}
 use mathlib.Core.List.{List, []}
-use Prim.Native.Nat.{ℕ, suc, _+_, _-_, _*_, _≤_, _<_}
+use Prim.Native.Nat.{ℕ, suc, _-_, _*_, _≤_, _<_}
 use native.Mathlib.Omega.{arith}
 use lib.ListN.{length, getD, replicate}
 use Rattle.laws.specs.Limits.{rule-limit}
 use Rattle.model.specs.Rules.{Pair}
 use Rattle.model.specs.Orders.{rule-at}
-use Rattle.table.specs.Link.{rules-of, rule-of, assignments-of}
+use Rattle.table.specs.Link.{rules-of, rule-of}
 use Rattle.table.specs.inner.Flat.{pair-places}
 use Rattle.rows.specs.inner.Rows.{rule-in, table-in, RowFits}
 use Rattle.firing.specs.inner.Waiting.{Woken}
@@ -53,7 +53,7 @@ abbrev pub μ-sweeps : tie.MeasureT-sweeps
 μ-sweeps rows n width counts card positive₀ fired₀ live₀ heads nexts e negative₀ truth₀ dead₀ queued₀ woken₀ moved₀ positive fired live negative truth dead queued woken moved =
     sweeps-left fired dead moved
 
--- The places in the code that the proofs speak of: the start, the entering, a sweep, its rules, a rule to look at, one not fired, one not done, one judged, one True or False, a False one, a True one.
+-- The places in the code that the proofs speak of: the start, the entering, a sweep, its rules, a rule to look at, one not done, one judged.
 abbrev pub Begins : Type 0
 Begins = tie.Start Inv-enter μ-enter Inv-rules μ-rules Inv-sweeps μ-sweeps
 
@@ -69,23 +69,11 @@ Going = tie.At-rules Inv-enter μ-enter Inv-rules μ-rules Inv-sweeps μ-sweeps
 abbrev pub Looking : Type 0
 Looking = tie.After-next-rule Inv-enter μ-enter Inv-rules μ-rules Inv-sweeps μ-sweeps
 
-abbrev pub Unfired : Type 0
-Unfired = tie.Else1 Inv-enter μ-enter Inv-rules μ-rules Inv-sweeps μ-sweeps
-
 abbrev pub Open : Type 0
 Open = tie.Else2 Inv-enter μ-enter Inv-rules μ-rules Inv-sweeps μ-sweeps
 
 abbrev pub Judged : Type 0
 Judged = tie.After-rule-truth Inv-enter μ-enter Inv-rules μ-rules Inv-sweeps μ-sweeps
-
-abbrev pub Decided : Type 0
-Decided = tie.Else3 Inv-enter μ-enter Inv-rules μ-rules Inv-sweeps μ-sweeps
-
-abbrev pub IsFalse : Type 0
-IsFalse = tie.Then4 Inv-enter μ-enter Inv-rules μ-rules Inv-sweeps μ-sweeps
-
-abbrev pub IsTrue : Type 0
-IsTrue = tie.Else4 Inv-enter μ-enter Inv-rules μ-rules Inv-sweeps μ-sweeps
 
 abbrev pub entering : Sweep → Entering
 entering p = p .before .before .before .before .before .before .before .before

@@ -6,7 +6,6 @@ use Rattle.table.specs.Link.{literal-of}
 use Rattle.rows.specs.inner.Rows.{literal-in}
 use Rattle.selecting.specs.inner.Known.{marks-of, Three}
 use Rattle.selecting.proofs.Tests.{literal-not, literal-plain, test-at}
-use native.Mathlib.Omega.{arith}
 use borrow.Author.Needs.{needs}
 use Rattle.selecting.proofs.truth.literal_truth.Statement.{statement}
 use Rattle.selecting.proofs.truth.literal_truth.Tie as tie
