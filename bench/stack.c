@@ -19,6 +19,7 @@ static RlCard card;
 static RlSlip slip;
 static uint8_t card_bytes[RL_CARD_BYTES], slip_bytes[RL_SLIP_BYTES], out[RL_PRINT_BYTES], changes[RL_SLIP_BYTES], fired[RL_FIRED_BYTES];
 static size_t card_length, slip_length;
+static RlTally records[RL_EDITORS];
 
 static void put(const char *part) {
     size_t length = strlen(part);
@@ -59,14 +60,12 @@ static void unpack_slip(void) { slip = rl_unpack_slip(reading.table, slip_bytes,
 static void pack_card(void) { rl_pack_card(reading.table, card.card, out, sizeof out); }
 static void pack_slip(void) { rl_pack_slip(reading.table, slip.slip, out, sizeof out); }
 static void respond(void) {
-    RlTally tally = {0, 0};
-    rl_respond(reading.table, tally, card_bytes, card_length, slip_bytes, slip_length, out, sizeof out, changes, sizeof changes, fired,
-               sizeof fired);
+    rl_respond(reading.table, records, RL_EDITORS, 40, card_bytes, card_length, slip_bytes, slip_length, out, sizeof out, changes,
+               sizeof changes, fired, sizeof fired);
 }
 static void respond_by_marks(void) {
-    RlTally tally = {0, 0};
-    rl_respond_by_marks(reading.table, tally, card_bytes, card_length, slip_bytes, slip_length, out, sizeof out, changes, sizeof changes,
-                        fired, sizeof fired);
+    rl_respond_by_marks(reading.table, records, RL_EDITORS, 40, card_bytes, card_length, slip_bytes, slip_length, out, sizeof out, changes,
+                        sizeof changes, fired, sizeof fired);
 }
 
 static void *call(void *function) {

@@ -19,6 +19,9 @@
 #define RL_FIRED_BYTES 32
 #define RL_PRINT_BYTES 65535
 
+/* Editors, and so records in a table of them: a caller lends `RlTally records[RL_EDITORS]`, in which the record of editor n (from 1) is at n - 1. */
+#define RL_EDITORS 40
+
 /* Where a name stands in the rule text. */
 typedef struct {
     uint16_t start;
@@ -83,7 +86,7 @@ typedef struct {
     size_t count;
 } RlSlipForm;
 
-/* Slips answered and slips refused, 0 to 9,999 each. */
+/* An editor's record: slips answered and slips refused, 0 to 9,999 each. */
 typedef struct {
     uint16_t answered;
     uint16_t refused;
@@ -133,21 +136,22 @@ typedef struct {
     size_t length;
 } RlPacked;
 
-/* A response: the length of the changes, how many rules fired, both 0 after a refusal, and the tally after it. */
+/* A response: the length of the changes and how many rules fired, both 0 after a refusal. */
 typedef struct {
     uint8_t number;
     size_t second;
     size_t length;
     size_t fired;
-    RlTally tally;
 } RlResponse;
 
 /* The stack that a call takes on x86-64, in bytes, the table that the caller hands over on it counted:
    rl_read 115,752, rl_read_unlayered 82,200, rl_print 120,488, rl_is_sound 35,848, rl_slot_name 27,240, rl_value_name 27,320,
-   rl_unpack_card 36,024, rl_unpack_slip 36,120, rl_pack_card 35,944, rl_pack_slip 36,024, rl_respond 42,920, rl_respond_by_marks 42,920.
+   rl_unpack_card 36,024, rl_unpack_slip 36,120, rl_pack_card 35,944, rl_pack_slip 36,024, rl_respond 42,936, rl_respond_by_marks 42,936.
    bench/stack.c measures it. Nothing is allocated. */
 
-/* In each function a buffer is a pointer and its length; the pointer is not null, also where the length is 0, as many bytes can be read there, or read and written in an output, and an output overlaps no other buffer. A bool is 0 or 1. Nothing else is asked of any argument. */
+/* In each function a buffer is a pointer and its length; the pointer is not null, also where the length is 0, as many bytes can be read there, or read and written in an output, and an output overlaps no other buffer. The table of records is a pointer and the number of records; what is said of an output holds for it too, record for byte, and it lies where an array of RlTally may lie, at an even address (bytes of a file that are cast to records may not). A bool is 0 or 1. Nothing else is asked of any argument. */
+
+/* Threads: the functions keep nothing between calls and share nothing. A rule table goes by value; texts, cards and slips are only read, and threads may share them so long as none writes them. The outputs and the table of records are lent for the call alone: while it runs, no other thread may read or write any record of that table, not even another editor's. So take one lock for each table, or a table for each thread: what is promised of a call is promised for a table that nobody else touches meanwhile. */
 
 /* Reads a rule text into a table with the least strata, or refuses it with 10 to 18; 18 is for rules in a circle of tests by `*=` that passes through a NOT, with the lowest rule on such a circle. */
 RlRead rl_read(const uint8_t *text, size_t text_length);
@@ -158,7 +162,7 @@ RlRead rl_read_unlayered(const uint8_t *text, size_t text_length);
 /* Prints a rule text in the house style into the output, or refuses it with 10 to 18, 34 (the print would pass 65,535 bytes), 33 (the output is shorter than the print); bytes beyond the print, and all after a refusal, stay as they are. */
 RlPrinted rl_print(const uint8_t *text, size_t text_length, uint8_t *out, size_t out_length);
 
-/* Says whether a table is in order; with one that is not, the functions below that take it say 31, but for the names, and the responses 32 before it where the tally is full. `rl_respond_by_marks` takes one more: a table that would be in order but for its stratum 0 throughout. */
+/* Says whether a table is in order; with one that is not, the functions below that take it say 31, but for the names, and the responses 44 or 32 before it where the editor has no record or a full one. `rl_respond_by_marks` takes one more: a table that would be in order but for its stratum 0 throughout. */
 bool rl_is_sound(RlTable table);
 
 /* Says where a slot's name stands in the text, or 31. */
@@ -179,20 +183,22 @@ RlPacked rl_pack_card(RlTable table, RlCardForm card, uint8_t *out, size_t out_l
 /* Packs a slip into the output, or refuses it with 31, 24 to 27, 30; other bytes stay as they are. */
 RlPacked rl_pack_slip(RlTable table, RlSlipForm slip, uint8_t *out, size_t out_length);
 
-/* Responds to a packed card and a packed slip by strata: writes the new card (as long as the card), the changes as a packed slip (`length` bytes; the output has 37 at least) and the fired record (a bit for each rule, rule 1 first), or refuses with 32, 31, 20 to 28, 30, 40; other bytes stay as they are. */
-RlResponse rl_respond(RlTable table, RlTally tally, const uint8_t *card, size_t card_length, const uint8_t *slip,
-                      size_t slip_length, uint8_t *new_card, size_t new_card_length, uint8_t *changes,
-                      size_t changes_length, uint8_t *fired, size_t fired_length);
+/* Responds to an editor's packed card and packed slip by strata: writes the new card (as long as the card), the changes as a packed slip (`length` bytes; the output has 37 at least) and the fired record (a bit for each rule, rule 1 first), or refuses with 44 (the editor number is not from 1 to 40, or there are not forty records), 32 (the editor's own record is full; no other is looked at), 31, 20 to 28, 30, 40; other bytes stay as they are. An answer adds one to slips answered in the editor's record, a refusal but 44 and 32 one to slips refused; no other record changes, and 44 and 32 change none. */
+RlResponse rl_respond(RlTable table, RlTally *records, size_t records_length, size_t editor, const uint8_t *card,
+                      size_t card_length, const uint8_t *slip, size_t slip_length, uint8_t *new_card,
+                      size_t new_card_length, uint8_t *changes, size_t changes_length, uint8_t *fired,
+                      size_t fired_length);
 
-/* Responds by marks: takes a table of `rl_read` or of `rl_read_unlayered`, and writes, gives and counts what `rl_respond` does, or refuses with 32, 31, 20 to 28, 30, 41 (a value of a slot would be both positive and negative), 42 (one stays unknown), the last two with second number 0; other bytes stay as they are. Where `rl_respond` answers too, by the text's table with strata, the answers are equal. */
-RlResponse rl_respond_by_marks(RlTable table, RlTally tally, const uint8_t *card, size_t card_length,
-                               const uint8_t *slip, size_t slip_length, uint8_t *new_card, size_t new_card_length,
-                               uint8_t *changes, size_t changes_length, uint8_t *fired, size_t fired_length);
+/* Responds by marks: takes a table of `rl_read` or of `rl_read_unlayered`, and writes, gives and counts what `rl_respond` does, or refuses with 44, 32, 31, 20 to 28, 30, 41 (a value of a slot would be both positive and negative), 42 (one stays unknown), the last two with second number 0; other bytes stay as they are. Where `rl_respond` answers too, by the text's table with strata, the answers are equal. */
+RlResponse rl_respond_by_marks(RlTable table, RlTally *records, size_t records_length, size_t editor,
+                               const uint8_t *card, size_t card_length, const uint8_t *slip, size_t slip_length,
+                               uint8_t *new_card, size_t new_card_length, uint8_t *changes, size_t changes_length,
+                               uint8_t *fired, size_t fired_length);
 
 _Static_assert(sizeof(RlSlot) == 66 && sizeof(RlLiteral) == 4 && sizeof(RlAssignment) == 2, "layout");
 _Static_assert(sizeof(RlRule) == 45 && sizeof(RlTable) == 13592 && sizeof(RlRead) == 13608, "layout");
 _Static_assert(sizeof(RlCardForm) == 40 && sizeof(RlSlipForm) == 72 && sizeof(RlTally) == 4, "layout");
 _Static_assert(sizeof(RlName) == 24 && sizeof(RlCard) == 56 && sizeof(RlSlip) == 88, "layout");
-_Static_assert(sizeof(RlPrinted) == 24 && sizeof(RlPacked) == 24 && sizeof(RlResponse) == 40, "layout");
+_Static_assert(sizeof(RlPrinted) == 24 && sizeof(RlPacked) == 24 && sizeof(RlResponse) == 32, "layout");
 
 #endif

@@ -13,28 +13,30 @@ import print_cases
 
 TOP = os.path.dirname(os.path.dirname(os.path.abspath(__file__)))
 SLOTS = b'SLOT dating {before-1900, from-1900};\nSLOT status {current, obsolete};\n'
-CARD, SLIP = bytes.fromhex('08 04'), bytes.fromhex('04 02')
+CARD, SLIP, EDITOR = bytes.fromhex('08 04'), bytes.fromhex('04 02'), bytes.fromhex('07')
 PROGRAM = [os.path.join(TOP, 'target/bin/rl')]
 BY_MARKS = [os.path.join(TOP, 'target/examples/desk-c'), '.', 'marks']
 
 
 def examples(guide):
-    """The number of each row with an example in code, and the three files that it makes."""
+    """The number of each row with an example in code, and the four files that it makes."""
     for row in re.findall(r'^\| (\d\d) \|(.*)\|$', guide, re.M):
         cells = [cell.strip().replace('\\|', '|') for cell in re.split(r'(?<!\\)\|', row[1])]
-        found = re.fullmatch(r'(card |slip |)`(.*)`', cells[1])
+        found = re.fullmatch(r'(card |slip |editor |)`(.*)`', cells[1])
         if found and found[1] == 'card ':
-            yield row[0], (SLOTS, bytes.fromhex(found[2]), SLIP)
+            yield row[0], (SLOTS, bytes.fromhex(found[2]), SLIP, EDITOR)
         elif found and found[1] == 'slip ':
-            yield row[0], (SLOTS, CARD, bytes.fromhex(found[2]))
+            yield row[0], (SLOTS, CARD, bytes.fromhex(found[2]), EDITOR)
+        elif found and found[1] == 'editor ':
+            yield row[0], (SLOTS, CARD, SLIP, bytes.fromhex(found[2]))
         elif found:
-            yield row[0], (SLOTS + found[2].encode(), CARD, SLIP)
+            yield row[0], (SLOTS + found[2].encode(), CARD, SLIP, EDITOR)
 
 
 def printed(files, program=PROGRAM):
-    """What a program prints for three files; the desk ends with status 1 where something is refused."""
+    """What a program prints for four files; the desk ends with status 1 where something is refused."""
     with tempfile.TemporaryDirectory() as folder:
-        for name, content in zip(('rules.txt', 'card.bin', 'slip.bin'), files):
+        for name, content in zip(('rules.txt', 'card.bin', 'slip.bin', 'editor.bin'), files):
             with open(os.path.join(folder, name), 'wb') as file:
                 file.write(content)
         return subprocess.run(program, cwd=folder, capture_output=True, check=program == PROGRAM).stdout.decode()
@@ -51,22 +53,23 @@ def waking(guide):
     slots = plain[:plain.index(b'WHEN')]
     card = bytes.fromhex('0C 00 00')
     for slip, state in (('04 02', 'fired'), ('04 22', 'fired'), ('04 44', 'idle')):
-        yield (plain, card, bytes.fromhex(slip)), f'rule 1 stratum 1 {state}\nrule 2 stratum 1 {state}\n'
-    yield (slots + under_not, card, bytes.fromhex('04 02')), 'refused 18 1\n'
+        yield (plain, card, bytes.fromhex(slip), EDITOR), f'rule 1 stratum 1 {state}\nrule 2 stratum 1 {state}\n'
+    yield (slots + under_not, card, bytes.fromhex('04 02'), EDITOR), 'refused 18 1\n'
 
 
 def by_marks(guide):
     """By marks: the files that the guide tells of, and how the desk's listing ends."""
     rules = '\n'.join(section(guide, 'Files that 18 refuses')[0]).encode()
+    answered = f'rules fired 2\ntally {EDITOR[0]} 1 0\n'
     for card, slip, changes, fired in (
             ('10 4C 4C', '08 06 22', ('status obsolete', 'place appendix', 'page proof'), (2, 4)),
             ('10 4C 4C', '08 06 12', ('status obsolete', 'label dated', 'page proof'), (1, 3)),
             ('10 4C 4C', '08 06 13', ('status obsolete', 'label local', 'place appendix', 'page proof'), (2, 4)),
             ('10 4C 8C', '04 06', ('status obsolete', 'label dated', 'page proof'), (1, 3))):
         lines = ''.join(f'change {change}\n' for change in changes) + ''.join(f'fired {rule}\n' for rule in fired)
-        yield (rules, bytes.fromhex(card), bytes.fromhex(slip)), f'{lines}rules fired 2\ntally 1 0\n'
-    yield (rules, bytes.fromhex('10 4C 4C'), bytes.fromhex('04 06')), '\nrefused 42 0\n'
-    for (files, begins), ends in zip(waking(guide), ('\nrules fired 2\ntally 1 0\n', '\nrules fired 2\ntally 1 0\n', '\nrefused 42 0\n')):
+        yield (rules, bytes.fromhex(card), bytes.fromhex(slip), EDITOR), lines + answered
+    yield (rules, bytes.fromhex('10 4C 4C'), bytes.fromhex('04 06'), EDITOR), '\nrefused 42 0\n'
+    for (files, begins), ends in zip(waking(guide), ('\n' + answered, '\n' + answered, '\nrefused 42 0\n')):
         yield files, ends
 
 
@@ -88,11 +91,11 @@ def main():
         if not re.search(rf'^refused {number} \d+\n\Z', shown, re.M):
             print(f'the example of {number} comes to {shown!r}')
             wrong = 1
-    if numbers != [*range(11, 19), *range(20, 29), 40, 41, 42]:
+    if numbers != [*range(11, 19), *range(20, 29), 44, 40, 41, 42]:
         print(f'examples stand for {numbers}')
         wrong = 1
     rows = [int(number) for number in re.findall(r'^\| (\d\d) \|', guide, re.M)]
-    if rows != [*range(10, 19), 34, *range(20, 29), *range(40, 43), *range(30, 34)]:
+    if rows != [*range(10, 19), 34, *range(20, 29), 44, 32, *range(40, 43), 30, 31, 33]:
         print(f'rows stand for {rows}')
         wrong = 1
     for files, begins in waking(guide):
@@ -107,7 +110,7 @@ def main():
     if b''.join(print_cases.printed(before, print_cases.PRINT_BYTES)) != after:
         print('the file in the house style is not the print of the one before it')
         wrong = 1
-    if not printed((SLOTS, CARD, SLIP)).startswith('change dating before-1900\n'):
+    if not printed((SLOTS, CARD, SLIP, EDITOR)).startswith('change dating before-1900\n'):
         print('the card and the slip of the guide get no answer')
         wrong = 1
     for name, lines in indented.items():

@@ -5,8 +5,9 @@
   tests/mark_cases.py --check  says whether they are what it would write; exit status 1 where they are not
 
 A case is (counts, rules, card, slip): the values of each slot; rules as in strata_cases.py; a value for each slot, 0 for none; pairs.
+The cases are sent by one editor after another, each on forty fresh records, and some of them once more by numbers that are no editor's.
 The text is read with test 18 and without. The lines of a case say what the first reading gives, and where it is accepted what the strata response gives;
-then what the response by marks gives. A truth is True, False or None for unknown; a pair is positive, negative, or in neither of two sets.
+then what the response by marks gives; of each response also the records that are not fresh after it. A truth is True, False or None for unknown; a pair is positive, negative, or in neither of two sets.
 """
 import random
 import sys
@@ -109,17 +110,24 @@ def text_of(counts, rules):
     return text.encode()
 
 
-def written(case):
+def counted(editor, response):
+    """What a response gives on fresh records, and the record of its editor after it; 44 where the number is no editor's."""
+    if not 1 <= editor <= 40:
+        return ' refused 44 0'
+    return response + ' tally %d %s' % (editor, '0 1' if response.startswith(' refused') else '1 0')
+
+
+def written(case, editor):
     """The lines of a case."""
     counts, rules, card, slip = case
     edges = dependences(rules)
     low = circle(edges)
     if low is None:
         numbers = strata(edges)
-        lines = ['read strata' + ''.join(' %d' % n for n in numbers), 'strata' + by_strata(rules, card, slip, numbers)]
+        lines = ['read strata' + ''.join(' %d' % n for n in numbers), 'strata' + counted(editor, by_strata(rules, card, slip, numbers))]
     else:
         lines = ['read refused 18 %d' % low]
-    return ''.join(line + '\n' for line in lines + ['marks' + by_marks(counts, rules, card, slip)])
+    return ''.join(line + '\n' for line in lines + ['marks' + counted(editor, by_marks(counts, rules, card, slip))])
 
 
 X, Y, Z = (0, 2), (1, 2), (2, 2)
@@ -197,15 +205,24 @@ def cases():
         yield from part()
 
 
+def sent():
+    """Each case with the number that sends it."""
+    every = list(cases())
+    for number, case in enumerate(every):
+        yield case, number * 7 % 40 + 1
+    for number, case in enumerate(every[::12]):
+        yield case, (0, 41, 49, 255)[number % 4]
+
+
 def stored():
     """Each file with what it should hold."""
     given, expected = b'', ''
-    for number, case in enumerate(cases(), 1):
+    for number, (case, editor) in enumerate(sent(), 1):
         counts, rules, card, slip = case
         text = text_of(counts, rules)
-        given += len(text).to_bytes(2, 'big') + text
+        given += len(text).to_bytes(2, 'big') + text + bytes([editor])
         given += b''.join(bytes([len(data)]) + data for data in (card_bytes(card), slip_bytes(slip)))
-        expected += 'case %d\n%s' % (number, written(case))
+        expected += 'case %d\n%s' % (number, written(case, editor))
     yield 'tests/stored/marks/input', given
     yield 'tests/stored/marks/expected', expected.encode()
 

@@ -1,4 +1,4 @@
-/* A desk in C: reads rules.txt, card.bin and slip.bin in a folder, asks for the response and prints what changes, by name. With the word `marks` after the folder it reads without test 18 and asks for the response by marks. */
+/* A desk in C: reads rules.txt, card.bin, slip.bin and editor.bin in a folder, asks for the response and prints what changes, by name. With the word `marks` after the folder it reads without test 18 and asks for the response by marks. */
 #include "folder.h"
 #include "rl.h"
 
@@ -20,12 +20,14 @@ static void print_pair(const char *what, const uint8_t *text, size_t length, con
 }
 
 int main(int count, char **words) {
-    static uint8_t text[ROOM], card[ROOM], slip[ROOM];
+    static uint8_t text[ROOM], card[ROOM], slip[ROOM], number[ROOM];
     const char *folder = named(count, words);
     bool by_marks = count > 2 && strcmp(words[2], "marks") == 0;
     size_t text_length = load(folder, "rules.txt", text);
     size_t card_length = load(folder, "card.bin", card);
     size_t slip_length = load(folder, "slip.bin", slip);
+    /* The editor's number is the one byte of its file; a file of another length has none, and 0 is no editor's. */
+    size_t editor = load(folder, "editor.bin", number) == 1 ? number[0] : 0;
 
     static RlRead rules;
     rules = by_marks ? rl_read_unlayered(text, text_length) : rl_read(text, text_length);
@@ -43,12 +45,11 @@ int main(int count, char **words) {
         print_pair("has", text, text_length, table, i, before.card.values[i]);
     }
 
-    RlTally tally = {0, 0};
+    RlTally records[RL_EDITORS] = {0};
     uint8_t new_card[RL_CARD_BYTES], changes[RL_SLIP_BYTES], fired[RL_FIRED_BYTES];
     RlResponse response = (by_marks ? rl_respond_by_marks : rl_respond)(
-        *table, tally, card, card_length, slip, slip_length, new_card, sizeof new_card, changes, sizeof changes, fired,
-        sizeof fired);
-    tally = response.tally;
+        *table, records, RL_EDITORS, editor, card, card_length, slip, slip_length, new_card, sizeof new_card, changes,
+        sizeof changes, fired, sizeof fired);
     stop_at(response.number, response.second);
 
     RlSlip changed = rl_unpack_slip(slots, changes, response.length);
@@ -62,6 +63,7 @@ int main(int count, char **words) {
         }
     }
     printf("rules fired %zu\n", response.fired);
-    printf("tally %" PRIu16 " %" PRIu16 "\n", tally.answered, tally.refused);
+    RlTally own = records[editor - 1];
+    printf("tally %zu %" PRIu16 " %" PRIu16 "\n", editor, own.answered, own.refused);
     return 0;
 }

@@ -1,4 +1,4 @@
-//! A desk in Rust: reads rules.txt, card.bin and slip.bin in a folder, asks for the response and prints what changes, by name. With the word `marks` after the folder it reads without test 18 and asks for the response by marks.
+//! A desk in Rust: reads rules.txt, card.bin, slip.bin and editor.bin in a folder, asks for the response and prints what changes, by name. With the word `marks` after the folder it reads without test 18 and asks for the response by marks.
 
 mod folder;
 mod rl;
@@ -17,7 +17,7 @@ fn print_pair(what: &str, text: &[u8], table: &rl::Table, slot: usize, value: us
 }
 
 /// Reads the rules, shows the card, asks for the response and shows it.
-fn run(by_marks: bool, text: &[u8], card: &[u8], slip: &[u8]) -> Result<(), Refusal> {
+fn run(by_marks: bool, text: &[u8], card: &[u8], slip: &[u8], editor: usize) -> Result<(), Refusal> {
     let table = if by_marks { rl::read_unlayered(text)? } else { rl::read(text)? };
     let respond = if by_marks { rl::respond_by_marks } else { rl::respond };
     // The same slots without rules, by which cards and slips unpack whatever the strata are.
@@ -29,9 +29,8 @@ fn run(by_marks: bool, text: &[u8], card: &[u8], slip: &[u8]) -> Result<(), Refu
     }
 
     let (mut new_card, mut changes, mut fired) = ([0; rl::CARD_BYTES], [0; rl::SLIP_BYTES], [0; rl::FIRED_BYTES]);
-    let tally = rl::Tally { answered: 0, refused: 0 };
-    let (tally, answer) = respond(&table, tally, card, slip, &mut new_card, &mut changes, &mut fired);
-    let answer = answer?;
+    let mut records = [rl::Tally::default(); rl::EDITORS];
+    let answer = respond(&table, &mut records, editor, card, slip, &mut new_card, &mut changes, &mut fired)?;
 
     let changed = rl::unpack_slip(&slots, &changes[..answer.length])?;
     for change in &changed.changes[..changed.count] {
@@ -41,13 +40,17 @@ fn run(by_marks: bool, text: &[u8], card: &[u8], slip: &[u8]) -> Result<(), Refu
         println!("fired {}", rule + 1);
     }
     println!("rules fired {}", answer.fired);
-    println!("tally {} {}", tally.answered, tally.refused);
+    let own = records[editor - 1];
+    println!("tally {editor} {} {}", own.answered, own.refused);
     Ok(())
 }
 
 fn main() {
     let folder = folder::named();
     let by_marks = std::env::args().nth(2).as_deref() == Some("marks");
-    let [text, card, slip] = ["rules.txt", "card.bin", "slip.bin"].map(|name| folder::load(&folder, name));
-    folder::given(run(by_marks, &text, &card, &slip));
+    let [text, card, slip, editor] =
+        ["rules.txt", "card.bin", "slip.bin", "editor.bin"].map(|name| folder::load(&folder, name));
+    // The editor's number is the one byte of its file; a file of another length has none, and 0 is no editor's.
+    let editor = if let [number] = editor[..] { number.into() } else { 0 };
+    folder::given(run(by_marks, &text, &card, &slip, editor));
 }

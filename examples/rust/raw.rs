@@ -13,6 +13,9 @@ pub const SLIP_BYTES: usize = 37;
 pub const FIRED_BYTES: usize = 32;
 pub const PRINT_BYTES: usize = 65_535;
 
+/// Editors, and so records in a table of them.
+pub const EDITORS: usize = 40;
+
 /// Where a name stands in the rule text.
 #[repr(C)]
 #[derive(Clone, Copy, PartialEq, Eq, Debug, Default)]
@@ -110,7 +113,7 @@ pub struct Slip {
     pub count: usize,
 }
 
-/// Slips answered and slips refused.
+/// An editor's record: slips answered and slips refused.
 #[repr(C)]
 #[derive(Clone, Copy, PartialEq, Eq, Debug, Default)]
 pub struct Tally {
@@ -189,7 +192,6 @@ pub struct RlResponse {
     pub second: usize,
     pub length: usize,
     pub fired: usize,
-    pub tally: Tally,
 }
 
 extern "C" {
@@ -205,7 +207,9 @@ extern "C" {
     fn rl_pack_slip(table: Table, slip: Slip, out: *mut u8, length: usize) -> RlPacked;
     fn rl_respond(
         table: Table,
-        tally: Tally,
+        records: *mut Tally,
+        records_length: usize,
+        editor: usize,
         card: *const u8,
         card_length: usize,
         slip: *const u8,
@@ -219,7 +223,9 @@ extern "C" {
     ) -> RlResponse;
     fn rl_respond_by_marks(
         table: Table,
-        tally: Tally,
+        records: *mut Tally,
+        records_length: usize,
+        editor: usize,
         card: *const u8,
         card_length: usize,
         slip: *const u8,
@@ -298,7 +304,9 @@ pub fn pack_slip(table: &Table, slip: Slip, out: &mut [u8]) -> RlPacked {
 /// A function of the library that responds: by strata, or by marks.
 type Responds = unsafe extern "C" fn(
     Table,
-    Tally,
+    *mut Tally,
+    usize,
+    usize,
     *const u8,
     usize,
     *const u8,
@@ -313,13 +321,22 @@ type Responds = unsafe extern "C" fn(
 
 /// The packed card and the packed slip as the first two slices, then the three outputs.
 #[inline]
-fn respond_with(responds: Responds, table: &Table, tally: Tally, given: [&[u8]; 2], outputs: [&mut [u8]; 3]) -> RlResponse {
+fn respond_with(
+    responds: Responds,
+    table: &Table,
+    records: &mut [Tally],
+    editor: usize,
+    given: [&[u8]; 2],
+    outputs: [&mut [u8]; 3],
+) -> RlResponse {
     let [card, slip] = given;
     let [new_card, changes, fired] = outputs;
     unsafe {
         responds(
             *table,
-            tally,
+            records.as_mut_ptr(),
+            records.len(),
+            editor,
             card.as_ptr(),
             card.len(),
             slip.as_ptr(),
@@ -334,30 +351,32 @@ fn respond_with(responds: Responds, table: &Table, tally: Tally, given: [&[u8]; 
     }
 }
 
-/// Responds to a packed card and a packed slip.
+/// Responds to an editor's packed card and packed slip.
 #[inline]
 pub fn respond(
     table: &Table,
-    tally: Tally,
+    records: &mut [Tally],
+    editor: usize,
     card: &[u8],
     slip: &[u8],
     new_card: &mut [u8],
     changes: &mut [u8],
     fired: &mut [u8],
 ) -> RlResponse {
-    respond_with(rl_respond, table, tally, [card, slip], [new_card, changes, fired])
+    respond_with(rl_respond, table, records, editor, [card, slip], [new_card, changes, fired])
 }
 
-/// Responds to a packed card and a packed slip by marks.
+/// Responds to an editor's packed card and packed slip by marks.
 #[inline]
 pub fn respond_by_marks(
     table: &Table,
-    tally: Tally,
+    records: &mut [Tally],
+    editor: usize,
     card: &[u8],
     slip: &[u8],
     new_card: &mut [u8],
     changes: &mut [u8],
     fired: &mut [u8],
 ) -> RlResponse {
-    respond_with(rl_respond_by_marks, table, tally, [card, slip], [new_card, changes, fired])
+    respond_with(rl_respond_by_marks, table, records, editor, [card, slip], [new_card, changes, fired])
 }

@@ -1,11 +1,11 @@
-//! The functions of the static library for programs in Rust; include/rl.h says of each what it does. A program copies this file and raw.rs.
+//! The functions of the static library for programs in Rust; include/rl.h says of each what it does. A table of records is lent for a call by `&mut`, so no other thread can touch it meanwhile. A program copies this file and raw.rs.
 #![allow(dead_code, unused_imports)]
 
 #[path = "raw.rs"]
 mod raw;
 
 pub use raw::{is_sound, Assignment, Card, Change, Literal, Name, Refusal, Rule, Slip, Slot, Table, Tally};
-pub use raw::{CARD_BYTES, FIRED_BYTES, PRINT_BYTES, SLIP_BYTES};
+pub use raw::{CARD_BYTES, EDITORS, FIRED_BYTES, PRINT_BYTES, SLIP_BYTES};
 
 use raw::{given, RlName, RlRead, RlResponse};
 
@@ -29,10 +29,10 @@ fn table_of(read: RlRead) -> Result<Box<Table>, Refusal> {
     given(read.number, read.second, Box::new(read.table))
 }
 
-/// The tally after a response, and what it answers.
-fn told(response: RlResponse) -> (Tally, Result<Answer, Refusal>) {
+/// What a response answers.
+fn told(response: RlResponse) -> Result<Answer, Refusal> {
     let answer = Answer { length: response.length, fired: response.fired };
-    (response.tally, given(response.number, response.second, answer))
+    given(response.number, response.second, answer)
 }
 
 /// Reads a rule text into a table.
@@ -85,28 +85,30 @@ pub fn pack_slip(table: &Table, slip: Slip, out: &mut [u8]) -> Result<usize, Ref
     given(packed.number, packed.second, packed.length)
 }
 
-/// Responds to a packed card and a packed slip; gives the tally after it.
+/// Responds to an editor's packed card and packed slip, and counts it in the editor's record.
 pub fn respond(
     table: &Table,
-    tally: Tally,
+    records: &mut [Tally],
+    editor: usize,
     card: &[u8],
     slip: &[u8],
     new_card: &mut [u8],
     changes: &mut [u8],
     fired: &mut [u8],
-) -> (Tally, Result<Answer, Refusal>) {
-    told(raw::respond(table, tally, card, slip, new_card, changes, fired))
+) -> Result<Answer, Refusal> {
+    told(raw::respond(table, records, editor, card, slip, new_card, changes, fired))
 }
 
-/// Responds by marks to a packed card and a packed slip; gives the tally after it.
+/// Responds by marks to an editor's packed card and packed slip, and counts it in the editor's record.
 pub fn respond_by_marks(
     table: &Table,
-    tally: Tally,
+    records: &mut [Tally],
+    editor: usize,
     card: &[u8],
     slip: &[u8],
     new_card: &mut [u8],
     changes: &mut [u8],
     fired: &mut [u8],
-) -> (Tally, Result<Answer, Refusal>) {
-    told(raw::respond_by_marks(table, tally, card, slip, new_card, changes, fired))
+) -> Result<Answer, Refusal> {
+    told(raw::respond_by_marks(table, records, editor, card, slip, new_card, changes, fired))
 }

@@ -1,9 +1,8 @@
 //! What the benchmark asks of an engine, and the native engine as one.
 
 use crate::print::Printer;
-use crate::raw::Tally;
 use crate::read::{self, Workspace};
-use crate::response::{self, Answer, Outputs};
+use crate::response::{self, Answer, Caller, Outputs};
 use crate::table::Table;
 use crate::test31::tested;
 use crate::Refusal;
@@ -25,25 +24,25 @@ pub trait Engine {
     /// Whether a table is in order; 31 where it is not.
     fn is_sound(&mut self, table: &Table) -> bool;
 
-    /// The response: the tally after it, and the answer or 32, 31, 20 to 28, 30, 40.
+    /// The response, counted in the caller's record: the answer, or 44, 32, 31, 20 to 28, 30, 40.
     fn respond(
         &mut self,
         table: &Table,
-        tally: Tally,
+        caller: Caller,
         card: &[u8],
         slip: &[u8],
         outputs: Outputs,
-    ) -> (Tally, Result<Answer, Refusal>);
+    ) -> Result<Answer, Refusal>;
 
-    /// The response by marks: the tally after it, and the answer or 32, 31, 20 to 28, 30, 41, 42.
+    /// The response by marks, counted in the caller's record: the answer, or 44, 32, 31, 20 to 28, 30, 41, 42.
     fn respond_by_marks(
         &mut self,
         table: &Table,
-        tally: Tally,
+        caller: Caller,
         card: &[u8],
         slip: &[u8],
         outputs: Outputs,
-    ) -> (Tally, Result<Answer, Refusal>);
+    ) -> Result<Answer, Refusal>;
 }
 
 /// The native engine, with what it keeps from one reading or print to the next.
@@ -91,22 +90,22 @@ impl Engine for Native {
     fn respond(
         &mut self,
         table: &Table,
-        tally: Tally,
+        caller: Caller,
         card: &[u8],
         slip: &[u8],
         outputs: Outputs,
-    ) -> (Tally, Result<Answer, Refusal>) {
-        response::respond(table, tally, card, slip, outputs)
+    ) -> Result<Answer, Refusal> {
+        response::respond(table, caller, card, slip, outputs)
     }
 
     fn respond_by_marks(
         &mut self,
         table: &Table,
-        tally: Tally,
+        caller: Caller,
         card: &[u8],
         slip: &[u8],
         outputs: Outputs,
-    ) -> (Tally, Result<Answer, Refusal>) {
-        response::respond_by_marks(table, tally, card, slip, outputs)
+    ) -> Result<Answer, Refusal> {
+        response::respond_by_marks(table, caller, card, slip, outputs)
     }
 }

@@ -41,13 +41,13 @@ fn row(proved: &mut dyn Engine, native: &mut dyn Engine, input: &Input) -> Optio
     if theirs != ours {
         println!("DIFFERENT on {}", input.name);
         for (name, result) in [("proved", theirs), ("native", ours)] {
-            let numbers = (result.reading, result.is_sound, result.tally, result.answer, result.printing);
-            println!("{name}: {numbers:?} {:?}\n{}", result.outputs, String::from_utf8_lossy(&result.print));
+            let numbers = (result.reading, result.is_sound, result.printing);
+            println!("{name}: {numbers:?} {:?}\n{}", result.response, String::from_utf8_lossy(&result.print));
         }
         return None;
     }
     let refused = |why: Refusal| format!("refused {} {}", why.number, why.second);
-    let answered = ours.reading.and(ours.answer);
+    let answered = ours.reading.and(ours.response.answer);
     let [reading, printing] = text_times([&mut *proved, &mut *native], input);
     let times = ours.reading.is_ok().then(|| table_times([proved, native], input, &ours.table));
     Some(Row {

@@ -6,14 +6,17 @@ use std::time::{Duration, Instant};
 
 use crate::engine::Engine;
 use crate::input::Input;
-use crate::raw::{Tally, CARD_BYTES, FIRED_BYTES, PRINT_BYTES, SLIP_BYTES};
-use crate::response::{Answer, Outputs};
+use crate::raw::{Tally, CARD_BYTES, EDITORS, FIRED_BYTES, PRINT_BYTES, SLIP_BYTES};
+use crate::response::{Answer, Caller, Outputs};
 use crate::table::Table;
 use crate::Refusal;
 
 /// About the time of one repetition, and how many repetitions the best is taken of.
 const REPETITION: Duration = Duration::from_millis(1);
 const REPETITIONS: usize = 20;
+
+/// The editor who calls.
+pub const EDITOR: u8 = 23;
 
 /// An answer or its refusal.
 pub type Outcome = std::result::Result<Answer, Refusal>;
@@ -25,33 +28,48 @@ pub struct Result {
     pub table: Box<Table>,
     /// Whether the table is in order, and whether it is with every stratum one higher.
     pub is_sound: [bool; 2],
-    pub tally: Tally,
-    pub answer: Outcome,
-    pub outputs: [Vec<u8>; 3],
+    pub response: Response,
     pub printing: std::result::Result<usize, Refusal>,
     pub print: Vec<u8>,
 }
 
-/// The three outputs before a response.
-fn rooms() -> [Vec<u8>; 3] {
-    [CARD_BYTES, SLIP_BYTES, FIRED_BYTES].map(|length| vec![0xA5; length])
+/// What is lent for a response: the three outputs, and the table of records.
+#[derive(PartialEq, Eq, Debug)]
+pub struct Lent {
+    pub outputs: [Vec<u8>; 3],
+    pub records: [Tally; EDITORS],
 }
 
-/// The response of an engine by strata or by marks.
-fn respond(
-    engine: &mut dyn Engine,
-    marks: bool,
-    table: &Table,
-    input: &Input,
-    rooms: &mut [Vec<u8>; 3],
-) -> (Tally, Outcome) {
-    let [card, changes, fired] = rooms;
-    let outputs = Outputs { card, changes, fired };
+/// What is lent before a response: no two records are equal, and those from editor 20 on are full.
+fn lent() -> Lent {
+    let outputs = [CARD_BYTES, SLIP_BYTES, FIRED_BYTES].map(|length| vec![0xA5; length]);
+    Lent { outputs, records: std::array::from_fn(|at| Tally { answered: 9_980 + at as u16, refused: at as u16 }) }
+}
+
+/// The response of an engine by strata or by marks; the caller's record begins at 0 each time, so that it does not fill up over many calls.
+fn respond(engine: &mut dyn Engine, marks: bool, table: &Table, input: &Input, lent: &mut Lent) -> Outcome {
+    let Lent { outputs: [card, changes, fired], records } = lent;
+    let (editor, outputs) = (usize::from(EDITOR), Outputs { card, changes, fired });
+    records[editor - 1] = Tally::default();
+    let caller = Caller { records, editor };
     if marks {
-        engine.respond_by_marks(table, Tally::default(), &input.card, &input.slip, outputs)
+        engine.respond_by_marks(table, caller, &input.card, &input.slip, outputs)
     } else {
-        engine.respond(table, Tally::default(), &input.card, &input.slip, outputs)
+        engine.respond(table, caller, &input.card, &input.slip, outputs)
     }
+}
+
+/// What a response gave: the answer or the refusal, and the outputs and all records after it.
+#[derive(PartialEq, Eq, Debug)]
+pub struct Response {
+    pub answer: Outcome,
+    pub lent: Lent,
+}
+
+/// What the response of an engine by strata or by marks gave.
+fn response(engine: &mut dyn Engine, marks: bool, table: &Table, input: &Input) -> Response {
+    let mut lent = lent();
+    Response { answer: respond(engine, marks, table, input, &mut lent), lent }
 }
 
 /// The output before a print.
@@ -71,11 +89,10 @@ pub fn result(engine: &mut dyn Engine, input: &Input) -> Result {
     let reading = engine.read(&input.text);
     let table = Box::new(*engine.table());
     let is_sound = [engine.is_sound(&table), engine.is_sound(&lifted(&table))];
-    let mut outputs = rooms();
-    let (tally, answer) = respond(engine, false, &table, input, &mut outputs);
+    let response = response(engine, false, &table, input);
     let mut print = page();
     let printing = engine.print(&input.text, &mut print);
-    Result { reading, table, is_sound, tally, answer, outputs, printing, print }
+    Result { reading, table, is_sound, response, printing, print }
 }
 
 /// How many calls take about the time of a repetition.
@@ -123,7 +140,7 @@ pub fn text_times(engines: [&mut dyn Engine; 2], input: &Input) -> [[f64; 2]; 2]
 /// The best times of two engines with the same table in microseconds: of the test 31, and of a response, which makes it too.
 pub fn table_times(engines: [&mut dyn Engine; 2], input: &Input, table: &Table) -> [[f64; 2]; 2] {
     let [first, second] = engines.map(RefCell::new);
-    let (mut a, mut b) = (rooms(), rooms());
+    let (mut a, mut b) = (lent(), lent());
     let [one, other, one_response, other_response] = best([
         &mut || _ = black_box(first.borrow_mut().is_sound(black_box(table))),
         &mut || _ = black_box(second.borrow_mut().is_sound(black_box(table))),
@@ -131,14 +148,6 @@ pub fn table_times(engines: [&mut dyn Engine; 2], input: &Input, table: &Table) 
         &mut || _ = black_box(respond(*second.borrow_mut(), false, black_box(table), input, &mut b)),
     ]);
     [[one, other], [one_response, other_response]]
-}
-
-/// What a response gave: the tally after it, the answer or the refusal, and the outputs.
-#[derive(PartialEq, Eq, Debug)]
-pub struct Response {
-    pub tally: Tally,
-    pub answer: Outcome,
-    pub outputs: [Vec<u8>; 3],
 }
 
 /// What an engine makes of an input by marks: the readings with test 18 and without, their tables, and four responses: by strata on the first and by marks on the second, then by marks on the first and by strata on the second.
@@ -157,29 +166,24 @@ pub fn mark_result(engine: &mut dyn Engine, input: &Input) -> MarkResult {
     let without_18 = engine.read_unlayered(&input.text);
     let table = Box::new(*engine.table());
     let asked = [(false, &layered), (true, &table), (true, &layered), (false, &table)];
-    let responses = asked.map(|(marks, table)| {
-        let mut outputs = rooms();
-        let (tally, answer) = respond(engine, marks, table, input, &mut outputs);
-        Response { tally, answer, outputs }
-    });
+    let responses = asked.map(|(marks, table)| response(engine, marks, table, input));
     MarkResult { readings: [with_18, without_18], layered, table, responses }
 }
 
 /// The best times of two engines in microseconds: of reading with test 18 and without, of the strata response on the first table and of the response by marks on the second.
 pub fn mark_times(engines: [&mut dyn Engine; 2], input: &Input, layered: &Table, table: &Table) -> [[f64; 2]; 4] {
     let [first, second] = engines.map(RefCell::new);
-    let mut outputs = [(); 4].map(|()| rooms());
-    let [a, b, c, d] = &mut outputs;
+    let [mut a, mut b, mut c, mut d] = [(); 4].map(|()| lent());
     let text = || black_box(&input.text[..]);
     let times = best([
         &mut || _ = black_box(first.borrow_mut().read(text())),
         &mut || _ = black_box(second.borrow_mut().read(text())),
         &mut || _ = black_box(first.borrow_mut().read_unlayered(text())),
         &mut || _ = black_box(second.borrow_mut().read_unlayered(text())),
-        &mut || _ = black_box(respond(*first.borrow_mut(), false, black_box(layered), input, a)),
-        &mut || _ = black_box(respond(*second.borrow_mut(), false, black_box(layered), input, b)),
-        &mut || _ = black_box(respond(*first.borrow_mut(), true, black_box(table), input, c)),
-        &mut || _ = black_box(respond(*second.borrow_mut(), true, black_box(table), input, d)),
+        &mut || _ = black_box(respond(*first.borrow_mut(), false, black_box(layered), input, &mut a)),
+        &mut || _ = black_box(respond(*second.borrow_mut(), false, black_box(layered), input, &mut b)),
+        &mut || _ = black_box(respond(*first.borrow_mut(), true, black_box(table), input, &mut c)),
+        &mut || _ = black_box(respond(*second.borrow_mut(), true, black_box(table), input, &mut d)),
     ]);
     [0, 2, 4, 6].map(|at| [times[at], times[at + 1]])
 }

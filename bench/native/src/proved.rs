@@ -1,8 +1,8 @@
 //! The proved library by its C interface.
 
 use crate::engine::Engine;
-use crate::raw::{self, given, RlRead, Tally};
-use crate::response::{Answer, Outputs};
+use crate::raw::{self, given, RlRead, RlResponse};
+use crate::response::{Answer, Caller, Outputs};
 use crate::table::Table;
 use crate::Refusal;
 
@@ -22,6 +22,12 @@ impl Default for Proved {
     fn default() -> Proved {
         Proved::new()
     }
+}
+
+/// What a response of the library comes to.
+#[inline]
+fn told(response: RlResponse) -> Result<Answer, Refusal> {
+    given(response.number, response.second, Answer { length: response.length, fired: response.fired })
 }
 
 impl Engine for Proved {
@@ -51,28 +57,24 @@ impl Engine for Proved {
     fn respond(
         &mut self,
         table: &Table,
-        tally: Tally,
+        caller: Caller,
         card: &[u8],
         slip: &[u8],
         outputs: Outputs,
-    ) -> (Tally, Result<Answer, Refusal>) {
+    ) -> Result<Answer, Refusal> {
         let Outputs { card: new_card, changes, fired } = outputs;
-        let response = raw::respond(table, tally, card, slip, new_card, changes, fired);
-        let answer = Answer { length: response.length, fired: response.fired };
-        (response.tally, given(response.number, response.second, answer))
+        told(raw::respond(table, caller.records, caller.editor, card, slip, new_card, changes, fired))
     }
 
     fn respond_by_marks(
         &mut self,
         table: &Table,
-        tally: Tally,
+        caller: Caller,
         card: &[u8],
         slip: &[u8],
         outputs: Outputs,
-    ) -> (Tally, Result<Answer, Refusal>) {
+    ) -> Result<Answer, Refusal> {
         let Outputs { card: new_card, changes, fired } = outputs;
-        let response = raw::respond_by_marks(table, tally, card, slip, new_card, changes, fired);
-        let answer = Answer { length: response.length, fired: response.fired };
-        (response.tally, given(response.number, response.second, answer))
+        told(raw::respond_by_marks(table, caller.records, caller.editor, card, slip, new_card, changes, fired))
     }
 }

@@ -3,13 +3,28 @@
 use crate::cards::{bytes_for, unpack_card, unpack_slip, write_card, write_slip, Changes};
 use crate::firing::{fire, Fired};
 use crate::marks::mark;
-use crate::raw::{Tally, SLIP_BYTES};
+use crate::raw::{Tally, EDITORS, SLIP_BYTES};
 use crate::table::{Table, SLOTS};
 use crate::test31::{tested, tested_for_marks, Lasts};
 use crate::{refusal, Refusal};
 
-/// The number at which a tally is full.
+/// The number at which a record is full.
 const FULL: u16 = 9_999;
+
+/// Who calls: a lent table of records, and the caller's editor number.
+pub struct Caller<'a> {
+    pub records: &'a mut [Tally],
+    pub editor: usize,
+}
+
+impl<'a> Caller<'a> {
+    /// The caller's own record: the number is from 1 to 40, in a table of forty records; 44 where there is none.
+    #[inline]
+    fn own(self) -> Result<&'a mut Tally, Refusal> {
+        let records = <&mut [Tally; EDITORS]>::try_from(self.records).map_err(|_| refusal(44, 0))?;
+        records.get_mut(self.editor.wrapping_sub(1)).ok_or(refusal(44, 0))
+    }
+}
 
 /// The three outputs of a response.
 pub struct Outputs<'a> {
@@ -87,38 +102,39 @@ fn answer(
     Ok(Answer { length, fired: fired.iter().map(|word| word.count_ones() as usize).sum() })
 }
 
-/// Counts an answer or its refusal; 32 where the tally is full.
+/// Counts an answer or its refusal in the caller's record; 44 where there is none, 32 where it is full.
 #[inline]
-fn counted(tally: Tally, answer: impl FnOnce() -> Result<Answer, Refusal>) -> (Tally, Result<Answer, Refusal>) {
-    if tally.answered >= FULL || tally.refused >= FULL {
-        return (tally, Err(refusal(32, 0)));
+fn counted(caller: Caller, answer: impl FnOnce() -> Result<Answer, Refusal>) -> Result<Answer, Refusal> {
+    let own = caller.own()?;
+    if own.answered >= FULL || own.refused >= FULL {
+        return Err(refusal(32, 0));
     }
     let answer = answer();
-    let after = match answer {
-        Ok(_) => Tally { answered: tally.answered + 1, ..tally },
-        Err(_) => Tally { refused: tally.refused + 1, ..tally },
-    };
-    (after, answer)
+    match answer {
+        Ok(_) => own.answered += 1,
+        Err(_) => own.refused += 1,
+    }
+    answer
 }
 
-/// The strata response: the tally after it, and the answer or 32, 31, 20 to 28, 30, 40.
+/// The strata response: the answer, or 44, 32, 31, 20 to 28, 30, 40.
 pub fn respond(
     table: &Table,
-    tally: Tally,
+    caller: Caller,
     card: &[u8],
     slip: &[u8],
     mut outputs: Outputs,
-) -> (Tally, Result<Answer, Refusal>) {
-    counted(tally, || answer(table, tested(table), card, slip, &mut outputs, by_strata))
+) -> Result<Answer, Refusal> {
+    counted(caller, || answer(table, tested(table), card, slip, &mut outputs, by_strata))
 }
 
-/// The response by marks: the tally after it, and the answer or 32, 31, 20 to 28, 30, 41, 42.
+/// The response by marks: the answer, or 44, 32, 31, 20 to 28, 30, 41, 42.
 pub fn respond_by_marks(
     table: &Table,
-    tally: Tally,
+    caller: Caller,
     card: &[u8],
     slip: &[u8],
     mut outputs: Outputs,
-) -> (Tally, Result<Answer, Refusal>) {
-    counted(tally, || answer(table, tested_for_marks(table), card, slip, &mut outputs, by_marks))
+) -> Result<Answer, Refusal> {
+    counted(caller, || answer(table, tested_for_marks(table), card, slip, &mut outputs, by_marks))
 }

@@ -2,11 +2,12 @@
 
 use native::engine::{Engine, Native};
 use native::raw::{Tally, PRINT_BYTES};
-use native::response::Outputs;
+use native::response::{Caller, Outputs};
 use native::table::{Assignment, Literal, Name, Rule, Slot, Table};
 use native::Refusal;
 use second::engine::{Engine as _, Second, Way};
-use second::gen::{any_file, card, rooms, slip, tally, Rng};
+use second::gen::{any_file, card, rooms, slip, Rng};
+use second::gen_editors::Day;
 use second::gen_marks;
 use second::gen_tables::damaged;
 use second::gen_text::Sketch;
@@ -47,26 +48,36 @@ fn refused(why: second::Refusal) -> Refusal {
     Refusal { number: why.number, second: why.second }
 }
 
-/// One response of both engines by a way to a generated card, slip, tally and outputs; gives the number it came to.
+/// A table of records of the second engine in two bytes for each count.
+fn two_bytes(records: &[second::editors::Tally]) -> Vec<Tally> {
+    let count = |n: u32| u16::try_from(n).expect("a count of two bytes");
+    records.iter().map(|own| Tally { answered: count(own.answered), refused: count(own.refused) }).collect()
+}
+
+/// One response of both engines by a way to a generated card, slip, table of records, editor number and outputs; gives the number it came to.
 fn responses(rng: &mut Rng, way: Way, table: &SecondTable, sketch: &Sketch, engine: &mut Native) -> u8 {
-    let (card, slip, tally) = (card(rng, sketch), slip(rng, sketch), tally(rng));
+    let (card, slip, day) = (card(rng, sketch), slip(rng, sketch), Day::new(rng));
+    let editor = day.caller(rng);
     let needed = [(6 + 4 * table.width.min(40) as usize).div_ceil(8), 37, (table.count as usize).min(300).div_ceil(8)];
     let lengths = rooms(rng, needed);
     let mut theirs = lengths.map(|length| vec![0xA5; length]);
     let mut ours = theirs.clone();
+    let mut their_records = day.records;
+    let mut our_records = two_bytes(&their_records);
     let [a, b, c] = &mut theirs;
     let outputs = second::response::Outputs { card: a, changes: b, fired: c };
-    let (their_tally, their_answer) = Second.respond_by(way, table, tally, &card, &slip, outputs);
+    let caller = second::editors::Caller { records: &mut their_records, editor };
+    let their_answer = Second.respond_by(way, table, caller, &card, &slip, outputs);
     let [a, b, c] = &mut ours;
-    let before = Tally { answered: tally.answered as u16, refused: tally.refused as u16 };
     let outputs = Outputs { card: a, changes: b, fired: c };
+    let caller = Caller { records: &mut our_records, editor };
     let given = converted(table);
-    let (our_tally, our_answer) = match way {
-        Way::Strata => engine.respond(&given, before, &card, &slip, outputs),
-        Way::Marks => engine.respond_by_marks(&given, before, &card, &slip, outputs),
+    let our_answer = match way {
+        Way::Strata => engine.respond(&given, caller, &card, &slip, outputs),
+        Way::Marks => engine.respond_by_marks(&given, caller, &card, &slip, outputs),
     };
     assert_eq!(theirs, ours);
-    assert_eq!((their_tally.answered, their_tally.refused), (our_tally.answered.into(), our_tally.refused.into()));
+    assert_eq!(two_bytes(&their_records), our_records);
     assert_eq!(their_answer.map_err(refused), our_answer.map(|answer| answer.length));
     if let Ok(answer) = our_answer {
         assert_eq!(answer.fired, Second.fired_count(&ours[2][..(table.count as usize).div_ceil(8)]));
@@ -93,7 +104,7 @@ fn prints(text: &[u8], engine: &mut Native) -> [u8; 4] {
 fn agrees_with_the_second_engine() {
     let mut rng = Rng::new(20);
     let mut engine = Native::new();
-    let mut seen = [0; 41];
+    let mut seen = [0; 45];
     for round in 0..20_000 {
         let file = any_file(&mut rng);
         let (why, theirs) = Second.read(&file.text);
@@ -110,7 +121,7 @@ fn agrees_with_the_second_engine() {
         }
     }
     println!("{seen:?}");
-    for number in (10..=18).chain(20..=28).chain(30..=34).chain([40]) {
+    for number in (10..=18).chain(20..=28).chain(30..=34).chain([40, 44]) {
         assert!(seen[number] > 0, "{number} never came up");
     }
 }
@@ -120,7 +131,7 @@ fn agrees_with_the_second_engine() {
 fn agrees_with_the_second_engine_by_marks() {
     let mut rng = Rng::new(21);
     let mut engine = Native::new();
-    let mut seen = [0; 43];
+    let mut seen = [0; 45];
     for round in 0..20_000 {
         let file = if round % 2 == 0 { any_file(&mut rng) } else { gen_marks::file(&mut rng) };
         let (why, theirs) = Second.read_unlayered(&file.text);
@@ -135,7 +146,7 @@ fn agrees_with_the_second_engine_by_marks() {
         }
     }
     println!("{seen:?}");
-    for number in (10..=17).chain(20..=28).chain(30..=32).chain([41, 42]) {
+    for number in (10..=17).chain(20..=28).chain(30..=32).chain([41, 42, 44]) {
         assert!(seen[number] > 0, "{number} never came up");
     }
 }

@@ -1,7 +1,3 @@
-pub mod Holding
-pub mod Filling
-pub mod Truths
-pub mod Lists
 pub mod Sorting
 pub mod Placing
 pub mod Sorted

@@ -37,9 +37,9 @@ use Rattle.table.proofs.Link.{rule-at-is}
 use Rattle.table.proofs.Fits.{assigned-placed, count-of, number}
 use Rattle.table.proofs.Flat.{added, added-length, pairs-of-set, is-flags}
 use Rattle.firing.specs.inner.Firing.{FiredFlags, fired-in, carried-firing}
-use Rattle.firing.specs.declared.waiting.Turn.{Turn}
-use Rattle.firing.specs.inner.Waiting.{turn-of}
-use Rattle.firing.proofs.Lists.{turn-place, turn-less}
+use Rattle.testing.specs.declared.waiting.Turn.{Turn}
+use Rattle.testing.specs.inner.Waiting.{turn-of}
+use Rattle.testing.proofs.Lists.{turn-place, turn-less}
 use Rattle.firing.proofs.Sorted.{Sorts}
 
 -- In a pass the flags of fired rules are kept, and where something fired there are more.

@@ -1,4 +1,2 @@
 pub mod Firing
 pub mod Sorting
-pub mod Truth
-pub mod Waiting

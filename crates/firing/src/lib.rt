@@ -1,7 +1,5 @@
 // The rules of rows fired stratum by stratum.
 pub mod order;
-pub mod truth;
-pub mod waiting;
 
 ghost use mathlib.Core.Path.{_≡_};
 ghost use mathlib.Core.Bool.{false};
@@ -13,19 +11,19 @@ ghost use Rattle.table.specs.Link.{assignments-of};
 ghost use Rattle.table.specs.inner.Flat.{pair-places, add-pairs};
 ghost use Rattle.rows.specs.inner.Rows.{rule-in, table-in, RowFits, RowsFit};
 ghost use Rattle.firing.specs.inner.Firing.{CanFire, table-firing};
-ghost use Rattle.firing.specs.inner.Truth.{Truth};
-ghost use Rattle.firing.specs.inner.Waiting.{Waiting, Woken};
+ghost use Rattle.testing.specs.inner.Truth.{Truth};
+ghost use Rattle.testing.specs.inner.Waiting.{Waiting, Woken};
 use rows::NUMBERS;
 use rows::wide;
 use table::PAIRS;
 use table::RULES;
 use table::SLOTS;
-use truth::WITHOUT_NOT;
-use truth::is_true;
-use truth::truth_of;
-use waiting::next_rule;
-use waiting::wait;
-use waiting::wake;
+use testing::truth::WITHOUT_NOT;
+use testing::truth::is_true;
+use testing::truth::truth_of;
+use testing::waiting::next_rule;
+use testing::waiting::wait;
+use testing::waiting::wake;
 
 // Adds what a rule assigns to the changes, and wakes the rules that wait for it; how many are woken then.
 fn assign(

@@ -33,6 +33,10 @@ assignment-limit = 4
 abbrev pub tally-limit : ℕ
 tally-limit = 9999
 
+-- Editors, and so records in the lent table.
+abbrev pub editor-limit : ℕ
+editor-limit = 40
+
 -- The values of a slot and 0, which stands for none: the places of one slot in an array indexed by pair.
 abbrev pub row : ℕ
 row = value-limit + 1

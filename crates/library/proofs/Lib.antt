@@ -1,2 +1,5 @@
 pub mod Places
 pub mod Results
+pub mod Lent
+pub mod PlaceCall
+pub mod Walked

@@ -10,10 +10,8 @@ use Rattle.cards.specs.declared.CardRead.{CardRead}
 use Rattle.cards.specs.declared.SlipRead.{SlipRead}
 use Rattle.cards.specs.declared.Packing.{Packing}
 use Rattle.cards.specs.Cards.{unpacking-refusal, unpacking-second, packing-refusal, packing-second, packing-length}
-use Rattle.tally.specs.declared.Tally.{Tally}
 use Rattle.response.specs.declared.Outcome.{Outcome}
 use Rattle.response.specs.declared.Outcome.the-variants.{Answered, Refused}
-use Rattle.response.specs.declared.Response.{Response}
 use Rattle.response.specs.Respond.{response-refusal, response-second}
 use Rattle.library.specs.declared.RlRead.{RlRead}
 use Rattle.library.specs.declared.RlPrinted.{RlPrinted}
@@ -57,11 +55,6 @@ abbrev pub fired-count : Outcome → ℕ
 fired-count (Answered n f) = f
 fired-count (Refused k s) = 0
 
--- An outcome by numbers, with a tally as it is.
-abbrev pub numbered : Outcome → Tally → RlResponse
-numbered o y =
-    record { number = response-refusal o; second = response-second o; length = changes-length o; fired = fired-count o; tally = y }
-
--- A response.
-abbrev pub response-numbers : Response → RlResponse
-response-numbers r = numbered (r .outcome) (r .tally)
+-- An outcome by numbers.
+abbrev pub response-numbers : Outcome → RlResponse
+response-numbers o = record { number = response-refusal o; second = response-second o; length = changes-length o; fired = fired-count o }

@@ -1,4 +1,6 @@
-// The entry points for programs in C and Rust: each hands on exactly what the function of the crate below says, with numbers where that has an enum.
+// The entry points for programs in C and Rust: each hands on exactly what the function of the crate below says, with numbers where that has an enum; the responses find the caller's record in the lent table, or say 44, and put the record after in its place.
+pub mod at_record;
+
 ghost use mathlib.Core.Path.{_≡_};
 ghost use lib.ListN.{length};
 ghost use Rattle.laws.specs.Answers.{output-of};
@@ -8,13 +10,15 @@ ghost use Rattle.reader.specs.Tables.{reading-refusal, reading-second};
 ghost use Rattle.rule_file.specs.Whole.{reading, reading-without-18};
 ghost use Rattle.printing.specs.Printing.{print-into, printing-of};
 ghost use Rattle.cards.specs.Cards.{unpacked-card, unpacked-slip, packed-card, packed-slip, card-read, slip-read, packing-of};
-ghost use Rattle.response.specs.Respond.{rooms-of, outputs, outputs-after, answer-to, response-to, marks-answer-to, marks-response-to};
-ghost use Rattle.library.specs.Results.{reading-numbers, print-numbers, name-numbers, card-numbers, slip-numbers, packing-numbers, numbered, response-numbers};
+ghost use Rattle.tally.specs.Editors.{lent};
+ghost use Rattle.response.specs.Respond.{rooms-of, outputs, outputs-after, outcome-of, records-after, answer-to, marks-answer-to};
+ghost use Rattle.library.specs.Results.{reading-numbers, print-numbers, name-numbers, card-numbers, slip-numbers, packing-numbers, response-numbers};
+use at_record::respond_at;
+use at_record::respond_by_marks_at;
 use cards::Card;
 use cards::Packing;
 use cards::Slip;
 use printing::Printing;
-use response::Outcome;
 use table::Name;
 use table::Slot;
 use table::Table;
@@ -69,14 +73,13 @@ pub struct RlPacked {
     pub length: usize,
 }
 
-// A response: the number of its refusal, 0 for none, its second number, the length of the changes, how many rules fired, and the tally after it.
+// A response: the number of its refusal, 0 for none, its second number, the length of the changes and how many rules fired.
 #[repr(C)]
 pub struct RlResponse {
     pub number: u8,
     pub second: usize,
     pub length: usize,
     pub fired: usize,
-    pub tally: Tally,
 }
 
 // The number of a reading's refusal, 0 for none.
@@ -338,70 +341,66 @@ pub extern "C" fn rl_pack_slip(t: Table, slip: Slip, out: &mut [u8]) -> RlPacked
     packing_numbers(result)
 }
 
-// A response by numbers.
-fn numbered(outcome: Outcome, tally: Tally) -> RlResponse
-    ensures { λ r. ⌜ r ≡ numbered outcome tally ⌝ }
-{
-    match outcome {
-        Outcome::Answered(length, fired) => {
-            return RlResponse {
-                number: 0,
-                second: 0,
-                length: length,
-                fired: fired,
-                tally: tally,
-            };
-        }
-        Outcome::Refused(number, second) => {
-            return RlResponse {
-                number: number,
-                second: second,
-                length: 0,
-                fired: 0,
-                tally: tally,
-            };
-        }
-    }
-}
-
-// Responds to a card and a slip by strata: 32, 31, 20 to 28, 30, 40; an answer writes the new card, the changes and the fired record, a refusal nothing.
+// Responds to an editor's card and slip by strata: 44, 32, 31, 20 to 28, 30, 40; an answer writes the new card, the changes and the fired record, a refusal nothing. It is counted in the editor's own record, 44 and 32 in none.
 #[no_mangle]
 pub extern "C" fn rl_respond(
     t: Table,
-    tally: Tally,
+    records: &mut [Tally],
+    editor: usize,
     card: &[u8],
     slip: &[u8],
     renewed: &mut [u8],
     changes: &mut [u8],
     fired: &mut [u8],
 ) -> RlResponse
-    ensures { λ r. ⌜ (r ≡ response-numbers (response-to t tally (now (card .entry)) (now (slip .entry)) (rooms-of (now (renewed .entry)) (now (changes .entry)) (now (fired .entry)))))
+    ensures { λ r. ⌜ (r ≡ response-numbers (outcome-of (answer-to t (lent (now (records .entry)) editor) (now (card .entry)) (now (slip .entry)) (rooms-of (now (renewed .entry)) (now (changes .entry)) (now (fired .entry))))))
+        × (now (records .exit) ≡ records-after (lent (now (records .entry)) editor) (answer-to t (lent (now (records .entry)) editor) (now (card .entry)) (now (slip .entry)) (rooms-of (now (renewed .entry)) (now (changes .entry)) (now (fired .entry)))))
         × (outputs (now (renewed .exit)) (now (changes .exit)) (now (fired .exit))
-        ≡ outputs-after (answer-to t tally (now (card .entry)) (now (slip .entry)) (rooms-of (now (renewed .entry)) (now (changes .entry)) (now (fired .entry)))) (outputs (now (renewed .entry)) (now (changes .entry)) (now (fired .entry)))) ⌝ }
+        ≡ outputs-after (answer-to t (lent (now (records .entry)) editor) (now (card .entry)) (now (slip .entry)) (rooms-of (now (renewed .entry)) (now (changes .entry)) (now (fired .entry)))) (outputs (now (renewed .entry)) (now (changes .entry)) (now (fired .entry)))) ⌝ }
 {
-    let response = response::respond(t, tally, card, slip, renewed, changes, fired);
-    let outcome = response.outcome;
-    let after = response.tally;
-    numbered(outcome, after)
+    let at = tally::place(records.len(), editor);
+    if at < records.len() {
+        let counted = respond_at(t, records[at], card, slip, renewed, changes, fired);
+        records[at] = counted.tally;
+        return counted.response;
+    } else {
+        return RlResponse {
+            number: 44,
+            second: 0,
+            length: 0,
+            fired: 0,
+        };
+    }
 }
 
-// Responds to a card and a slip by marks: 32, 31, 20 to 28, 30, 41, 42; what is written is the same.
+// Responds to an editor's card and slip by marks: 44, 32, 31, 20 to 28, 30, 41, 42; what is written and counted is the same.
 #[no_mangle]
 pub extern "C" fn rl_respond_by_marks(
     t: Table,
-    tally: Tally,
+    records: &mut [Tally],
+    editor: usize,
     card: &[u8],
     slip: &[u8],
     renewed: &mut [u8],
     changes: &mut [u8],
     fired: &mut [u8],
 ) -> RlResponse
-    ensures { λ r. ⌜ (r ≡ response-numbers (marks-response-to t tally (now (card .entry)) (now (slip .entry)) (rooms-of (now (renewed .entry)) (now (changes .entry)) (now (fired .entry)))))
+    ensures { λ r. ⌜ (r ≡ response-numbers (outcome-of (marks-answer-to t (lent (now (records .entry)) editor) (now (card .entry)) (now (slip .entry)) (rooms-of (now (renewed .entry)) (now (changes .entry)) (now (fired .entry))))))
+        × (now (records .exit) ≡ records-after (lent (now (records .entry)) editor) (marks-answer-to t (lent (now (records .entry)) editor) (now (card .entry)) (now (slip .entry)) (rooms-of (now (renewed .entry)) (now (changes .entry)) (now (fired .entry)))))
         × (outputs (now (renewed .exit)) (now (changes .exit)) (now (fired .exit))
-        ≡ outputs-after (marks-answer-to t tally (now (card .entry)) (now (slip .entry)) (rooms-of (now (renewed .entry)) (now (changes .entry)) (now (fired .entry)))) (outputs (now (renewed .entry)) (now (changes .entry)) (now (fired .entry)))) ⌝ }
+        ≡ outputs-after (marks-answer-to t (lent (now (records .entry)) editor) (now (card .entry)) (now (slip .entry)) (rooms-of (now (renewed .entry)) (now (changes .entry)) (now (fired .entry)))) (outputs (now (renewed .entry)) (now (changes .entry)) (now (fired .entry)))) ⌝ }
 {
-    let response = response::respond_by_marks(t, tally, card, slip, renewed, changes, fired);
-    let told = response.outcome;
-    let counted = response.tally;
-    numbered(told, counted)
+    let at = tally::place(records.len(), editor);
+    if at < records.len() {
+        let counted = respond_by_marks_at(t, records[at], card, slip, renewed, changes, fired);
+        records[at] = counted.tally;
+        return counted.response;
+    } else {
+        return RlResponse {
+            number: 44,
+            second: 0,
+            length: 0,
+            fired: 0,
+        };
+    }
 }

@@ -35,7 +35,7 @@ use Rattle.cards.proofs.FieldForms.{slip-bits-sum, slip-field-widths, slip-read
 use Rattle.tally.specs.declared.Tally.{Tally}
 use Rattle.tally.specs.Counting.{is-full}
 use Rattle.response.specs.Ending.{Answer, fired-record, answer-of, unless-conflict, answer-by-firing}
-use Rattle.response.specs.Respond.{_and-then_, Rooms, changes-room, if-room, answer-by, answer-by-rules, answer-by-table, answer-in, answer-to}
+use Rattle.response.specs.Respond.{_and-then_, Rooms, changes-room, if-room, answer-by, answer-by-rules, answer-by-table, answer-at}
 use Rattle.response.proofs.AnswerLaws.{new-card-length, listed-fits}
 use Rattle.listing.specs.inner.AnswerLines.{ChangesWhole}
 
@@ -71,8 +71,8 @@ by-rules counts rs card slip rooms a e =
     let z : taken (answer-of (length counts) (length rs) (c .0) C ns) ≡ taken a = cond-taken (ltb (conflict-slot (length counts) row C) (length counts)) 40 (conflict-slot (length counts) row C) _ a r in
     record { S = c .0; C = C; ns = ns; is-answer = (let w : answer-of (length counts) (length rs) (c .0) C ns ≡ a = cc in w) }
 
-pub by-table : (t : Table) (y : Tally) (card slip : List ℕ) (rooms : Rooms) (a : Answer) → answer-to t y card slip rooms ≡ taken a → Answering (length (value-counts t)) (length (rules-of t)) a
-unfolding answer-in answer-by-table
+pub by-table : (t : Table) (y : Tally) (card slip : List ℕ) (rooms : Rooms) (a : Answer) → answer-at Strata t y card slip rooms ≡ taken a → Answering (length (value-counts t)) (length (rules-of t)) a
+unfolding answer-at answer-by-table
 by-table t y card slip rooms a e = by-rules (value-counts t) (rules-of t) card slip rooms a (if-taken (takes Strata t) (cond-taken (is-full y) 32 0 _ a e))
   where
     if-taken : (b : Bool) → cond b (answer-by-rules Strata (value-counts t) (rules-of t) card slip rooms) (refused 31 0) ≡ taken a → answer-by-rules Strata (value-counts t) (rules-of t) card slip rooms ≡ taken a

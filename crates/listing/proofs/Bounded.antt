@@ -15,20 +15,25 @@ use Rattle.laws.specs.Tabulated.{tabulate}
 use Rattle.laws.specs.Answers.{OrRefused, taken, refused}
 use Rattle.model.specs.Rules.{Pair}
 use Rattle.table.specs.declared.Table.{Table}
+use Rattle.table.specs.declared.Way.the-variants.{Strata}
 use Rattle.names.specs.Names.{show-slot, show-value}
 use Rattle.reader.specs.declared.Outcome.{Outcome}
 use Rattle.reader.specs.declared.Outcome.the-variants.{Accepted, Refused}
 use Rattle.rule_file.specs.Whole.{reading}
 use Rattle.cards.specs.Forms.{card-bits, changes-in}
 use Rattle.cards.proofs.Taken.{changes-length}
+use Rattle.tally.specs.declared.Tally.{Tally}
 use Rattle.tally.specs.Counting.{fresh, is-full}
+use Rattle.tally.specs.Editors.{is-editor}
+use Rattle.tally.proofs.EditorLaws.{editor-e}
 use Rattle.response.specs.Ending.{Answer}
-use Rattle.response.specs.Respond.{answer-to, counted, tally-after}
-use Rattle.listing.specs.Listing.{RuleLine, program-rooms, rule-line, change-line, list-response, list-reading, listing}
-use Rattle.listing.specs.Printed.{digits, decimal, hexadecimal, fired-word, rule-text, rules-text, change-text, changes-text, card-text, tally-text, refusal-text, rule-text-most, change-text-most, card-text-most, page, printed}
+use Rattle.response.specs.Respond.{answer-at, counted, tally-after}
+use Rattle.listing.specs.Listing.{RuleLine, program-rooms, editor-number, program-editors, rule-line, change-line, list-response, list-reading, listing}
+use Rattle.listing.specs.Printed.{decimal, hexadecimal, fired-word, rule-text, rules-text, change-text, changes-text, card-text, tally-text, refusal-text, rule-text-most, change-text-most, card-text-most, tally-text-most, page, printed}
 use Rattle.listing.proofs.Digits.{decimal-short, refusal-length, hex-length}
 use Rattle.listing.proofs.Accepted.{slots-counted, rules-counted, few-slots, few-rules, strata-low, slot-short, value-short}
 use Rattle.listing.proofs.Answered.{Parts, by-table, answer-parts}
+use Rattle.listing.proofs.Callers.{program-answer, program-listed, listing-read, listing-44}
 use Rattle.listing.proofs.Small.{Small, SmallOutcome, SmallAnswer, reading-small, answer-small}
 
 -- The line of a rule.
@@ -55,6 +60,26 @@ rules-le f (suc m) n h l =
 refusal-le : (k s : ℕ) → Small k s → length (refusal-text k s) ≤ page
 refusal-le k s h = omega (arith, refusal-length k s, decimal-short 2 k (omega (arith, h .0)), decimal-short 2 s (omega (arith, h .1)))
 
+-- The line of the tally: an editor's number has at most two digits, and one slip is counted.
+tally-le : (n : ℕ) (y : Tally) → n ≤ 99 → y .answered ≤ 9 → y .refused ≤ 9 → length (tally-text n y) ≤ tally-text-most
+unfolding tally-text bytes bytes-from
+tally-le n y h a r =
+    let q = decimal (y .refused) ++ bytes "\n" in
+    let p = decimal (y .answered) ++ (bytes " " ++ q) in
+    omega (
+      arith,
+      decimal-short 1 n (omega (arith, h)),
+      decimal-short 0 (y .answered) (omega (arith, a)),
+      decimal-short 0 (y .refused) (omega (arith, r)),
+      length-append (decimal n) (bytes " " ++ p),
+      length-append (decimal (y .answered)) (bytes " " ++ q),
+      length-append (decimal (y .refused)) (bytes "\n"),
+    )
+
+one-counted : (n : ℕ) (a : Answer) → is-editor n ≡ true → length (tally-text n (tally-after fresh (taken a))) ≤ tally-text-most
+unfolding tally-after counted is-full _∨ᵇ_
+one-counted n a e = tally-le n (tally-after fresh (taken a)) (omega (arith, editor-e n e .1)) (omega arith) (omega arith)
+
 -- The line of a change, by the names of an accepted text.
 module _ (text : List ℕ) (o : reading text .outcome ≡ Accepted) where
   abbrev t : Table
@@ -77,27 +102,22 @@ module _ (text : List ℕ) (o : reading text .outcome ≡ Accepted) where
   unfolding card-text bytes bytes-from
   card-le card h = omega (arith, h, hex-length card, length-append (hexadecimal card) (bytes "\n"))
 
-  pub parts-of : (card slip : List ℕ) (a : Answer) → answer-to t fresh card slip program-rooms ≡ taken a → Parts (t .width) (t .count) a
+  pub parts-of : (card slip : List ℕ) (a : Answer) → answer-at Strata t fresh card slip program-rooms ≡ taken a → Parts (t .width) (t .count) a
   parts-of card slip a e =
       answer-parts (t .width) (t .count) a (few-slots text o) (rw (slots-counted text o, rules-counted text o) at (by-table t fresh card slip program-rooms a e))
 
-  -- The tally counts one answered.
-  tally-one : (a : Answer) → length (tally-text (tally-after fresh (taken a))) ≡ 10
-  unfolding tally-text decimal digits bytes bytes-from tally-after counted is-full _∨ᵇ_
-  tally-one a = refl
-
-  -- The lines of an answer.
-  pub answer-bounded : (card slip : List ℕ) (a : Answer) → answer-to t fresh card slip program-rooms ≡ taken a → length (printed (list-response text t (taken a))) ≤ page
-  unfolding printed list-response
-  answer-bounded card slip a e =
+  -- The lines of an answer to an editor.
+  pub answer-bounded : (n : ℕ) (card slip : List ℕ) (a : Answer) → is-editor n ≡ true → answer-at Strata t fresh card slip program-rooms ≡ taken a → length (printed (list-response text t (program-editors n) (taken a))) ≤ page
+  unfolding printed
+  answer-bounded n card slip a w e =
       let p = parts-of card slip a e in
       let rs = rules-text 1 (tabulate (λ i. rule-line t a (suc i)) (t .count)) in
       let cs = changes-text (map (change-line text t) (changes-in (a .changes))) in
-      let y = tally-after fresh (taken a) in
-      let i = length-append rs (cs ++ (card-text (a .new-card) ++ tally-text y)) in
-      let j = length-append cs (card-text (a .new-card) ++ tally-text y) in
-      let k = length-append (card-text (a .new-card)) (tally-text y) in
-      omega (
+      let y = tally-text n (tally-after fresh (taken a)) in
+      let i = length-append rs (cs ++ (card-text (a .new-card) ++ y)) in
+      let j = length-append cs (card-text (a .new-card) ++ y) in
+      let k = length-append (card-text (a .new-card)) y in
+      rw (program-listed n w text t a) (omega (
         arith,
         i,
         j,
@@ -109,19 +129,31 @@ module _ (text : List ℕ) (o : reading text .outcome ≡ Accepted) where
         p .few-changes,
         few-slots text o,
         card-le (a .new-card) (omega (arith, p .card-length, few-slots text o)),
-        tally-one a,
-      )
+        one-counted n a w,
+      ))
 
-  response-bounded : (card slip : List ℕ) (u : OrRefused Answer) → answer-to t fresh card slip program-rooms ≡ u → SmallAnswer u → length (printed (list-response text t u)) ≤ page
+  response-bounded : (n : ℕ) (card slip : List ℕ) (u : OrRefused Answer) → is-editor n ≡ true → answer-at Strata t fresh card slip program-rooms ≡ u → SmallAnswer u → length (printed (list-response text t (program-editors n) u)) ≤ page
   unfolding printed list-response
-  response-bounded card slip (taken a) e h = answer-bounded card slip a e
-  response-bounded card slip (refused k s) e h = refusal-le k s h
+  response-bounded n card slip (taken a) w e h = answer-bounded n card slip a w e
+  response-bounded n card slip (refused k s) w e h = refusal-le k s h
+
+-- What the reading comes to for an editor.
+reading-bounded : (text card slip : List ℕ) (n : ℕ) → is-editor n ≡ true → length (printed (list-reading text (reading text .outcome) (reading text .table) (program-editors n) card slip)) ≤ page
+unfolding list-reading printed
+reading-bounded text card slip n w = go (reading text .outcome) refl (reading-small text)
+  where
+    go : (q : Outcome) → reading text .outcome ≡ q → SmallOutcome q → length (printed (list-reading text q (reading text .table) (program-editors n) card slip)) ≤ page
+    go Accepted o h =
+        rw (program-answer n w (reading text .table) card slip program-rooms)
+        (response-bounded text o n card slip (answer-at Strata (reading text .table) fresh card slip program-rooms) w refl
+        (answer-small (reading text .table) fresh card slip program-rooms (omega (arith, slots-counted text o, few-slots text o))))
+    go (Refused k m) o h = refusal-le k m h
 
 -- ALL THAT THE PROGRAM PRINTS goes onto a page.
-pub listing-bounded : (text card slip : List ℕ) → length (printed (listing text card slip)) ≤ page
-unfolding listing list-reading printed
-listing-bounded text card slip = go (reading text .outcome) refl (reading-small text)
+pub listing-bounded : (text card slip editor : List ℕ) → length (printed (listing text card slip editor)) ≤ page
+unfolding printed
+listing-bounded text card slip editor = go (is-editor (editor-number editor)) refl
   where
-    go : (q : Outcome) → reading text .outcome ≡ q → SmallOutcome q → length (printed (list-reading text q (reading text .table) card slip)) ≤ page
-    go Accepted o h = response-bounded text o card slip (answer-to (reading text .table) fresh card slip program-rooms) refl (answer-small (reading text .table) fresh card slip program-rooms (omega (arith, slots-counted text o, few-slots text o)))
-    go (Refused k n) o h = refusal-le k n h
+    go : (b : Bool) → is-editor (editor-number editor) ≡ b → length (printed (listing text card slip editor)) ≤ page
+    go true e = rw (listing-read text card slip editor e) (reading-bounded text card slip (editor-number editor) e)
+    go false e = rw (listing-44 text card slip editor e) (refusal-le 44 0 (omega arith, omega arith))

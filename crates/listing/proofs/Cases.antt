@@ -46,8 +46,8 @@ page-of-changes :
     printed (listed
     (record { stratum = 10; fired = false } ∷ record { stratum = 1; fired = true } ∷ [])
     (record { slot = bytes "state-of-entry"; value = bytes "frozen" } ∷ record { slot = bytes "x"; value = bytes "1" } ∷ record { slot = bytes "label"; value = bytes "before-1800" } ∷ [])
-    (12 ∷ 175 ∷ 144 ∷ []) (record { answered = 1; refused = 20 }))
-    ≡ bytes "rule 1 stratum 10 idle\nrule 2 stratum 1 fired\nchange state-of-entry frozen\nchange x 1\nchange label before-1800\ncard 0CAF90\ntally 1 20\n"
+    (12 ∷ 175 ∷ 144 ∷ []) 40 (record { answered = 1; refused = 20 }))
+    ≡ bytes "rule 1 stratum 10 idle\nrule 2 stratum 1 fired\nchange state-of-entry frozen\nchange x 1\nchange label before-1800\ncard 0CAF90\ntally 40 1 20\n"
 unfolding printed rules-text rule-text fired-word changes-text change-text card-text tally-text hexadecimal decimal digits bytes bytes-from
 page-of-changes = refl
 

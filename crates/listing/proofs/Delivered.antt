@@ -3,19 +3,23 @@
 use Prim.Native.Nat.{ℕ}
 use native.Mathlib.Omega.{arith}
 use mathlib.Core.Path.{_≡_, refl, sym, ap, _∙_}
+use mathlib.Core.Bool.{true}
 use mathlib.Core.List.{List}
 use lib.ListN.{length, take, drop}
 use lib.Seq.{take-at}
 use Rattle.laws.specs.Answers.{OrRefused, taken, refused, written}
 use Rattle.table.specs.declared.Table.{Table}
+use Rattle.table.specs.declared.Way.the-variants.{Strata}
 use Rattle.tally.specs.declared.Tally.{Tally}
 use Rattle.tally.specs.Counting.{fresh}
+use Rattle.tally.specs.Editors.{Editors, is-editor}
 use Rattle.response.specs.declared.Outcome.the-variants.{Answered, Refused}
 use Rattle.response.specs.declared.Response.{Response}
 use Rattle.response.specs.Ending.{Answer}
-use Rattle.response.specs.Respond.{Outputs, outputs, outputs-after, answer-to, outcome-of, tally-after, response-in, response-to}
-use Rattle.listing.specs.Listing.{refusal, program-rooms, list-response}
+use Rattle.response.specs.Respond.{Outputs, outputs, outputs-after, answer-at, outcome-of, tally-after, response-at}
+use Rattle.listing.specs.Listing.{refusal, program-rooms, program-editors, list-response}
 use Rattle.listing.specs.inner.AnswerLines.{answer-bytes, list-answer}
+use Rattle.listing.proofs.Callers.{program-listed}
 
 -- What an outcome says of the answer.
 answered-e : (u : OrRefused Answer) (n f : ℕ) → outcome-of u ≡ Answered n f → (a : Answer) × (u ≡ taken a) × (length (a .changes) ≡ n)
@@ -34,7 +38,7 @@ front ys out n l = take-at ys (drop (length ys) out) n l
 
 module _ (text : List ℕ) (t : Table) (card slip : List ℕ) where
   abbrev answer : OrRefused Answer
-  answer = answer-to t fresh card slip program-rooms
+  answer = answer-at Strata t fresh card slip program-rooms
 
   -- An answer: its bytes stand at the front of the three outputs.
   pub record Delivered (n : ℕ) (y : Tally) (card-out changes-out fired-out : List ℕ) : Type 0 where
@@ -46,9 +50,9 @@ module _ (text : List ℕ) (t : Table) (card slip : List ℕ) where
     pub changes-front : take n changes-out ≡ shown .changes
     pub fired-front : take (length (shown .fired)) fired-out ≡ shown .fired
 
-  pub delivers : (r : Response) (n f : ℕ) (x y z first second third : List ℕ) → r ≡ response-to t fresh card slip program-rooms
+  pub delivers : (r : Response) (n f : ℕ) (x y z first second third : List ℕ) → r ≡ response-at Strata t fresh card slip program-rooms
       → outputs x y z ≡ outputs-after answer (outputs first second third) → r .outcome ≡ Answered n f → Delivered n (r .tally) x y z
-  unfolding response-in outputs-after
+  unfolding response-at outputs-after
   delivers r n f x y z first second third e p o =
       let w = answered-e answer n f (sym (ap (λ (q : Response). q .outcome) e) ∙ o) in
       let a = w .0 in
@@ -63,13 +67,12 @@ module _ (text : List ℕ) (t : Table) (card slip : List ℕ) where
         fired-front = ap (λ (v : Outputs). take (length (a .fired)) (v .fired)) q ∙ front (a .fired) third (length (a .fired)) refl;
       }
 
-  -- What is listed of it.
-  pub delivered-listed : (n k m : ℕ) (y : Tally) (x v z : List ℕ) (S : Delivered n y x v z) → k ≡ length (S .shown .new-card) → m ≡ length (S .shown .fired)
-      → list-answer text t (answer-bytes (take k x) (take n v) (take m z)) y ≡ list-response text t (taken (S .shown))
-  unfolding list-response
-  delivered-listed n k m y x v z S g h = rw (g, h, S .card-front, S .changes-front, S .fired-front, S .tally-is) refl
+  -- What is listed of it to an editor.
+  pub delivered-listed : (editor n k m : ℕ) (y : Tally) (x v z : List ℕ) (S : Delivered n y x v z) → is-editor editor ≡ true → k ≡ length (S .shown .new-card) → m ≡ length (S .shown .fired)
+      → list-answer text t (answer-bytes (take k x) (take n v) (take m z)) editor y ≡ list-response text t (program-editors editor) (taken (S .shown))
+  delivered-listed editor n k m y x v z S e g h = rw (g, h, S .card-front, S .changes-front, S .fired-front, S .tally-is) (sym (program-listed editor e text t (S .shown)))
 
   -- A refusal.
-  pub refused-listed : (r : Response) (k s : ℕ) → r ≡ response-to t fresh card slip program-rooms → r .outcome ≡ Refused k s → refusal k s ≡ list-response text t answer
-  unfolding response-in list-response
-  refused-listed r k s e o = rw (refused-e answer k s (sym (ap (λ (q : Response). q .outcome) e) ∙ o)) refl
+  pub refused-listed : (y : Editors) (r : Response) (k s : ℕ) → r ≡ response-at Strata t fresh card slip program-rooms → r .outcome ≡ Refused k s → refusal k s ≡ list-response text t y answer
+  unfolding response-at list-response
+  refused-listed y r k s e o = rw (refused-e answer k s (sym (ap (λ (q : Response). q .outcome) e) ∙ o)) refl

@@ -7,6 +7,7 @@ pub mod Placed
 pub mod Accepted
 pub mod Answered
 pub mod Small
+pub mod Callers
 pub mod Bounded
 pub mod Delivered
 pub mod Cut

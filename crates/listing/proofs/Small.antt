@@ -41,7 +41,7 @@ use Rattle.cards.proofs.Taken.{values-length, changes-length}
 use Rattle.tally.specs.declared.Tally.{Tally}
 use Rattle.tally.specs.Counting.{is-full}
 use Rattle.response.specs.Ending.{Answer, answer-of, unless-conflict, answer-by-firing}
-use Rattle.response.specs.Respond.{_and-then_, Rooms, changes-room, if-room, answer-by, answer-by-rules, answer-by-table, answer-in, answer-to}
+use Rattle.response.specs.Respond.{_and-then_, Rooms, changes-room, if-room, answer-by, answer-by-rules, answer-by-table, answer-at}
 
 -- Both numbers of a refusal.
 abbrev pub Small : ℕ → ℕ → Type 0
@@ -208,9 +208,9 @@ conflict-small width count S C ns h = go (ltb (conflict-slot width row C) width)
     go true e = (omega arith, omega (arith, h, ltb-true (conflict-slot width row C) width e))
     go false e = tt
 
--- The response by a table whose slots are within the limit.
-pub answer-small : (t : Table) (y : Tally) (card slip : List ℕ) (rooms : Rooms) → length (value-counts t) ≤ slot-limit → SmallAnswer (answer-to t y card slip rooms)
-unfolding answer-in answer-by-table answer-by-rules answer-by answer-by-firing
+-- The response at one record by a table whose slots are within the limit.
+pub answer-small : (t : Table) (y : Tally) (card slip : List ℕ) (rooms : Rooms) → length (value-counts t) ≤ slot-limit → SmallAnswer (answer-at Strata t y card slip rooms)
+unfolding answer-at answer-by-table answer-by-rules answer-by answer-by-firing
 answer-small t y card slip rooms h =
     small-cond (is-full y) (refused 32 0) _ (omega arith, omega arith)
     (small-cond (takes Strata t) _ (refused 31 0)

@@ -1,7 +1,7 @@
--- Document 01, 'The program': what is listed of a rule text, a card and a slip, from the tally 0 and 0.
+-- Document 01, 'The program': what is listed of a rule text, a card and a slip, from the tally 0 and 0; document 02, section 4: of an editor number too, which stands in the last line.
 use Prim.Native.Nat.{ℕ, suc, _+_}
-use mathlib.Core.Bool.{Bool}
-use mathlib.Core.List.{List, map}
+use mathlib.Core.Bool.{Bool, cond}
+use mathlib.Core.List.{List, [], _∷_, map}
 use Rattle.laws.specs.Limits.{text-limit, slot-limit, rule-limit}
 use Rattle.laws.specs.Packed.{byte-count}
 use Rattle.laws.specs.Tabulated.{tabulate}
@@ -15,10 +15,10 @@ use Rattle.rule_file.specs.Whole.{reading}
 use Rattle.laws.specs.Answers.{OrRefused, taken, refused}
 use Rattle.cards.specs.Forms.{card-bits, slip-bits, changes-in}
 use Rattle.tally.specs.declared.Tally.{Tally}
-use Rattle.tally.specs.Counting.{fresh}
+use Rattle.tally.specs.Editors.{Editors, lent, fresh-records, has-record, record-at}
 use Rattle.results.specs.Record.{bit-of}
 use Rattle.response.specs.Ending.{Answer}
-use Rattle.response.specs.Respond.{Rooms, changes-room, answer-to, tally-after}
+use Rattle.response.specs.Respond.{Rooms, changes-room, answer-to, records-after}
 
 -- The line of a rule: its stratum, and whether it fired.
 pub record RuleLine : Type 0 where
@@ -30,14 +30,24 @@ pub record ChangeLine : Type 0 where
   pub slot : List ℕ
   pub value : List ℕ
 
--- What is listed: the rules in number order, the changes in slot order, the bytes of the new card, and the tally; or a refusal.
+-- What is listed: the rules in number order, the changes in slot order, the bytes of the new card, the editor's number and record; or a refusal.
 pub data Listing : Type 0 where
-  listed : List RuleLine → List ChangeLine → List ℕ → Tally → Listing
+  listed : List RuleLine → List ChangeLine → List ℕ → ℕ → Tally → Listing
   refusal : ℕ → ℕ → Listing
 
 -- The program's outputs are as long as any answer needs: as many slots, changes and rules as a file may have.
 abbrev pub program-rooms : Rooms
 program-rooms = record { for-card = byte-count (card-bits slot-limit); for-changes = changes-room; for-fired = byte-count rule-limit }
+
+-- The number that the bytes of an editor file hold: the one byte that there is, else 0, which is no editor's.
+unfoldable pub editor-number : List ℕ → ℕ
+editor-number (b ∷ []) = b
+editor-number [] = 0
+editor-number (b ∷ c ∷ bs) = 0
+
+-- The program's records: forty that are fresh.
+abbrev pub program-editors : ℕ → Editors
+program-editors n = lent fresh-records n
 
 -- The line of rule n.
 abbrev pub rule-line : Table → Answer → ℕ → RuleLine
@@ -47,22 +57,26 @@ rule-line t a n = record { stratum = stratum-at t n; fired = bit-of (a .fired) n
 abbrev pub change-line : List ℕ → Table → Pair → ChangeLine
 change-line text t p = record { slot = show-slot text t (p .slot) .part; value = show-value text t (p .slot) (p .value) .part }
 
--- The listing of a response.
-unfoldable pub list-response : List ℕ → Table → OrRefused Answer → Listing
-list-response text t (taken a) =
-    listed (tabulate (λ i. rule-line t a (suc i)) (t .count)) (map (change-line text t) (changes-in (a .changes))) (a .new-card) (tally-after fresh (taken a))
-list-response text t (refused k s) = refusal k s
+-- The listing of a response, with the record that it leaves the caller.
+unfoldable pub list-response : List ℕ → Table → Editors → OrRefused Answer → Listing
+list-response text t y (taken a) =
+    listed (tabulate (λ i. rule-line t a (suc i)) (t .count)) (map (change-line text t) (changes-in (a .changes))) (a .new-card) (y .caller) (record-at (records-after y (taken a)) (y .caller))
+list-response text t y (refused k s) = refusal k s
 
 -- The listing of what a reading comes to.
-unfoldable pub list-reading : List ℕ → reader.Outcome → Table → List ℕ → List ℕ → Listing
-list-reading text Accepted t card slip = list-response text t (answer-to t fresh card slip program-rooms)
-list-reading text (Refused k n) t card slip = refusal k n
+unfoldable pub list-reading : List ℕ → reader.Outcome → Table → Editors → List ℕ → List ℕ → Listing
+list-reading text Accepted t y card slip = list-response text t y (answer-to t y card slip program-rooms)
+list-reading text (Refused k n) t y card slip = refusal k n
 
--- The listing of a rule text, a card and a slip.
-unfoldable pub listing : List ℕ → List ℕ → List ℕ → Listing
-listing text card slip = list-reading text (reading text .outcome) (reading text .table) card slip
+-- 44 comes before the reading too.
+unfoldable pub listing-in : List ℕ → Editors → List ℕ → List ℕ → Listing
+listing-in text y card slip = cond (has-record y) (list-reading text (reading text .outcome) (reading text .table) y card slip) (refusal 44 0)
 
--- What the program reads of its three files: a byte more than a text may have, and a byte more than a card and a slip of the highest count that six bits hold. `listing-cut` says that the rest makes no difference.
+-- The listing of a rule text, a card, a slip and the bytes of an editor file.
+unfoldable pub listing : List ℕ → List ℕ → List ℕ → List ℕ → Listing
+listing text card slip editor = listing-in text (program-editors (editor-number editor)) card slip
+
+-- What the program reads of its four files: a byte more than a text may have, a byte more than a card and a slip of the highest count that six bits hold, and a byte more than an editor file has. `listing-cut` says that the rest makes no difference.
 abbrev pub text-room : ℕ
 text-room = text-limit + 1
 
@@ -71,3 +85,6 @@ card-room = byte-count (card-bits 63) + 1
 
 abbrev pub slip-room : ℕ
 slip-room = byte-count (slip-bits 63) + 1
+
+abbrev pub editor-room : ℕ
+editor-room = 2

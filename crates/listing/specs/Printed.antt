@@ -75,9 +75,9 @@ changes-text (c ∷ cs) = change-text c ++ changes-text cs
 unfoldable pub card-text : List ℕ → List ℕ
 card-text card = bytes "card " ++ (hexadecimal card ++ bytes "\n")
 
--- The line of the tally: answered and refused.
-unfoldable pub tally-text : Tally → List ℕ
-tally-text y = bytes "tally " ++ (decimal (y .answered) ++ (bytes " " ++ (decimal (y .refused) ++ bytes "\n")))
+-- The line of the tally: the editor, answered and refused.
+unfoldable pub tally-text : ℕ → Tally → List ℕ
+tally-text n y = bytes "tally " ++ (decimal n ++ (bytes " " ++ (decimal (y .answered) ++ (bytes " " ++ (decimal (y .refused) ++ bytes "\n")))))
 
 -- The line of a refusal: its number and its second number.
 unfoldable pub refusal-text : ℕ → ℕ → List ℕ
@@ -94,14 +94,14 @@ abbrev pub card-text-most : ℕ
 card-text-most = 6 + 2 * byte-count (card-bits slot-limit)
 
 abbrev pub tally-text-most : ℕ
-tally-text-most = 10
+tally-text-most = 13
 
 abbrev pub page : ℕ
 page = rule-limit * rule-text-most + slot-limit * change-text-most + card-text-most + tally-text-most
 
 -- What the program prints of a listing: rules in number order, changes in slot order, the new card, the tally; or the one line of a refusal.
 unfoldable pub printed : Listing → List ℕ
-printed (listed rs cs card y) = rules-text 1 rs ++ (changes-text cs ++ (card-text card ++ tally-text y))
+printed (listed rs cs card n y) = rules-text 1 rs ++ (changes-text cs ++ (card-text card ++ tally-text n y))
 printed (refusal k s) = refusal-text k s
 
 -- An output once bytes are listed into it: they stand at its front and the rest is as it was, where it has room for them; else it is as it was.

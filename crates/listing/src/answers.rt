@@ -1,4 +1,4 @@
-// An answer: the lines of rules and changes, the new card and the tally; and a refusal's line.
+// An answer: the lines of rules and changes, the new card, the editor and the tally; and a refusal's line.
 ghost use Prim.Native.Nat.{_+_, _≤_};
 ghost use lib.ListN.{length};
 ghost use Rattle.laws.specs.Limits.{rule-limit};
@@ -23,13 +23,15 @@ fn put_card(out: &mut [u8], at: usize, card: &[u8]) -> usize
     put(out, shown, b"\n")
 }
 
-// Puts the line of the tally: answered and refused.
-fn put_tally(out: &mut [u8], at: usize, tally: Tally) -> usize
-    requires { ⌜ at + length (tally-text tally) ≤ longest ⌝ }
-    ensures { λ r. ⌜ Puts (now (out .entry)) at (tally-text tally) (now (out .exit)) r ⌝ }
+// Puts the line of the tally: the editor, answered and refused.
+fn put_tally(out: &mut [u8], at: usize, editor: usize, tally: Tally) -> usize
+    requires { ⌜ at + length (tally-text editor tally) ≤ longest ⌝ }
+    ensures { λ r. ⌜ Puts (now (out .entry)) at (tally-text editor tally) (now (out .exit)) r ⌝ }
 {
     let begun = put(out, at, b"tally ");
-    let first = put_number(out, begun, tally.answered as usize);
+    let named = put_number(out, begun, editor);
+    let opened = put(out, named, b" ");
+    let first = put_number(out, opened, tally.answered as usize);
     let parted = put(out, first, b" ");
     let second = put_number(out, parted, tally.refused as usize);
     put(out, second, b"\n")
@@ -54,13 +56,14 @@ pub fn put_answer(
     card: &[u8],
     changes: &[u8],
     bits: &[u8],
+    editor: usize,
     tally: Tally,
 ) -> usize
-    requires { ⌜ (t .count ≤ rule-limit) × ChangesWhole (t .width) (now changes) × (length (printed (list-answer (now text) t (answer-bytes (now card) (now changes) (now bits)) tally)) ≤ longest) ⌝ }
-    ensures { λ r. ⌜ Puts (now (out .entry)) 0 (printed (list-answer (now (text .entry)) t (answer-bytes (now (card .entry)) (now (changes .entry)) (now (bits .entry))) tally)) (now (out .exit)) r ⌝ }
+    requires { ⌜ (t .count ≤ rule-limit) × ChangesWhole (t .width) (now changes) × (length (printed (list-answer (now text) t (answer-bytes (now card) (now changes) (now bits)) editor tally)) ≤ longest) ⌝ }
+    ensures { λ r. ⌜ Puts (now (out .entry)) 0 (printed (list-answer (now (text .entry)) t (answer-bytes (now (card .entry)) (now (changes .entry)) (now (bits .entry))) editor tally)) (now (out .exit)) r ⌝ }
 {
     let ruled = put_rules(out, 0, t, bits);
     let changed = put_changes(out, ruled, text, t, changes);
     let carded = put_card(out, changed, card);
-    put_tally(out, carded, tally)
+    put_tally(out, carded, editor, tally)
 }

@@ -1,14 +1,15 @@
-// What the program prints of a rule text, a card and a slip: document 01, 'The program'.
+// What the program prints of a rule text, a card, a slip and an editor number: document 01, 'The program', and document 02, section 4.
 ghost use mathlib.Core.Path.{_≡_};
+ghost use mathlib.Core.Bool.{true};
 ghost use Prim.Native.Nat.{_≤_};
 ghost use lib.ListN.{length};
 ghost use Rattle.laws.specs.Limits.{rule-limit};
-ghost use Rattle.tally.specs.Counting.{fresh};
+ghost use Rattle.tally.specs.Editors.{is-editor};
 ghost use Rattle.response.specs.Respond.{answer-to};
 ghost use Rattle.reader.specs.declared.Outcome.the-variants.{Accepted};
 ghost use Rattle.rule_file.specs.Whole.{reading};
 ghost use Rattle.writing.specs.inner.Puts.{longest};
-ghost use Rattle.listing.specs.Listing.{refusal, program-rooms, list-response, listing};
+ghost use Rattle.listing.specs.Listing.{refusal, program-rooms, editor-number, program-editors, list-response, listing};
 ghost use Rattle.listing.specs.Printed.{printed, placed};
 ghost use Rattle.listing.specs.inner.AnswerLines.{answer-bytes, list-answer, ChangesWhole};
 use answers::put_answer;
@@ -20,6 +21,7 @@ use table::SLOTS;
 use table::Table;
 use table::Way;
 use tally::Tally;
+use tally::is_editor;
 use text::NAME_LIMIT;
 
 pub mod answers;
@@ -27,8 +29,8 @@ pub mod changes;
 pub mod numbers;
 pub mod rules;
 
-// The most bytes that the program prints of any rule text, card and slip.
-pub const PAGE: usize = RULES * 27 + SLOTS * (9 + 2 * NAME_LIMIT) + (6 + 2 * CARD) + 10;
+// The most bytes that the program prints of any rule text, card, slip and editor number.
+pub const PAGE: usize = RULES * 27 + SLOTS * (9 + 2 * NAME_LIMIT) + (6 + 2 * CARD) + 13;
 
 // Room for every new card, for all changes and for every fired record: as many slots, changes and rules as a file may have.
 const CARD: usize = (6 + 4 * SLOTS + 7) / 8;
@@ -37,12 +39,14 @@ const CHANGES: usize = (6 + 9 * SLOTS + 7) / 8;
 
 const RECORD: usize = (RULES + 7) / 8;
 
-// What the program reads of its three files: a byte more than a text may have, and a byte more than a card and a slip of the highest count that six bits hold.
+// What the program reads of its four files: a byte more than a text may have, a byte more than a card and a slip of the highest count that six bits hold, and a byte more than an editor file has.
 pub const TEXT_ROOM: usize = TEXT_LIMIT + 1;
 
 pub const CARD_ROOM: usize = (6 + 4 * 63 + 7) / 8 + 1;
 
 pub const SLIP_ROOM: usize = (6 + 9 * 63 + 7) / 8 + 1;
+
+pub const EDITOR_ROOM: usize = 2;
 
 // Lists a refusal: counted first, with no room to write, then written where the output has room.
 fn list_refusal(number: u8, second: usize, out: &mut [u8]) -> usize
@@ -63,26 +67,34 @@ fn list_answer(
     card: &[u8],
     changes: &[u8],
     bits: &[u8],
+    editor: usize,
     tally: Tally,
     out: &mut [u8],
 ) -> usize
-    requires { ⌜ (t .count ≤ rule-limit) × ChangesWhole (t .width) (now changes) × (length (printed (list-answer (now text) t (answer-bytes (now card) (now changes) (now bits)) tally)) ≤ longest) ⌝ }
-    ensures { λ r. ⌜ (r ≡ length (printed (list-answer (now (text .entry)) t (answer-bytes (now (card .entry)) (now (changes .entry)) (now (bits .entry))) tally)))
-        × (now (out .exit) ≡ placed (printed (list-answer (now (text .entry)) t (answer-bytes (now (card .entry)) (now (changes .entry)) (now (bits .entry))) tally)) (now (out .entry))) ⌝ }
+    requires { ⌜ (t .count ≤ rule-limit) × ChangesWhole (t .width) (now changes) × (length (printed (list-answer (now text) t (answer-bytes (now card) (now changes) (now bits)) editor tally)) ≤ longest) ⌝ }
+    ensures { λ r. ⌜ (r ≡ length (printed (list-answer (now (text .entry)) t (answer-bytes (now (card .entry)) (now (changes .entry)) (now (bits .entry))) editor tally)))
+        × (now (out .exit) ≡ placed (printed (list-answer (now (text .entry)) t (answer-bytes (now (card .entry)) (now (changes .entry)) (now (bits .entry))) editor tally)) (now (out .entry))) ⌝ }
 {
     let mut nowhere: [u8; 1] = [0; 1];
-    let size = put_answer(&mut nowhere, text, t, card, changes, bits, tally);
+    let size = put_answer(&mut nowhere, text, t, card, changes, bits, editor, tally);
     if out.len() < size {
         return size;
     }
-    put_answer(out, text, t, card, changes, bits, tally)
+    put_answer(out, text, t, card, changes, bits, editor, tally)
 }
 
-// Lists the response by an accepted text's table, from a tally of 0 and 0.
-fn list_response(text: &[u8], t: Table, card: &[u8], slip: &[u8], out: &mut [u8]) -> usize
-    requires { ⌜ (reading (now text) .outcome ≡ Accepted) × (t ≡ reading (now text) .table) ⌝ }
-    ensures { λ r. ⌜ (r ≡ length (printed (list-response (now (text .entry)) t (answer-to t fresh (now (card .entry)) (now (slip .entry)) program-rooms))))
-        × (now (out .exit) ≡ placed (printed (list-response (now (text .entry)) t (answer-to t fresh (now (card .entry)) (now (slip .entry)) program-rooms))) (now (out .entry))) ⌝ }
+// Lists the response to an editor's slip by an accepted text's table, from a tally of 0 and 0.
+fn list_response(
+    text: &[u8],
+    t: Table,
+    editor: usize,
+    card: &[u8],
+    slip: &[u8],
+    out: &mut [u8],
+) -> usize
+    requires { ⌜ (reading (now text) .outcome ≡ Accepted) × (t ≡ reading (now text) .table) × (is-editor editor ≡ true) ⌝ }
+    ensures { λ r. ⌜ (r ≡ length (printed (list-response (now (text .entry)) t (program-editors editor) (answer-to t (program-editors editor) (now (card .entry)) (now (slip .entry)) program-rooms))))
+        × (now (out .exit) ≡ placed (printed (list-response (now (text .entry)) t (program-editors editor) (answer-to t (program-editors editor) (now (card .entry)) (now (slip .entry)) program-rooms))) (now (out .entry))) ⌝ }
 {
     let tally = Tally {
         answered: 0,
@@ -104,6 +116,7 @@ fn list_response(text: &[u8], t: Table, card: &[u8], slip: &[u8], out: &mut [u8]
                 &renewed[..n],
                 &changes[..length],
                 &bits[..m],
+                editor,
                 after,
                 out,
             );
@@ -114,17 +127,31 @@ fn list_response(text: &[u8], t: Table, card: &[u8], slip: &[u8], out: &mut [u8]
     }
 }
 
-// Lists any rule text, card and slip of any length: says how many bytes the program prints, and puts them at the front of the output where it has room for them, else leaves it.
-pub fn list(text: &[u8], card: &[u8], slip: &[u8], out: &mut [u8]) -> usize
-    ensures { λ r. ⌜ (r ≡ length (printed (listing (now (text .entry)) (now (card .entry)) (now (slip .entry)))))
-        × (now (out .exit) ≡ placed (printed (listing (now (text .entry)) (now (card .entry)) (now (slip .entry)))) (now (out .entry))) ⌝ }
+// The number that the bytes of an editor file hold: the one byte that there is, else 0.
+fn editor_number(bytes: &[u8]) -> usize
+    ensures { λ r. ⌜ r ≡ editor-number (now (bytes .entry)) ⌝ }
 {
+    if bytes.len() != 1 {
+        return 0;
+    }
+    bytes[0] as usize
+}
+
+// Lists any rule text, card, slip and editor file of any length: says how many bytes the program prints, and puts them at the front of the output where it has room for them, else leaves it.
+pub fn list(text: &[u8], card: &[u8], slip: &[u8], editor: &[u8], out: &mut [u8]) -> usize
+    ensures { λ r. ⌜ (r ≡ length (printed (listing (now (text .entry)) (now (card .entry)) (now (slip .entry)) (now (editor .entry)))))
+        × (now (out .exit) ≡ placed (printed (listing (now (text .entry)) (now (card .entry)) (now (slip .entry)) (now (editor .entry)))) (now (out .entry))) ⌝ }
+{
+    let caller = editor_number(editor);
+    if !is_editor(caller) {
+        return list_refusal(44, 0, out);
+    }
     let read = rule_file::read(text, Way::Strata);
     let outcome = read.outcome;
     let t = read.table;
     match outcome {
         reader::Outcome::Accepted => {
-            return list_response(text, t, card, slip, out);
+            return list_response(text, t, caller, card, slip, out);
         }
         reader::Outcome::Refused(number, second) => {
             return list_refusal(number, second, out);

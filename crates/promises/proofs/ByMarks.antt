@@ -15,7 +15,7 @@ use Rattle.soundness.proofs.Taken.{sound-taken}
 use Rattle.rule_file.specs.Whole.{reading, reading-without-18}
 use Rattle.rule_file.proofs.Answers.{reading-passes, reading-no-refusal}
 use Rattle.rule_file.proofs.Unlayered.{unlayered-taken}
-use Rattle.tally.specs.declared.Tally.{Tally}
+use Rattle.tally.specs.Editors.{Editors}
 use Rattle.response.specs.Respond.{Outputs}
 use Rattle.promises.specs.Returned.{IsAccepted}
 use Rattle.promises.specs.ByMarks.{BothCalled, ByMarks}
@@ -27,7 +27,7 @@ use Rattle.promises.proofs.ByMarksRead.{read-iff, read-carried, read-ru
 use Rattle.promises.proofs.ByMarksTables.{marks-31-iff, stratum-0-by-strata, stratum-0-unpacking, stratum-0-packing, same-by-both}
 
 -- The two responses, with the tables of a text that test 18 accepts.
-both : (text : List ℕ) (f : File) → Is-file text f → IsAccepted text → (y : Tally) (card slip : List ℕ) (o : Outputs) → BothCalled f (reading-without-18 text .table) (reading text .table) y card slip o
+both : (text : List ℕ) (f : File) → Is-file text f → IsAccepted text → (y : Editors) (card slip : List ℕ) (o : Outputs) → BothCalled f (reading-without-18 text .table) (reading text .table) y card slip o
 both text f h a y card slip o = record {
   neither-41-nor-42 = same-unless-refused f D z t (unlayered-taken text) (read-rules text f h) (read-counts text f h) t′ (sound-taken ways.Strata t′ (reading-passes text)) (w .0) (w .1) y card slip o;
   refused-before-40 = same-earlier f D z t (unlayered-taken text) (read-rules text f h) (read-counts text f h) t′ (sound-taken ways.Strata t′ (reading-passes text)) (w .0) (w .1) y card slip o;

@@ -16,12 +16,13 @@ use Rattle.table.specs.Link.{rules-of, value-counts}
 use Rattle.soundness.specs.Sound.{takes}
 use Rattle.grammar.specs.Files.{File, slot-counts}
 use Rattle.grammar.proofs.Declared.{Declared-file}
-use Rattle.tally.specs.declared.Tally.{Tally}
+use Rattle.tally.specs.Editors.{Editors}
 use Rattle.response.specs.Ending.{Answer, unless-refused, answer-by-marks}
 use Rattle.response.specs.Respond.{Rooms, Outputs, rooms-of, answer-by, answer-in, response-in, outcome-of, response-refusal, response-second}
+use Rattle.promises.specs.Returned.{number-in, second-in}
 use Rattle.promises.specs.Paper.{PaperAnswer}
 use Rattle.promises.specs.Selections.{HandedIn, file-pairs, our-selection, SelectionsAgree, OwedAnswer}
-use Rattle.promises.specs.ByMarks.{number-in, second-in, MarksAnswered, MarksCalled}
+use Rattle.promises.specs.ByMarks.{MarksAnswered, MarksCalled}
 use Rattle.promises.proofs.Ends.{Final, taken-response, in-order-comes, ends-in-order}
 use Rattle.promises.proofs.Engines.{taken-no-31}
 use Rattle.promises.proofs.Returned.{answers, number-0, number-above}
@@ -45,7 +46,7 @@ three-numbers f S I = go (no-clash (file-pairs f) (f .rules) S I (our-selection 
     go true false = inr (inr refl)
     go false known = inr (inl refl)
 
-module _ (f : File) (D : Declared-file f) (t : Table) (h : T (takes Marks t)) (r : rules-of t ≡ f .rules) (n : value-counts t ≡ slot-counts (f .slots)) (y : Tally) (card slip : List ℕ) (o : Outputs) where
+module _ (f : File) (D : Declared-file f) (t : Table) (h : T (takes Marks t)) (r : rules-of t ≡ f .rules) (n : value-counts t ≡ slot-counts (f .slots)) (y : Editors) (card slip : List ℕ) (o : Outputs) where
   abbrev rooms : Rooms
   rooms = rooms-of (o .card) (o .changes) (o .fired)
 

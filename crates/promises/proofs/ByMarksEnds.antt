@@ -10,7 +10,7 @@ use lib.Dec.{T}
 use lib.ListN.{length}
 use Rattle.laws.specs.Truth.{notᵇ}
 use Rattle.laws.specs.Listed.{all-of}
-use Rattle.laws.specs.Answers.{passed, taken, refused}
+use Rattle.laws.specs.Answers.{passed, taken}
 use Rattle.laws.proofs.Truth.{not-e}
 use Rattle.laws.proofs.Equations.{from-true}
 use Rattle.model.specs.Rules.{Pair, among}

@@ -27,14 +27,13 @@ use Rattle.grammar.specs.Pieces.{Rearranges}
 use Rattle.grammar.proofs.Declared.{file-declared}
 use Rattle.rule_file.specs.Whole.{reading-without-18}
 use Rattle.cards.proofs.Having.{slip-tested}
-use Rattle.tally.specs.declared.Tally.{Tally}
-use Rattle.tally.specs.Counting.{is-full}
+use Rattle.tally.specs.Editors.{Editors}
 use Rattle.results.specs.Record.{bit-of}
 use Rattle.response.specs.Ending.{Answer, fired-record, answer-of, unless-refused, answer-by-marks}
 use Rattle.response.specs.Respond.{Rooms, answer-by, marks-answer-to, response-in}
 use Rattle.promises.specs.Agreement.{SameResponse, same-refusal, same-answer, new-place}
 use Rattle.promises.specs.Selections.{UnmovedMarks}
-use Rattle.promises.proofs.Moved.{MovedFile, moved-file, same-cond, same-by-rules, same-told, moved-bit, as-many}
+use Rattle.promises.proofs.Moved.{MovedFile, moved-file, same-by-record, same-by-rules, same-told, moved-bit, as-many}
 use Rattle.promises.proofs.ByMarksEnds.{file-declares}
 use Rattle.promises.proofs.ByMarksRead.{read-response}
 
@@ -113,10 +112,10 @@ unmoved-marks text f h text′ R = record {
     f′ : File
     f′ = record { slots = f .slots; rules = moved .rules }
 
-    same : (y : Tally) (card slip : List ℕ) (rooms : Rooms) → SameResponse (new-place R) (marks-answer-to (reading-without-18 text .table) y card slip rooms) (marks-answer-to (reading-without-18 text′ .table) y card slip rooms)
+    same : (y : Editors) (card slip : List ℕ) (rooms : Rooms) → SameResponse (new-place R) (marks-answer-to (reading-without-18 text .table) y card slip rooms) (marks-answer-to (reading-without-18 text′ .table) y card slip rooms)
     same y card slip rooms =
         rw (read-response text f h y card slip rooms, read-response text′ f′ (moved .is-file) y card slip rooms)
-        (same-cond (new-place R) (is-full y) 32 0 _ _
+        (same-by-record (new-place R) y _ _
         (same-by-rules (new-place R) ways.Marks (slot-counts (f .slots)) (f .rules) (moved .rules) (p-length (moved .perm)) card slip rooms
         (λ S I e. same-by-marks (slot-counts (f .slots)) (f .rules) (moved .rules) (moved .perm) S I
         (file-declares f (file-declared text f h) I (slip-tested (slot-counts (f .slots)) slip I e)) (file-declares f′ (file-declared text′ f′ (moved .is-file)) I (slip-tested (slot-counts (f .slots)) slip I e)) (new-place R) (moved .places))))

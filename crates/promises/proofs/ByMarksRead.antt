@@ -22,7 +22,7 @@ use Rattle.rule_file.specs.Whole.{reading, reading-without-18}
 use Rattle.rule_file.specs.Carries.{CarriesBy}
 use Rattle.rule_file.proofs.Answers.{reading-no-refusal}
 use Rattle.rule_file.proofs.Unlayered.{unlayered-accepted-iff, unlayered-no-refusal, unlayered-carries, unlayered-stratum-0, unlayered-taken, accepted-both, accepted-18, refused-both, refused-without-18}
-use Rattle.tally.specs.declared.Tally.{Tally}
+use Rattle.tally.specs.Editors.{Editors}
 use Rattle.response.specs.Respond.{Rooms, answer-in}
 use Rattle.promises.specs.Returned.{IsAccepted}
 use Rattle.promises.specs.ByMarks.{IsRead}
@@ -46,7 +46,7 @@ module _ (text : List ℕ) (f : File) (h : Is-file text f) where
   read-counts = let w = read-carried in w .0 .counts-are ∙ ap (λ (g : File). slot-counts (g .slots)) (w .1)
 
   -- The response by marks goes by the file's slots and rules.
-  pub read-response : (y : Tally) (card slip : List ℕ) (rooms : Rooms) → answer-in Marks (reading-without-18 text .table) y card slip rooms ≡ comes Marks f y card slip rooms
+  pub read-response : (y : Editors) (card slip : List ℕ) (rooms : Rooms) → answer-in Marks (reading-without-18 text .table) y card slip rooms ≡ comes Marks f y card slip rooms
   read-response = taken-response Marks f (reading-without-18 text .table) (unlayered-taken text) read-rules read-counts
 
 -- What is refused without test 18 is refused with it, with both numbers,

@@ -39,12 +39,12 @@ use Rattle.grammar.specs.Files.{File, slot-counts}
 use Rattle.grammar.proofs.Declared.{Declared-file}
 use Rattle.cards.specs.Forms.{card-bytes, slip-bytes}
 use Rattle.cards.proofs.Having.{slip-tested}
-use Rattle.tally.specs.declared.Tally.{Tally}
-use Rattle.response.specs.declared.Response.{Response}
+use Rattle.tally.specs.Editors.{Editors}
 use Rattle.response.specs.Ending.{Answer, fired-record, answer-of, unless-conflict, answer-by-firing, unless-refused, answer-by-marks}
-use Rattle.response.specs.Respond.{Rooms, Outputs, rooms-of, answer-by, answer-in, response-in, outcome-of, outputs-after, response-refusal, tally-after}
+use Rattle.response.specs.Respond.{Rooms, Outputs, rooms-of, answer-by, answer-in, response-in, outcome-of, outputs-after, response-refusal, records-after, Responded}
+use Rattle.promises.specs.Returned.{number-in}
 use Rattle.promises.specs.Selections.{HandedIn, file-pairs, our-selection}
-use Rattle.promises.specs.ByMarks.{number-in, SameReturned}
+use Rattle.promises.specs.ByMarks.{SameReturned}
 use Rattle.promises.proofs.Bounds.{changes-bounded}
 use Rattle.promises.proofs.Conflicts.{unless-conflict-taken, none-lowest}
 use Rattle.promises.proofs.Ends.{comes, taken-response, in-order-or-before, in-order-comes, ends-in-order}
@@ -53,11 +53,11 @@ use Rattle.promises.proofs.ByMarksEnds.{file-declares, marks-answer}
 use Rattle.promises.proofs.ByMarksCalled.{three-numbers, in-order-numbers, handed-41, handed-42}
 
 -- What is told of equal answers, and what they leave, is the same.
-pub same-returned : (way way′ : Way) (t t′ : Table) (y : Tally) (card slip : List ℕ) (o : Outputs)
+pub same-returned : (way way′ : Way) (t t′ : Table) (y : Editors) (card slip : List ℕ) (o : Outputs)
     → answer-in way t y card slip (rooms-of (o .card) (o .changes) (o .fired)) ≡ answer-in way′ t′ y card slip (rooms-of (o .card) (o .changes) (o .fired)) → SameReturned way way′ t t′ y card slip o
 unfolding response-in
 same-returned way way′ t t′ y card slip o e = record {
-  same-told = ap (λ (u : OrRefused Answer). record { outcome = outcome-of u; tally = tally-after y u }) e;
+  same-told = ap (λ (u : OrRefused Answer). record { outcome = outcome-of u; records = records-after y u }) e;
   same-left = ap (λ (u : OrRefused Answer). outputs-after u o) e;
 }
 
@@ -77,7 +77,7 @@ firing-numbers f S I = go (ltb (conflict-slot (length (slot-counts (f .slots))) 
     go true s a = inr refl
     go false s a = inl refl
 
-module _ (f : File) (D : Declared-file f) (z : circle-of weak (f .rules) ≡ 0) (y : Tally) (card slip : List ℕ) (rooms : Rooms) where
+module _ (f : File) (D : Declared-file f) (z : circle-of weak (f .rules) ≡ 0) (y : Editors) (card slip : List ℕ) (rooms : Rooms) where
   abbrev width : ℕ
   width = length (slot-counts (f .slots))
 
@@ -127,7 +127,7 @@ module _ (f : File) (D : Declared-file f) (z : circle-of weak (f .rules) ≡ 0) 
 module _ (f : File) (D : Declared-file f) (z : circle-of weak (f .rules) ≡ 0)
     (t : Table) (h : T (takes ways.Marks t)) (r : rules-of t ≡ f .rules) (n : value-counts t ≡ slot-counts (f .slots))
     (t′ : Table) (h′ : T (takes ways.Strata t′)) (r′ : rules-of t′ ≡ f .rules) (n′ : value-counts t′ ≡ slot-counts (f .slots))
-    (y : Tally) (card slip : List ℕ) (o : Outputs) where
+    (y : Editors) (card slip : List ℕ) (o : Outputs) where
   abbrev rooms : Rooms
   rooms = rooms-of (o .card) (o .changes) (o .fired)
 
@@ -173,7 +173,7 @@ module _ (f : File) (D : Declared-file f) (z : circle-of weak (f .rules) ≡ 0)
 
     -- Answered by marks, answered by strata, and back.
     forth : by-marks ≡ 0 → by-strata ≡ 0
-    forth e = sym (ap (λ (x : Response). response-refusal (x .outcome)) (same-unless-refused (λ k. omega (arith, e, k)) (λ k. omega (arith, e, k)) .same-told)) ∙ e
+    forth e = sym (ap (λ (x : Responded). response-refusal (x .outcome)) (same-unless-refused (λ k. omega (arith, e, k)) (λ k. omega (arith, e, k)) .same-told)) ∙ e
 
     back : by-strata ≡ 0 → by-marks ≡ 0
     unfolding answer-by

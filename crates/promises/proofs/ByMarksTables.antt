@@ -27,13 +27,13 @@ use Rattle.rule_file.proofs.Answers.{reading-accepted-iff, reading-no-refusal}
 use Rattle.cards.specs.declared.Card.{Card}
 use Rattle.cards.specs.declared.Slip.{Slip}
 use Rattle.cards.specs.Cards.{if-sound, unpacked-card, unpacked-slip, packed-card, packed-slip, card-read, slip-read, packing-of, unpacking-refusal, unpacking-second, packing-refusal, packing-second}
-use Rattle.tally.specs.declared.Tally.{Tally}
+use Rattle.tally.specs.Editors.{Editors}
 use Rattle.response.specs.Ending.{Answer}
 use Rattle.response.specs.Respond.{Outputs, rooms-of, response-in, outcome-of, response-refusal, response-second}
-use Rattle.promises.specs.Returned.{IsAccepted, card-told, slip-told, card-packing, slip-packing}
-use Rattle.promises.specs.Reasons.{NotFull}
-use Rattle.promises.specs.ByMarks.{number-in, second-in, SameReturned}
-use Rattle.promises.proofs.Ends.{file-response, not-full-i}
+use Rattle.promises.specs.Returned.{IsAccepted, card-told, slip-told, card-packing, slip-packing, number-in, second-in}
+use Rattle.promises.specs.Reasons.{Countable}
+use Rattle.promises.specs.ByMarks.{SameReturned}
+use Rattle.promises.proofs.Ends.{file-response}
 use Rattle.promises.proofs.Engines.{exactly-31, taken-no-31}
 use Rattle.promises.proofs.Returned.{number-above}
 use Rattle.promises.proofs.ByMarksStrata.{same-returned}
@@ -48,14 +48,14 @@ takes-iff t = (
 )
 
 -- 31 by its number is given where the table is not taken, and with second number 0.
-numbers-31 : (way : Way) (t : Table) (y : Tally) (card slip : List ℕ) (o : Outputs) → NotFull y → ¬ T (takes way t) → (number-in way t y card slip o ≡ 31) × (second-in way t y card slip o ≡ 0)
+numbers-31 : (way : Way) (t : Table) (y : Editors) (card slip : List ℕ) (o : Outputs) → Countable y → ¬ T (takes way t) → (number-in way t y card slip o ≡ 31) × (second-in way t y card slip o ≡ 0)
 unfolding response-in outcome-of
 numbers-31 way t y card slip o n h =
-    let e = exactly-31 way t y card slip (rooms-of (o .card) (o .changes) (o .fired)) (not-full-i y n) .1 h in
+    let e = exactly-31 way t y card slip (rooms-of (o .card) (o .changes) (o .fired)) n .1 h in
     (ap (λ (u : OrRefused Answer). response-refusal (outcome-of u)) e, ap (λ (u : OrRefused Answer). response-second (outcome-of u)) e)
 
 -- By marks it is given nowhere else.
-pub marks-31-iff : (t : Table) (y : Tally) (card slip : List ℕ) (o : Outputs) → NotFull y
+pub marks-31-iff : (t : Table) (y : Editors) (card slip : List ℕ) (o : Outputs) → Countable y
     → (number-in Marks t y card slip o ≡ 31) ↔ (¬ (T (well-formed t) × (T (stratum-0 t) ⊎ LeastStrata weak (rules-of t) (stratum-at t))))
 marks-31-iff t y card slip o n = (
   λ e w. taken-no-31 Marks t (takes-iff t .1 w) y card slip (rooms-of (o .card) (o .changes) (o .fired)) _ (number-above Marks t y card slip o 31 (omega arith) e),
@@ -68,7 +68,7 @@ module _ (t : Table) (z : T (stratum-0 t)) (l : 0 < length (rules-of t)) where
   not-sound = is-false (sound t) (λ s. omega (arith, l, stratum-0-sound t (sound-parts t s .0) z .0 s))
 
   -- So it is 31 by strata, in unpacking and in packing.
-  pub stratum-0-by-strata : (y : Tally) (card slip : List ℕ) (o : Outputs) → NotFull y → (number-in Strata t y card slip o ≡ 31) × (second-in Strata t y card slip o ≡ 0)
+  pub stratum-0-by-strata : (y : Editors) (card slip : List ℕ) (o : Outputs) → Countable y → (number-in Strata t y card slip o ≡ 31) × (second-in Strata t y card slip o ≡ 0)
   stratum-0-by-strata y card slip o n = numbers-31 Strata t y card slip o n (λ h. rw (takes-strata t, not-sound) at h)
 
   pub stratum-0-unpacking : (ys : List ℕ) → (unpacking-refusal (card-told t ys .outcome) ≡ 31) × (unpacking-second (card-told t ys .outcome) ≡ 0)
@@ -82,7 +82,7 @@ module _ (t : Table) (z : T (stratum-0 t)) (l : 0 < length (rules-of t)) where
   stratum-0-packing card slip out = rw not-sound (refl, refl, refl, refl)
 
 -- Both tables of a text get the same.
-pub same-by-both : (text : List ℕ) → IsAccepted text → (y : Tally) (card slip : List ℕ) (o : Outputs) → SameReturned Marks Marks (reading-without-18 text .table) (reading text .table) y card slip o
+pub same-by-both : (text : List ℕ) → IsAccepted text → (y : Editors) (card slip : List ℕ) (o : Outputs) → SameReturned Marks Marks (reading-without-18 text .table) (reading text .table) y card slip o
 same-by-both text a y card slip o =
     let q = reading-no-refusal text a in
     let w = reading-accepted-iff text .1 q in

@@ -1,4 +1,4 @@
--- The lettered cases A to L of document 01 as one checked list, by evaluation: from the bytes of the text, the card and the slip to what is listed and to the bytes that the program prints.
+-- The lettered cases A to L of document 01 as one checked list, by evaluation: from the bytes of the text, the card, the slip and the editor file to what is listed and to the bytes that the program prints.
 -- Assumes nothing.
 use Prim.Native.Nat.{ℕ}
 use Prim.Native.String.{String}
@@ -6,6 +6,7 @@ use mathlib.Core.Path.{_≡_, refl}
 use mathlib.Core.Bool.{true, false}
 use mathlib.Core.List.{List, [], _∷_, _++_, map}
 use lib.Count.{ones}
+use lib.ListN.{replicate}
 use Rattle.laws.specs.Quoted.{bytes-from, bytes}
 use Rattle.laws.specs.Listed.{all-of}
 use Rattle.laws.specs.Words.{bit}
@@ -21,10 +22,11 @@ use Rattle.rule_file.proofs.Cases.{runs}
 use Rattle.laws.specs.Answers.{taken, refused, after}
 use Rattle.cards.specs.Forms.{card-fields, change-fields, slip-fields, card-bytes, slip-bytes, values-in, changes-in, values-test, card-test, change-fault, changes-test, read-card, read-slip}
 use Rattle.results.specs.Record.{bit-of, ones-in}
-use Rattle.response.specs.Ending.{fired-record, answer-of, unless-conflict, answer-by-firing}
-use Rattle.response.specs.Respond.{_and-then_, if-room, answer-by, answer-by-rules, answer-by-table, answer-to, answer-in, counted, tally-after}
-use Rattle.tally.specs.Counting.{fresh, is-full}
-use Rattle.listing.specs.Listing.{RuleLine, ChangeLine, Listing, listed, refusal, program-rooms, list-response, list-reading, listing}
+use Rattle.response.specs.Ending.{Answer, fired-record, answer-of, unless-conflict, answer-by-firing}
+use Rattle.tally.specs.Counting.{is-full}
+use Rattle.tally.specs.Editors.{is-editor, has-record}
+use Rattle.response.specs.Respond.{_and-then_, if-room, answer-by, answer-by-rules, answer-by-table, answer-at, answer-to, answer-in, counted, tally-after, records-after}
+use Rattle.listing.specs.Listing.{RuleLine, ChangeLine, Listing, listed, refusal, program-rooms, editor-number, program-editors, list-response, list-reading, listing-in, listing}
 use Rattle.listing.specs.Printed.{digits, decimal, hexadecimal, fired-word, rule-text, rules-text, change-text, changes-text, card-text, tally-text, refusal-text, printed}
 
 -- What 31 runs.
@@ -39,7 +41,7 @@ runs-cards = tt
 
 -- What a response and its listing run.
 unfoldable runs-response : Unit {0}
-unfolding fired-record ones ones-in answer-of unless-conflict answer-by-firing _and-then_ if-room answer-by answer-by-rules answer-by-table is-full answer-in counted tally-after show-name show-slot show-value-of show-value bit-of list-response list-reading listing
+unfolding fired-record ones ones-in answer-of unless-conflict answer-by-firing _and-then_ if-room answer-by answer-by-rules answer-by-table is-full answer-at is-editor has-record answer-in counted tally-after records-after show-name show-slot show-value-of show-value bit-of editor-number list-response list-reading listing-in listing
 runs-response = tt
 
 -- `unfolding lists` opens all that a listing runs.
@@ -84,9 +86,16 @@ y-to-1 = 0x04 ∷ 0x24 ∷ []
 abbrev pub x-to-0 : List ℕ
 x-to-0 = 0x04 ∷ 0x02 ∷ []
 
--- The text of case C: the rules a and b.
+-- The text of case C: the rules a and b; and that of case J, with TRUE in a place where it may not stand.
 abbrev pub text-C : List ℕ
 text-C = after-slots rule-a ++ bytes rule-b
+
+abbrev text-J : List ℕ
+text-J = after-slots "WHEN x *= 1 IF y |= 0 AND TRUE THEN z := 1;"
+
+-- The bytes of editor 7's file.
+abbrev editor-7 : List ℕ
+editor-7 = 7 ∷ []
 
 -- The lines of a rule, and of a change.
 abbrev fired : ℕ → RuleLine
@@ -98,11 +107,11 @@ idle n = record { stratum = n; fired = false }
 abbrev change : String → String → ChangeLine
 change s v = record { slot = bytes s; value = bytes v }
 
--- What is listed of an answer on a fresh tally, which leaves 1 and 0.
+-- What is listed of an answer to editor 7 on fresh records, which leaves that editor 1 and 0.
 abbrev shows-answer : List RuleLine → List ChangeLine → List ℕ → Listing
-shows-answer rs cs card = listed rs cs card (record { answered = 1; refused = 0 })
+shows-answer rs cs card = listed rs cs card 7 (record { answered = 1; refused = 0 })
 
--- A case: a text, a card and a slip, what is listed of them, and what the program prints.
+-- A case: a text, a card and a slip, which editor 7 hands in, what is listed of them, and what the program prints.
 pub record Case : Type 0 where
   pub text : List ℕ
   pub card : List ℕ
@@ -117,22 +126,22 @@ case text card slip u s = record { text = text; card = card; slip = slip; comes-
 -- F: a, b, card 0C 00 00: only x changes. G: a, slip x to 0: no rule fires. H: 40, slot 0. I: TRUE AND y |= 0 reads. J: y |= 0 AND TRUE is 12. K: card 0C 44 C0 is 22, slot 2. L: 0C 44 41 is 23.
 abbrev pub lettered : List Case
 lettered =
-    case (after-slots rule-a) all-0 x-to-1 (shows-answer (fired 1 ∷ []) (change "x" "1" ∷ change "z" "1" ∷ []) (0x0C ∷ 0x84 ∷ 0x80 ∷ [])) "rule 1 stratum 1 fired\nchange x 1\nchange z 1\ncard 0C8480\ntally 1 0\n"
-    ∷ case (after-slots rule-b) all-0 x-to-1 (shows-answer (idle 1 ∷ []) (change "x" "1" ∷ []) (0x0C ∷ 0x84 ∷ 0x40 ∷ [])) "rule 1 stratum 1 idle\nchange x 1\ncard 0C8440\ntally 1 0\n"
-    ∷ case text-C all-0 x-to-1 (shows-answer (fired 1 ∷ fired 1 ∷ []) (change "x" "1" ∷ change "y" "1" ∷ change "z" "1" ∷ []) (0x0C ∷ 0x88 ∷ 0x80 ∷ [])) "rule 1 stratum 1 fired\nrule 2 stratum 1 fired\nchange x 1\nchange y 1\nchange z 1\ncard 0C8880\ntally 1 0\n"
-    ∷ case (after-slots rule-a ++ bytes rule-c) all-0 y-to-1 (shows-answer (idle 1 ∷ idle 1 ∷ []) (change "y" "1" ∷ []) (0x0C ∷ 0x48 ∷ 0x40 ∷ [])) "rule 1 stratum 1 idle\nrule 2 stratum 1 idle\nchange y 1\ncard 0C4840\ntally 1 0\n"
-    ∷ case (after-slots rule-d ++ bytes rule-e) all-0 y-to-1 (shows-answer (idle 2 ∷ fired 1 ∷ []) (change "x" "1" ∷ change "y" "1" ∷ []) (0x0C ∷ 0x88 ∷ 0x40 ∷ [])) "rule 1 stratum 2 idle\nrule 2 stratum 1 fired\nchange x 1\nchange y 1\ncard 0C8840\ntally 1 0\n"
-    ∷ case text-C no-values x-to-1 (shows-answer (idle 1 ∷ idle 1 ∷ []) (change "x" "1" ∷ []) (0x0C ∷ 0x80 ∷ 0x00 ∷ [])) "rule 1 stratum 1 idle\nrule 2 stratum 1 idle\nchange x 1\ncard 0C8000\ntally 1 0\n"
-    ∷ case (after-slots rule-a) all-0 x-to-0 (shows-answer (idle 1 ∷ []) (change "x" "0" ∷ []) all-0) "rule 1 stratum 1 idle\nchange x 0\ncard 0C4440\ntally 1 0\n"
+    case (after-slots rule-a) all-0 x-to-1 (shows-answer (fired 1 ∷ []) (change "x" "1" ∷ change "z" "1" ∷ []) (0x0C ∷ 0x84 ∷ 0x80 ∷ [])) "rule 1 stratum 1 fired\nchange x 1\nchange z 1\ncard 0C8480\ntally 7 1 0\n"
+    ∷ case (after-slots rule-b) all-0 x-to-1 (shows-answer (idle 1 ∷ []) (change "x" "1" ∷ []) (0x0C ∷ 0x84 ∷ 0x40 ∷ [])) "rule 1 stratum 1 idle\nchange x 1\ncard 0C8440\ntally 7 1 0\n"
+    ∷ case text-C all-0 x-to-1 (shows-answer (fired 1 ∷ fired 1 ∷ []) (change "x" "1" ∷ change "y" "1" ∷ change "z" "1" ∷ []) (0x0C ∷ 0x88 ∷ 0x80 ∷ [])) "rule 1 stratum 1 fired\nrule 2 stratum 1 fired\nchange x 1\nchange y 1\nchange z 1\ncard 0C8880\ntally 7 1 0\n"
+    ∷ case (after-slots rule-a ++ bytes rule-c) all-0 y-to-1 (shows-answer (idle 1 ∷ idle 1 ∷ []) (change "y" "1" ∷ []) (0x0C ∷ 0x48 ∷ 0x40 ∷ [])) "rule 1 stratum 1 idle\nrule 2 stratum 1 idle\nchange y 1\ncard 0C4840\ntally 7 1 0\n"
+    ∷ case (after-slots rule-d ++ bytes rule-e) all-0 y-to-1 (shows-answer (idle 2 ∷ fired 1 ∷ []) (change "x" "1" ∷ change "y" "1" ∷ []) (0x0C ∷ 0x88 ∷ 0x40 ∷ [])) "rule 1 stratum 2 idle\nrule 2 stratum 1 fired\nchange x 1\nchange y 1\ncard 0C8840\ntally 7 1 0\n"
+    ∷ case text-C no-values x-to-1 (shows-answer (idle 1 ∷ idle 1 ∷ []) (change "x" "1" ∷ []) (0x0C ∷ 0x80 ∷ 0x00 ∷ [])) "rule 1 stratum 1 idle\nrule 2 stratum 1 idle\nchange x 1\ncard 0C8000\ntally 7 1 0\n"
+    ∷ case (after-slots rule-a) all-0 x-to-0 (shows-answer (idle 1 ∷ []) (change "x" "0" ∷ []) all-0) "rule 1 stratum 1 idle\nchange x 0\ncard 0C4440\ntally 7 1 0\n"
     ∷ case (after-slots "WHEN x *= 1 IF TRUE THEN x := 0;") all-0 x-to-1 (refusal 40 0) "refused 40 0\n"
-    ∷ case (after-slots "WHEN x *= 1 IF TRUE AND y |= 0 THEN z := 1;") all-0 x-to-1 (shows-answer (fired 1 ∷ []) (change "x" "1" ∷ change "z" "1" ∷ []) (0x0C ∷ 0x84 ∷ 0x80 ∷ [])) "rule 1 stratum 1 fired\nchange x 1\nchange z 1\ncard 0C8480\ntally 1 0\n"
-    ∷ case (after-slots "WHEN x *= 1 IF y |= 0 AND TRUE THEN z := 1;") all-0 x-to-1 (refusal 12 0) "refused 12 0\n"
+    ∷ case (after-slots "WHEN x *= 1 IF TRUE AND y |= 0 THEN z := 1;") all-0 x-to-1 (shows-answer (fired 1 ∷ []) (change "x" "1" ∷ change "z" "1" ∷ []) (0x0C ∷ 0x84 ∷ 0x80 ∷ [])) "rule 1 stratum 1 fired\nchange x 1\nchange z 1\ncard 0C8480\ntally 7 1 0\n"
+    ∷ case text-J all-0 x-to-1 (refusal 12 0) "refused 12 0\n"
     ∷ case text-C (0x0C ∷ 0x44 ∷ 0xC0 ∷ []) x-to-1 (refusal 22 2) "refused 22 2\n"
     ∷ case text-C (0x0C ∷ 0x44 ∷ 0x41 ∷ []) x-to-1 (refusal 23 0) "refused 23 0\n"
     ∷ []
 
 -- The lettered cases, A to L.
-pub cases : map (λ (q : Case). listing (q .text) (q .card) (q .slip)) lettered ≡ map (λ (q : Case). q .comes-to) lettered
+pub cases : map (λ (q : Case). listing (q .text) (q .card) (q .slip) editor-7) lettered ≡ map (λ (q : Case). q .comes-to) lettered
 unfolding lists
 cases = refl
 
@@ -142,12 +151,24 @@ unfolding lists digits decimal hexadecimal fired-word rule-text rules-text chang
 runs-prints = tt
 
 -- What the program prints of each of them, byte for byte.
-pub cases-printed : map (λ (q : Case). printed (listing (q .text) (q .card) (q .slip))) lettered ≡ map (λ (q : Case). bytes (q .prints)) lettered
+pub cases-printed : map (λ (q : Case). printed (listing (q .text) (q .card) (q .slip) editor-7)) lettered ≡ map (λ (q : Case). bytes (q .prints)) lettered
 unfolding runs-prints
 cases-printed = refl
 
--- The bytes of case C: the new card, the changes and the fired record; two rules fired, and the tally counts one answered.
-pub case-C-bytes : answer-to (reading text-C .table) fresh all-0 x-to-1 program-rooms
-    ≡ taken (record { new-card = 0x0C ∷ 0x88 ∷ 0x80 ∷ []; changes = 0x0C ∷ 0x04 ∷ 0x12 ∷ 0x11 ∷ 0x00 ∷ []; fired = 0xC0 ∷ [] })
+-- Editor files that are not one number from 1 to 40: a byte 0, a byte 41, two bytes, and none.
+abbrev no-editors : List (List ℕ)
+no-editors = (0 ∷ []) ∷ (41 ∷ []) ∷ (7 ∷ 7 ∷ []) ∷ [] ∷ []
+
+-- With these the text of J, which is 12 otherwise, is refused with 44, and so is that of C, which is answered otherwise.
+pub cases-44 : map (λ (editor : List ℕ). printed (listing text-J all-0 x-to-1 editor)) no-editors ++ map (λ (editor : List ℕ). printed (listing text-C all-0 x-to-1 editor)) no-editors
+    ≡ replicate 8 (bytes "refused 44 0\n")
+unfolding runs-prints
+cases-44 = refl
+
+-- The bytes of case C: the new card, the changes and the fired record; two rules fired.
+abbrev pub answer-C : Answer
+answer-C = record { new-card = 0x0C ∷ 0x88 ∷ 0x80 ∷ []; changes = 0x0C ∷ 0x04 ∷ 0x12 ∷ 0x11 ∷ 0x00 ∷ []; fired = 0xC0 ∷ [] }
+
+pub case-C-bytes : answer-to (reading text-C .table) (program-editors 7) all-0 x-to-1 program-rooms ≡ taken answer-C
 unfolding lists
 case-C-bytes = refl

@@ -2,15 +2,10 @@
 -- Assumes nothing.
 use Prim.Native.Nat.{ℕ}
 use mathlib.Core.Path.{_≡_, refl, sym, ap, subst}
-use mathlib.Core.Bool.{Bool, true, false, cond}
 use mathlib.Core.List.{List}
 use mathlib.Core.Logic.{inl, inr, ⊎-elim}
-use lib.Dec.{leb, leb→le}
 use lib.ListN.{length}
 use Rattle.laws.specs.Answers.{OrRefused, taken, refused, written, output-of}
-use Rattle.laws.specs.Limits.{tally-limit}
-use Rattle.laws.proofs.Equations.{from-true}
-use Rattle.laws.proofs.Truth.{or-e}
 use Rattle.model.specs.Rules.{Pair}
 use Rattle.table.specs.declared.Table.{Table}
 use Rattle.table.specs.declared.Way.{Way}
@@ -30,15 +25,16 @@ use Rattle.rule_file.proofs.Unlayered.{unlayered-accepted-iff}
 use Rattle.printing.specs.Printing.{print-of, print-into, printing-of, printing-refusal, printing-second, printing-length}
 use Rattle.cards.specs.Forms.{values-in, changes-in, card-bytes, slip-bytes, read-card, read-slip, write-card, write-slip}
 use Rattle.cards.specs.Cards.{card-values, changes-of, card-of, slip-of, no-card, no-slip, if-sound, unpacked-card, unpacked-slip, packed-card, packed-slip, card-read, slip-read, packing-of, unpacking-refusal, unpacking-second, packing-refusal, packing-second, packing-length}
-use Rattle.tally.specs.declared.Tally.{Tally}
-use Rattle.tally.specs.Counting.{is-full, one-answered}
-use Rattle.tally.proofs.TallyLaws.{room-left}
+use Rattle.tally.specs.Counting.{one-answered}
+use Rattle.tally.specs.Editors.{Editors, own-record, with-record}
 use Rattle.response.specs.Ending.{Answer}
-use Rattle.response.specs.Respond.{Rooms, Outputs, rooms-of, response-refusal, response-second, outcome-of, answer-by-table, answer-in, counted, tally-after, response-in, outputs-after}
+use Rattle.response.specs.Respond.{Rooms, Outputs, rooms-of, response-refusal, response-second, outcome-of, answer-by-table, answer-in, counted, records-after, response-in, outputs-after}
 use Rattle.promises.specs.Returned.{AnswersIn}
-use Rattle.promises.specs.Reasons.{FileReason, FileRight, PrintReason, PrintRight, own, print-over, print-room, CardReason, CardRight, PackedCardReason, PackedCardRight, SlipReason, SlipRight, PackedSlipReason, PackedSlipRight, TableReason, RulesReason, RulesRight, Full, NotFull, ResponseReason, full-tally, of-table}
-use Rattle.promises.specs.Refusals.{Comes, Passes, TallyRefused, Demand1}
+use Rattle.promises.specs.Reasons.{FileReason, FileRight, PrintReason, PrintRight, own, print-over, print-room, CardReason, CardRight, PackedCardReason, PackedCardRight, SlipReason, SlipRight, PackedSlipReason, PackedSlipRight, TableReason, RulesReason, RulesRight, HasRecord, Full, Countable, ResponseReason, no-record, full-record, of-table}
+use Rattle.promises.specs.Refusals.{Comes, Passes, RecordsRefused, Demand1}
+use Rattle.promises.proofs.Callers.{Caller, has-none, has-full, can-count, caller-of, left-44, left-32, left-on}
 use Rattle.promises.proofs.Refusals.{Other, only-e, by-table-other}
+use Rattle.promises.proofs.Engines.{always-44, always-full, comes-by-table}
 use Rattle.promises.proofs.Judged.{Judged, card-judged, slip-judged, packed-card-judged, packed-slip-judged}
 use Rattle.promises.proofs.ResponseReasons.{judged-more, test-judged, table-judged}
 use Rattle.promises.proofs.Returned.{answers}
@@ -90,39 +86,44 @@ by-table t R P u a j =
     test-judged (sound t) R (λ b. Passes (sound t) P × (b ≡ a)) u (λ p. judged-more R R (λ b. (b ≡ a) × P) (λ b. Passes (sound t) P × (b ≡ a)) u j (λ k s r. r) (λ b h. (record { passes = p; right = h .1 }, h .0)))
 
 -- A response.
-module _ (way : Way) (t : Table) (y : Tally) (card slip : List ℕ) (o : Outputs) where
+module _ (way : Way) (t : Table) (y : Editors) (card slip : List ℕ) (o : Outputs) where
   abbrev rooms : Rooms
   rooms = rooms-of (o .card) (o .changes) (o .fired)
+
+  abbrev given : OrRefused Answer
+  given = answer-by-table way t card slip rooms
 
   -- What is told, counted and left of what a response comes to.
   abbrev Back : OrRefused Answer → Type 0
   Back u =
       Comes (ResponseReason way t y card slip rooms) (response-refusal (outcome-of u)) (response-second (outcome-of u))
-      ((a : Answer) × NotFull y × Passes (takes way t) (RulesRight way (value-counts t) (rules-of t) card slip rooms a) × AnswersIn way t y card slip o a × (tally-after y u ≡ one-answered y))
-      ((outputs-after u o ≡ o) × TallyRefused (response-refusal (outcome-of u)) y (tally-after y u))
+      ((a : Answer) × Countable y × Passes (takes way t) (RulesRight way (value-counts t) (rules-of t) card slip rooms a) × AnswersIn way t y card slip o a × (records-after y u ≡ with-record y (one-answered (own-record y))))
+      ((outputs-after u o ≡ o) × RecordsRefused (response-refusal (outcome-of u)) y (records-after y u))
 
-  full-by : is-full y ≡ true → Full y
-  unfolding is-full
-  full-by e = ⊎-elim (λ l. inl (leb→le tally-limit (y .answered) l)) (λ l. inr (leb→le tally-limit (y .refused) l)) (or-e (leb tally-limit (y .answered)) (leb tally-limit (y .refused)) (from-true (is-full y) e))
+  -- 44 and 32 leave all as it was.
+  none : ¬ HasRecord y → Back (refused 44 0)
+  unfolding outcome-of outputs-after
+  none n = inr (no-record n, (refl, record { counted = λ a b. absurd (a refl); not-counted = λ z. left-44 y n (refused 44 0) }))
 
-  full : is-full y ≡ true → Back (refused 32 0)
-  unfolding outcome-of outputs-after tally-after
-  full e = inr (full-tally (full-by e), (refl, record { counted = λ n. absurd (n refl); not-counted = λ z. rw e refl }))
+  full : HasRecord y → Full (own-record y) → Back (refused 32 0)
+  unfolding outcome-of outputs-after
+  full h f = inr (full-record h f, (refl, record { counted = λ a b. absurd (b refl); not-counted = λ z. left-32 y h f (refused 32 0) }))
 
-  not-full : is-full y ≡ false → (u : OrRefused Answer) → answer-by-table way t card slip rooms ≡ u → answer-in way t y card slip rooms ≡ u
+  -- What the table gives is counted.
+  counts : Countable y → (u : OrRefused Answer) → given ≡ u → answer-in way t y card slip rooms ≡ u
       → Judged (TableReason (takes way t) (RulesReason way (value-counts t) (rules-of t) card slip rooms)) (λ a. Passes (takes way t) (RulesRight way (value-counts t) (rules-of t) card slip rooms a)) u → Back u
-  unfolding outcome-of outputs-after tally-after counted
-  not-full e (taken a) b c j = inl (refl, refl, (a, room-left y e, j, answers way t y card slip o a c, rw e refl))
-  not-full e (refused k s) b c j =
-      inr (of-table (room-left y e) j, (refl, record { counted = λ n. rw e refl; not-counted = λ z. absurd (only-e (Other 32) _ k s (by-table-other way t card slip rooms) b z) }))
+  unfolding outcome-of outputs-after counted
+  counts c (taken a) b e j = inl (refl, refl, (a, c, j, answers way t y card slip o a e, left-on y c (taken a)))
+  counts c (refused k s) b e j =
+      inr (of-table c j, (refl, record { counted = λ m n. left-on y c (refused k s); not-counted = λ z. ⊎-elim (λ q. absurd (only-e (Other 44) given k s (by-table-other way t card slip rooms 44 tt) b q)) (λ q. absurd (only-e (Other 32) given k s (by-table-other way t card slip rooms 32 tt) b q)) z }))
 
   response-back : Back (answer-in way t y card slip rooms)
-  unfolding answer-in
-  response-back = go (is-full y) refl
+  response-back = go (caller-of y)
     where
-      go : (b : Bool) → is-full y ≡ b → Back (cond b (refused 32 0) (answer-by-table way t card slip rooms))
-      go true e = full e
-      go false e = not-full e (answer-by-table way t card slip rooms) refl (rw e refl) (table-judged way t card slip rooms)
+      go : Caller y → Back (answer-in way t y card slip rooms)
+      go (has-none n) = subst Back (sym (always-44 way t y card slip rooms n)) (none n)
+      go (has-full h f) = subst Back (sym (always-full way t y card slip rooms h f)) (full h f)
+      go (can-count c) = let e = comes-by-table way t y card slip rooms c in subst Back (sym e) (counts c given refl e (table-judged way t card slip rooms))
 
 -- DEMAND 1.
 pub demand-1 : Demand1

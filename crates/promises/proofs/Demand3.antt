@@ -17,7 +17,7 @@ use Rattle.grammar.proofs.Declared.{Declared-file, file-declared}
 use Rattle.rule_file.proofs.Answers.{reading-accepted-iff}
 use Rattle.laws.specs.Answers.{OrRefused, taken, refused}
 use Rattle.cards.proofs.Having.{card-tested, slip-tested}
-use Rattle.tally.specs.declared.Tally.{Tally}
+use Rattle.tally.specs.Editors.{Editors}
 use Rattle.response.specs.Ending.{Answer, answer-by-firing}
 use Rattle.response.specs.Respond.{Rooms, answer-by}
 use Rattle.promises.specs.Agreement.{responds, Shows, LowestConflict, Agreed, Demand3}
@@ -39,11 +39,11 @@ demand-3 text f h o = record {
     declared : Declared-file f
     declared = file-declared text f h
 
-    ends : (y : Tally) (card slip : List ℕ) (rooms : Rooms) (w : OrRefused Answer) → Final w → responds text y card slip rooms ≡ w
+    ends : (y : Editors) (card slip : List ℕ) (rooms : Rooms) (w : OrRefused Answer) → Final w → responds text y card slip rooms ≡ w
         → (d : HandedIn f y card slip rooms) × (answer-by Strata (slot-counts (f .slots)) (f .rules) (d .S) (d .I) ≡ w)
     ends y card slip rooms w l e = ends-in-order f y card slip rooms Strata w l (sym (file-response Strata text f h o y card slip rooms) ∙ e)
 
-    shows-answer : (y : Tally) (card slip : List ℕ) (rooms : Rooms) (a : Answer) (d : HandedIn f y card slip rooms) → answer-by Strata (slot-counts (f .slots)) (f .rules) (d .S) (d .I) ≡ taken a
+    shows-answer : (y : Editors) (card slip : List ℕ) (rooms : Rooms) (a : Answer) (d : HandedIn f y card slip rooms) → answer-by Strata (slot-counts (f .slots)) (f .rules) (d .S) (d .I) ≡ taken a
         → Agreed f card slip (λ S I ns. Shows f S I a ns)
     shows-answer y card slip rooms a d e =
         let c = card-tested (slot-counts (f .slots)) card (d .S) (d .card-is) in
@@ -54,7 +54,7 @@ demand-3 text f h o = record {
         agreed f declared z (d .S) (d .I) c i card slip (d .card-is) (d .slip-is) (λ S I ns. Shows f S I a ns)
         (λ ns A. subst (λ (x : Answer). Shows f (d .S) (d .I) x ns) (w .1) (shows-order f declared z (d .S) (d .I) c i (w .0) ns A))
 
-    conflicting : (y : Tally) (card slip : List ℕ) (rooms : Rooms) (s : ℕ) (d : HandedIn f y card slip rooms) → answer-by Strata (slot-counts (f .slots)) (f .rules) (d .S) (d .I) ≡ refused 40 s
+    conflicting : (y : Editors) (card slip : List ℕ) (rooms : Rooms) (s : ℕ) (d : HandedIn f y card slip rooms) → answer-by Strata (slot-counts (f .slots)) (f .rules) (d .S) (d .I) ≡ refused 40 s
         → Agreed f card slip (λ S I ns. LowestConflict (changes (f .rules) I ns) s)
     conflicting y card slip rooms s d e =
         let c = card-tested (slot-counts (f .slots)) card (d .S) (d .card-is) in

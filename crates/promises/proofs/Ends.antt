@@ -2,16 +2,14 @@
 -- Assumes nothing.
 use Prim.Native.Nat.{ℕ}
 use mathlib.Core.Path.{_≡_, refl, sym, ap, subst, _∙_}
-use mathlib.Core.Bool.{Bool, true, false, cond}
+use mathlib.Core.Bool.{Bool, true, false}
 use mathlib.Core.List.{List, [], _∷_}
 use mathlib.Core.Logic.{_⊎_, inl, inr, ⊎-elim}
 use lib.Dec.{T, ltb}
 use lib.ListN.{length}
-use borrow.Author.Tests.{ltb-false, le-ltb, lt-leb}
+use borrow.Author.Tests.{ltb-false, le-ltb}
 use Rattle.laws.specs.Answers.{OrRefused, taken, refused}
-use Rattle.laws.specs.Limits.{tally-limit}
 use Rattle.laws.specs.Packed.{byte-count}
-use Rattle.laws.specs.Truth.{_∨ᵇ_}
 use Rattle.laws.proofs.Equations.{is-true}
 use Rattle.model.specs.Rules.{Pair}
 use Rattle.model.specs.Strata.{weak}
@@ -28,23 +26,22 @@ use Rattle.reader.specs.declared.Outcome.the-variants.{Accepted}
 use Rattle.rule_file.specs.Whole.{reading}
 use Rattle.rule_file.proofs.Answers.{reading-carries, reading-passes}
 use Rattle.cards.specs.Forms.{card-bits, read-card, read-slip}
-use Rattle.tally.specs.declared.Tally.{Tally}
-use Rattle.tally.specs.Counting.{is-full}
-use Rattle.tally.proofs.TallyLaws.{room-left}
+use Rattle.tally.specs.Editors.{Editors}
 use Rattle.response.specs.Ending.{Answer}
-use Rattle.response.specs.Respond.{_and-then_, Rooms, changes-room, if-room, answer-by, answer-by-rules, answer-by-table, answer-in}
-use Rattle.promises.specs.Reasons.{NotFull}
+use Rattle.response.specs.Respond.{_and-then_, Rooms, changes-room, if-room, answer-by, answer-by-rules, answer-by-table, answer-at, answer-in}
+use Rattle.promises.specs.Reasons.{Countable}
 use Rattle.promises.specs.Selections.{HandedIn}
+use Rattle.promises.proofs.Callers.{Caller, has-none, has-full, can-count, caller-of, by-record, comes-44, comes-32, comes-on}
 use Rattle.promises.proofs.Refusals.{OneOf, of-card, of-slip, Other, only-e, one-of-other, card-refused, slip-refused}
 
 -- What comes of a call by the slots and rules of a file.
-abbrev pub comes : Way → File → Tally → List ℕ → List ℕ → Rooms → OrRefused Answer
-comes way f y card slip rooms = cond (is-full y) (refused 32 0) (answer-by-rules way (slot-counts (f .slots)) (f .rules) card slip rooms)
+abbrev pub comes : Way → File → Editors → List ℕ → List ℕ → Rooms → OrRefused Answer
+comes way f y card slip rooms = by-record y (answer-by-rules way (slot-counts (f .slots)) (f .rules) card slip rooms)
 
 -- So responds a table that is taken and has these.
-pub taken-response : (way : Way) (f : File) (t : Table) → T (takes way t) → rules-of t ≡ f .rules → value-counts t ≡ slot-counts (f .slots) → (y : Tally) (card slip : List ℕ) (rooms : Rooms)
+pub taken-response : (way : Way) (f : File) (t : Table) → T (takes way t) → rules-of t ≡ f .rules → value-counts t ≡ slot-counts (f .slots) → (y : Editors) (card slip : List ℕ) (rooms : Rooms)
     → answer-in way t y card slip rooms ≡ comes way f y card slip rooms
-unfolding answer-in answer-by-table
+unfolding answer-in answer-at answer-by-table
 taken-response way f t h r n y card slip rooms = rw (is-true (takes way t) h, r, n)
 
 -- The table of an accepted text has its file's rules and as many values for each slot,
@@ -55,7 +52,7 @@ file-table text f h o =
     (c .rules-are ∙ ap (λ (g : File). g .rules) e, c .counts-are ∙ ap (λ (g : File). slot-counts (g .slots)) e)
 
 -- so it responds by them;
-pub file-response : (way : Way) (text : List ℕ) (f : File) → Is-file text f → reading text .outcome ≡ Accepted → (y : Tally) (card slip : List ℕ) (rooms : Rooms)
+pub file-response : (way : Way) (text : List ℕ) (f : File) → Is-file text f → reading text .outcome ≡ Accepted → (y : Editors) (card slip : List ℕ) (rooms : Rooms)
     → answer-in way (reading text .table) y card slip rooms ≡ comes way f y card slip rooms
 file-response way text f h o =
     let w = file-table text f h o in taken-response way f (reading text .table) (sound-taken way (reading text .table) (reading-passes text)) (w .0) (w .1)
@@ -65,11 +62,6 @@ pub file-no-circle : (text : List ℕ) (f : File) → Is-file text f → reading
 file-no-circle text f h o =
     let c = reading-carries text o in
     sym (ap (λ (g : File). circle-of weak (g .rules)) (one-meaning text (c .file) f (c .is-file) h)) ∙ c .no-circle
-
--- A tally is not full by its test exactly where it is not.
-pub not-full-i : (y : Tally) → NotFull y → is-full y ≡ false
-unfolding is-full _∨ᵇ_
-not-full-i y h = rw (lt-leb tally-limit (y .answered) (h .0), lt-leb tally-limit (y .refused) (h .1))
 
 -- The refusals of what rules come to.
 abbrev pub of-end : List ℕ
@@ -91,7 +83,7 @@ earlier ns a b c k h (inr (inl e)) = b k h e
 earlier ns a b c k h (inr (inr (inl e))) = c k h e
 earlier ns a b c k h (inr (inr (inr x))) = x
 
-module _ (f : File) (y : Tally) (card slip : List ℕ) (rooms : Rooms) where
+module _ (f : File) (y : Editors) (card slip : List ℕ) (rooms : Rooms) where
   abbrev counts : List ℕ
   counts = slot-counts (f .slots)
 
@@ -102,41 +94,47 @@ module _ (f : File) (y : Tally) (card slip : List ℕ) (rooms : Rooms) where
   abbrev pub Before : Type 0
   Before = (k : ℕ) × (s : ℕ) × Earlier k × ((way : Way) → comes way f y card slip rooms ≡ refused k s)
 
-  -- One or the other, by the outputs' room, the slip, the card and the tally.
-  by-room : is-full y ≡ false → (S : List ℕ) → read-card counts card ≡ taken S → (I : List Pair) → read-slip counts slip ≡ taken I
+  -- Where the slip can be counted it is what the rules give.
+  counted-comes : Countable y → (way : Way) → comes way f y card slip rooms ≡ answer-by-rules way counts (f .rules) card slip rooms
+  counted-comes c way = comes-on y c (answer-by-rules way counts (f .rules) card slip rooms)
+
+  -- One or the other, by the outputs' room, the slip, the card and the caller.
+  by-room : Countable y → (S : List ℕ) → read-card counts card ≡ taken S → (I : List Pair) → read-slip counts slip ≡ taken I
       → (a b c : Bool) → ltb (rooms .for-card) (byte-count (card-bits width)) ≡ a → ltb (rooms .for-changes) changes-room ≡ b → ltb (rooms .for-fired) (byte-count (length (f .rules))) ≡ c
       → HandedIn f y card slip rooms ⊎ Before
   unfolding answer-by-rules _and-then_ if-room
-  by-room e S p I q true b c u v w = inr (30, 1, (λ x. one-of-other of-end 30 tt 30 x refl), λ way. rw (e, p, q, u) refl)
-  by-room e S p I q false true c u v w = inr (30, 2, (λ x. one-of-other of-end 30 tt 30 x refl), λ way. rw (e, p, q, u, v) refl)
-  by-room e S p I q false false true u v w = inr (30, 3, (λ x. one-of-other of-end 30 tt 30 x refl), λ way. rw (e, p, q, u, v, w) refl)
+  by-room e S p I q true b c u v w = inr (30, 1, (λ x. one-of-other of-end 30 tt 30 x refl), λ way. counted-comes e way ∙ rw (p, q, u) refl)
+  by-room e S p I q false true c u v w = inr (30, 2, (λ x. one-of-other of-end 30 tt 30 x refl), λ way. counted-comes e way ∙ rw (p, q, u, v) refl)
+  by-room e S p I q false false true u v w = inr (30, 3, (λ x. one-of-other of-end 30 tt 30 x refl), λ way. counted-comes e way ∙ rw (p, q, u, v, w) refl)
   by-room e S p I q false false false u v w =
-      inl (record { not-full = room-left y e; S = S; I = I; card-is = p; slip-is = q; room = record { for-card = ltb-false _ _ u; for-changes = ltb-false _ _ v; for-fired = ltb-false _ _ w } })
+      inl (record { countable = e; S = S; I = I; card-is = p; slip-is = q; room = record { for-card = ltb-false _ _ u; for-changes = ltb-false _ _ v; for-fired = ltb-false _ _ w } })
 
-  by-slip : is-full y ≡ false → (S : List ℕ) → read-card counts card ≡ taken S → (u : OrRefused (List Pair)) → read-slip counts slip ≡ u → HandedIn f y card slip rooms ⊎ Before
+  by-slip : Countable y → (S : List ℕ) → read-card counts card ≡ taken S → (u : OrRefused (List Pair)) → read-slip counts slip ≡ u → HandedIn f y card slip rooms ⊎ Before
   unfolding answer-by-rules _and-then_
   by-slip e S p (taken I) q = by-room e S p I q _ _ _ refl refl refl
   by-slip e S p (refused k s) q =
-      inr (k, s, earlier of-slip (one-of-other of-slip 40 tt) (one-of-other of-slip 41 tt) (one-of-other of-slip 42 tt) k (only-e (OneOf of-slip) (read-slip counts slip) k s (slip-refused counts slip) q), λ way. rw (e, p, q) refl)
+      inr (k, s, earlier of-slip (one-of-other of-slip 40 tt) (one-of-other of-slip 41 tt) (one-of-other of-slip 42 tt) k (only-e (OneOf of-slip) (read-slip counts slip) k s (slip-refused counts slip) q), λ way. counted-comes e way ∙ rw (p, q) refl)
 
-  by-card : is-full y ≡ false → (u : OrRefused (List ℕ)) → read-card counts card ≡ u → HandedIn f y card slip rooms ⊎ Before
+  by-card : Countable y → (u : OrRefused (List ℕ)) → read-card counts card ≡ u → HandedIn f y card slip rooms ⊎ Before
   unfolding answer-by-rules _and-then_
   by-card e (taken S) p = by-slip e S p (read-slip counts slip) refl
   by-card e (refused k s) p =
-      inr (k, s, earlier of-card (one-of-other of-card 40 tt) (one-of-other of-card 41 tt) (one-of-other of-card 42 tt) k (only-e (OneOf of-card) (read-card counts card) k s (card-refused counts card) p), λ way. rw (e, p) refl)
+      inr (k, s, earlier of-card (one-of-other of-card 40 tt) (one-of-other of-card 41 tt) (one-of-other of-card 42 tt) k (only-e (OneOf of-card) (read-card counts card) k s (card-refused counts card) p), λ way. counted-comes e way ∙ rw p refl)
 
-  by-tally : (b : Bool) → is-full y ≡ b → HandedIn f y card slip rooms ⊎ Before
-  by-tally true e = inr (32, 0, (λ x. one-of-other of-end 32 tt 32 x refl), λ way. rw e refl)
-  by-tally false e = by-card e (read-card counts card) refl
+  by-caller : Caller y → HandedIn f y card slip rooms ⊎ Before
+  by-caller (has-none n) = inr (44, 0, (λ x. one-of-other of-end 44 tt 44 x refl), λ way. comes-44 y n (answer-by-rules way counts (f .rules) card slip rooms))
+  by-caller (has-full h l) = inr (32, 0, (λ x. one-of-other of-end 32 tt 32 x refl), λ way. comes-32 y h l (answer-by-rules way counts (f .rules) card slip rooms))
+  by-caller (can-count e) = by-card e (read-card counts card) refl
 
   -- All is in order, or it is refused before.
   pub in-order-or-before : HandedIn f y card slip rooms ⊎ Before
-  in-order-or-before = by-tally (is-full y) refl
+  in-order-or-before = by-caller (caller-of y)
 
   -- Where all is in order it is what the rules come to.
   pub in-order-comes : (way : Way) (d : HandedIn f y card slip rooms) → comes way f y card slip rooms ≡ answer-by way counts (f .rules) (d .S) (d .I)
   unfolding answer-by-rules _and-then_ if-room
-  in-order-comes way d = rw (not-full-i y (d .not-full), d .card-is, d .slip-is, le-ltb _ _ (d .room .for-card), le-ltb _ _ (d .room .for-changes), le-ltb _ _ (d .room .for-fired)) refl
+  in-order-comes way d =
+      counted-comes (d .countable) way ∙ rw (d .card-is, d .slip-is, le-ltb _ _ (d .room .for-card), le-ltb _ _ (d .room .for-changes), le-ltb _ _ (d .room .for-fired)) refl
 
   -- And only there does it end so.
   pub ends-in-order : (way : Way) (w : OrRefused Answer) → Final w → comes way f y card slip rooms ≡ w → (d : HandedIn f y card slip rooms) × (answer-by way counts (f .rules) (d .S) (d .I) ≡ w)

@@ -32,8 +32,8 @@ use Rattle.rule_file.specs.Carries.{Carries}
 use Rattle.rule_file.proofs.Answers.{reading-accepted-iff, reading-carries, reading-passes}
 use Rattle.printing.specs.Printing.{print-of, print-into}
 use Rattle.printing.proofs.Fitting.{print-is, refused-first}
-use Rattle.tally.specs.declared.Tally.{Tally}
-use Rattle.response.specs.Respond.{Rooms, answer-by-table, answer-in}
+use Rattle.tally.specs.Editors.{Editors}
+use Rattle.response.specs.Respond.{Rooms, answer-by-table, answer-at, answer-in}
 use Rattle.promises.specs.Agreement.{responds}
 use Rattle.promises.specs.HouseStyle.{Alike, InStyle, HouseStyle}
 use Rattle.promises.proofs.Outcomes.{comes-34, comes-33, comes-whole, is-34, is-33, is-whole}
@@ -136,8 +136,8 @@ module _ (text : List ℕ) (room : ℕ) (bytes : List ℕ) (e : print-into text 
       same p = comes-whole text′ room (o′, subst (λ (b : List ℕ). length b ≤ text-limit) p short, subst (λ (b : List ℕ). length b ≤ room) p (is-whole text room bytes e .3)) ∙ ap taken (sym p)
 
 -- Tables that have the same counts and rules, and pass 31, answer alike.
-answers-alike : (text text′ : List ℕ) → Alike text text′ → (y : Tally) (card slip : List ℕ) (rooms : Rooms) → responds text y card slip rooms ≡ responds text′ y card slip rooms
-unfolding answer-in answer-by-table
+answers-alike : (text text′ : List ℕ) → Alike text text′ → (y : Editors) (card slip : List ℕ) (rooms : Rooms) → responds text y card slip rooms ≡ responds text′ y card slip rooms
+unfolding answer-in answer-at answer-by-table
 answers-alike text text′ a y card slip rooms =
     rw (is-true (takes Strata (reading text .table)) (sound-taken Strata (reading text .table) (reading-passes text)), is-true (takes Strata (reading text′ .table)) (sound-taken Strata (reading text′ .table) (reading-passes text′)), a .same-counts, a .same-rules)
 

@@ -1,10 +1,12 @@
 pub mod Cases
 pub mod CasePrints
 pub mod MarkCases
+pub mod Callers
 pub mod Refusals
 pub mod Judged
 pub mod Outcomes
 pub mod Engines
+pub mod Editors
 pub mod Day
 pub mod Conflicts
 pub mod Ends

@@ -1,4 +1,4 @@
--- Cases of document 02, section 3, by evaluation: from the bytes of the text, the card and the slip to the numbers of both readings, to what the response by marks tells, and to every byte of the outputs.
+-- Cases of document 02, section 3, by evaluation: from the bytes of the text, the card and the slip, of editor 15 with forty fresh records, to the numbers of both readings, to what the response by marks tells, to every record and to every byte of the outputs.
 -- Assumes nothing.
 use Prim.Native.Nat.{ℕ}
 use Prim.Native.String.{String}
@@ -24,6 +24,7 @@ use Rattle.rule_file.specs.Whole.{reading, reading-without-18}
 use Rattle.cards.specs.Forms.{read-card, read-slip}
 use Rattle.tally.specs.declared.Tally.{Tally}
 use Rattle.tally.specs.Counting.{fresh}
+use Rattle.tally.specs.Editors.{Editors, lent, fresh-records}
 use Rattle.response.specs.declared.Outcome.{Outcome}
 use Rattle.response.specs.declared.Outcome.the-variants.{Answered, Refused}
 use Rattle.response.specs.Ending.{unless-refused, answer-by-marks}
@@ -37,16 +38,20 @@ unfoldable runs-marks : Unit {0}
 unfolding lists selects-all stratum-0 unless-refused answer-by-marks outcome-of response-in outputs-after
 runs-marks = tt
 
--- The outputs lent: each is one byte longer than it must be, and all its bytes are 255.
-abbrev lent : Outputs
-lent = outputs (replicate 4 255) (replicate 38 255) (replicate 2 255)
+-- Editor 15 calls, and the records lent are fresh.
+abbrev editor-15 : Editors
+editor-15 = lent fresh-records 15
 
--- What a case comes to: the numbers of the reading with test 18 and of that without it, the outcome and the tally of the response by marks, and the outputs.
+-- The outputs lent: each is one byte longer than it must be, and all its bytes are 255.
+abbrev lent-outputs : Outputs
+lent-outputs = outputs (replicate 4 255) (replicate 38 255) (replicate 2 255)
+
+-- What a case comes to: the numbers of the reading with test 18 and of that without it, the outcome of the response by marks and the records after it, and the outputs.
 pub record Came : Type 0 where
   pub with-18 : List ℕ
   pub without-18 : List ℕ
   pub outcome : Outcome
-  pub tally : Tally
+  pub records : List Tally
   pub left : Outputs
 
 -- It is computed by the entry points' definitions.
@@ -54,17 +59,21 @@ abbrev came : List ℕ → List ℕ → List ℕ → Came
 came text card slip = record {
   with-18 = reading-refusal (reading text .outcome) ∷ reading-second (reading text .outcome) ∷ [];
   without-18 = reading-refusal (reading-without-18 text .outcome) ∷ reading-second (reading-without-18 text .outcome) ∷ [];
-  outcome = told-in Marks (reading-without-18 text .table) fresh card slip lent .outcome;
-  tally = told-in Marks (reading-without-18 text .table) fresh card slip lent .tally;
-  left = left-in Marks (reading-without-18 text .table) fresh card slip lent;
+  outcome = told-in Marks (reading-without-18 text .table) editor-15 card slip lent-outputs .outcome;
+  records = told-in Marks (reading-without-18 text .table) editor-15 card slip lent-outputs .records;
+  left = left-in Marks (reading-without-18 text .table) editor-15 card slip lent-outputs;
 }
 
--- An answer of so many bytes of changes and so many rules fired, where the reading with test 18 gives these numbers; and a refusal, which leaves the outputs.
+-- The records once the fifteenth holds these counts.
+abbrev fifteenth : ℕ → ℕ → List Tally
+fifteenth a r = replicate 14 fresh ++ record { answered = a; refused = r } ∷ replicate 25 fresh
+
+-- An answer of so many bytes of changes and so many rules fired, where the reading with test 18 gives these numbers; and a refusal, which leaves the outputs. Each is counted in the fifteenth record alone.
 abbrev answers : List ℕ → ℕ → ℕ → Outputs → Came
-answers numbers n k left = record { with-18 = numbers; without-18 = 0 ∷ 0 ∷ []; outcome = Answered n k; tally = record { answered = 1; refused = 0 }; left = left }
+answers numbers n k left = record { with-18 = numbers; without-18 = 0 ∷ 0 ∷ []; outcome = Answered n k; records = fifteenth 1 0; left = left }
 
 abbrev refuses : List ℕ → ℕ → Came
-refuses numbers k = record { with-18 = numbers; without-18 = 0 ∷ 0 ∷ []; outcome = Refused k 0; tally = record { answered = 0; refused = 1 }; left = lent }
+refuses numbers k = record { with-18 = numbers; without-18 = 0 ∷ 0 ∷ []; outcome = Refused k 0; records = fifteenth 0 1; left = lent-outputs }
 
 -- A case: a text, a card and a slip, and what it comes to.
 pub record MarkCase : Type 0 where

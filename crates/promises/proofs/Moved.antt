@@ -25,13 +25,15 @@ use Rattle.grammar.proofs.Rearranged.{rearranged-text}
 use Rattle.laws.specs.Answers.{OrRefused, taken, refused}
 use Rattle.cards.specs.Forms.{card-bits, read-card, read-slip}
 use Rattle.tally.specs.declared.Tally.{Tally}
+use Rattle.tally.specs.Counting.{is-full}
+use Rattle.tally.specs.Editors.{Editors, has-record, own-record}
 use Rattle.response.specs.declared.Outcome.{Outcome}
 use Rattle.response.specs.declared.Outcome.the-variants.{Answered}
-use Rattle.response.specs.declared.Response.{Response}
 use Rattle.results.specs.Record.{bit-of, ones-in}
 use Rattle.response.specs.Ending.{Answer, fired-record}
-use Rattle.response.specs.Respond.{_and-then_, Rooms, changes-room, if-room, answer-by, answer-by-rules, outcome-of, counted, tally-after}
+use Rattle.response.specs.Respond.{_and-then_, Rooms, changes-room, if-room, answer-by, answer-by-rules, outcome-of, counted, tally-after, records-after, Responded}
 use Rattle.promises.specs.Agreement.{SameResponse, same-refusal, same-answer, new-place}
+use Rattle.promises.proofs.Callers.{by-record}
 use Rattle.promises.proofs.FiredBits.{record-bit, record-ones}
 
 -- The file of a rearranged text: the same slots, and each rule in its new place.
@@ -55,10 +57,17 @@ moved-file f text text′ R h =
     }
 
 module _ (place : ℕ → ℕ) where
-  -- A test that both make, what both take, and the room of both outputs come before.
-  pub same-cond : (b : Bool) (k s : ℕ) (u v : OrRefused Answer) → SameResponse place u v → SameResponse place (cond b (refused k s) u) (cond b (refused k s) v)
+  -- A test that both make, those of the record, what both take, and the room of both outputs come before.
+  same-cond : (b : Bool) (k s : ℕ) (u v : OrRefused Answer) → SameResponse place u v → SameResponse place (cond b (refused k s) u) (cond b (refused k s) v)
   same-cond true k s u v h = same-refusal
   same-cond false k s u v h = h
+
+  pub same-by-record : (y : Editors) (u v : OrRefused Answer) → SameResponse place u v → SameResponse place (by-record y u) (by-record y v)
+  same-by-record y u v h = go (has-record y)
+    where
+      go : (b : Bool) → SameResponse place (cond b (cond (is-full (own-record y)) (refused 32 0) u) (refused 44 0)) (cond b (cond (is-full (own-record y)) (refused 32 0) v) (refused 44 0))
+      go true = same-cond (is-full (own-record y)) 32 0 u v h
+      go false = same-refusal
 
   same-then : {A : Type 0} (u : OrRefused A) (f g : A → OrRefused Answer) → ((a : A) → u ≡ taken a → SameResponse place (f a) (g a)) → SameResponse place (u and-then f) (u and-then g)
   unfolding _and-then_
@@ -81,14 +90,14 @@ module _ (place : ℕ → ℕ) where
       (λ I e. subst (λ (n : ℕ). SameResponse place (if-room (length counts) (length rs) rooms (answer-by way counts rs S I)) (if-room (length counts) n rooms (answer-by way counts rs′ S I))) l
       (same-room (length counts) (length rs) rooms _ _ (h S I e))))
 
-  -- The outcome and the tally after it are then the same.
-  told-same : (y : Tally) (u v : OrRefused Answer) → SameResponse place u v → (outcome-of u ≡ outcome-of v) × (tally-after y u ≡ tally-after y v)
-  unfolding outcome-of tally-after counted
+  -- The outcome and the records after it are then the same.
+  told-same : (y : Editors) (u v : OrRefused Answer) → SameResponse place u v → (outcome-of u ≡ outcome-of v) × (records-after y u ≡ records-after y v)
+  unfolding outcome-of records-after tally-after counted
   told-same y u v same-refusal = (refl, refl)
   told-same y u v (same-answer c k n b) = (ap₂ (λ (x z : ℕ). Answered x z) (ap length c) n, refl)
 
-  pub same-told : (y : Tally) (u v : OrRefused Answer) → SameResponse place u v → _≡_ {A = Response} (record { outcome = outcome-of u; tally = tally-after y u }) (record { outcome = outcome-of v; tally = tally-after y v })
-  same-told y u v h = let w = told-same y u v h in ap₂ (λ (x : Outcome) (t : Tally). record { outcome = x; tally = t }) (w .0) (w .1)
+  pub same-told : (y : Editors) (u v : OrRefused Answer) → SameResponse place u v → _≡_ {A = Responded} (record { outcome = outcome-of u; records = records-after y u }) (record { outcome = outcome-of v; records = records-after y v })
+  same-told y u v h = let w = told-same y u v h in ap₂ (λ (x : Outcome) (rs : List Tally). record { outcome = x; records = rs }) (w .0) (w .1)
 
 module _ (rs rs′ : List Rule) (q : Perm rs rs′) (S : List ℕ) (I : List Pair) (ours theirs : List ℕ) (A : T (firing-order rs S I ours)) (B : T (firing-order rs′ S I theirs))
     (same : (n : ℕ) → names ours n ≡ names theirs (under (goes q) n)) where

@@ -1,14 +1,16 @@
--- What the program lists is no refusal that a calling program causes.
+-- What the program lists is no refusal that a calling program causes, and 44 exactly where the editor file is not one editor number.
 -- Assumes nothing.
 use Prim.Native.Nat.{ℕ, _≤_, _<_}
 use native.Mathlib.Omega.{arith}
 use mathlib.Core.Path.{_≡_, refl, sym, ap, subst, _∙_}
-use mathlib.Core.List.{List}
+use mathlib.Core.Bool.{Bool, true, false, cond}
+use mathlib.Core.List.{List, [], _∷_}
 use mathlib.Core.Logic.{_⊎_, inl, inr, ⊎-elim}
 use lib.ListN.{length}
 use Rattle.laws.specs.Limits.{slot-limit, rule-limit}
 use Rattle.laws.specs.Answers.{OrRefused, taken, refused}
-use Rattle.laws.proofs.Equations.{is-true}
+use Rattle.laws.proofs.Equations.{is-true, from-true}
+use Rattle.laws.proofs.Numbers.{is-false}
 use Rattle.model.specs.Rules.{Pair, Rule}
 use Rattle.table.specs.declared.Table.{Table}
 use Rattle.table.specs.declared.Way.{Way}
@@ -22,17 +24,24 @@ use Rattle.reader.specs.declared.Outcome.the-variants.{Accepted, Refused}
 use Rattle.rule_file.specs.Whole.{reading}
 use Rattle.rule_file.proofs.Answers.{reading-passes, reading-carries}
 use Rattle.cards.proofs.EntryTrips.{few-slots}
-use Rattle.tally.specs.Counting.{fresh}
+use Rattle.tally.specs.declared.Tally.{Tally}
+use Rattle.tally.specs.Counting.{fresh, one-answered}
+use Rattle.tally.specs.Editors.{Editors, is-editor, record-at}
+use Rattle.tally.proofs.TallyLaws.{not-full}
+use Rattle.tally.proofs.EditorLaws.{editor-i, editor-e}
 use Rattle.response.specs.Ending.{Answer}
-use Rattle.response.specs.Respond.{Rooms, answer-by-table, answer-to, answer-in}
-use Rattle.listing.specs.Listing.{refusal, program-rooms, list-response, list-reading, listing}
-use Rattle.promises.specs.Reasons.{ValuesReason, another-count, value-above, CardReason, card-length, values-refused, card-padding, ChangeFault, slot-lacking, not-rising, value-lacking, SlipReason, slip-length, slip-change, slip-padding, TableReason, not-passed, of-others, RoomReason, card-short, changes-short, fired-short, RoomRight, EndReason, conflict, clash, unknown, RulesReason, of-card, of-slip, of-room, of-end, RulesRight}
+use Rattle.response.specs.Respond.{Rooms, answer-to, counted, tally-after, records-after}
+use Rattle.listing.specs.Listing.{RuleLine, ChangeLine, listed, refusal, program-rooms, editor-number, program-editors, list-response, list-reading, listing}
+use Rattle.listing.proofs.Callers.{program-record, own-fresh, program-after, listing-read, listing-44}
+use Rattle.promises.specs.Reasons.{ValuesReason, another-count, value-above, CardReason, card-length, values-refused, card-padding, ChangeFault, slot-lacking, not-rising, value-lacking, SlipReason, slip-length, slip-change, slip-padding}
+use Rattle.promises.specs.Reasons.{TableReason, not-passed, of-others, RoomReason, card-short, changes-short, fired-short, RoomRight, EndReason, conflict, clash, unknown, RulesReason, of-card, of-slip, of-room, of-end, RulesRight, HasRecord, NotFull, Countable}
 use Rattle.promises.specs.Refusals.{Passes}
-use Rattle.promises.specs.Program.{NoneOfCaller}
+use Rattle.promises.specs.Program.{NoneOfCaller, OneEditor, EditorFirst}
+use Rattle.promises.proofs.Callers.{has-record-e}
 use Rattle.promises.proofs.Judged.{Judged}
 use Rattle.promises.proofs.ResponseReasons.{table-judged}
 use Rattle.promises.proofs.Outcomes.{text-comes}
-use Rattle.promises.proofs.Engines.{fresh-not-full, fresh-no-32, reading-no-31}
+use Rattle.promises.proofs.Engines.{only-44, comes-by-table, fresh-no-32, reading-no-31}
 
 -- No reason of a card, of a slip or of a conflict has number 30.
 values-not : (counts vs : List ℕ) (k s : ℕ) → ValuesReason counts vs k s → ¬ (k ≡ 30)
@@ -76,9 +85,28 @@ table-not : (way : Way) (t : Table) (card slip : List ℕ) (rooms : Rooms) (k s 
 table-not way t card slip rooms k s h (not-passed n) e = omega (arith, e)
 table-not way t card slip rooms k s h (of-others p r) e = rules-not way (value-counts t) (rules-of t) card slip rooms k s h r e
 
-module _ (text card slip : List ℕ) where
+-- The number that an editor file holds is an editor's exactly where the file is that one byte.
+one-editor-e : (editor : List ℕ) → is-editor (editor-number editor) ≡ true → OneEditor editor
+unfolding editor-number
+one-editor-e [] e = absurd (omega (arith, editor-e 0 e .0))
+one-editor-e (b ∷ []) e = let n = editor-e b e in (b, refl, record { first = n .0; last = n .1 })
+one-editor-e (b ∷ c ∷ bs) e = absurd (omega (arith, editor-e 0 e .0))
+
+one-editor-i : (editor : List ℕ) → OneEditor editor → is-editor (editor-number editor) ≡ true
+unfolding editor-number
+one-editor-i editor w = rw (w .1) (editor-i (w .0) (w .2 .first) (w .2 .last))
+
+module _ (text card slip editor : List ℕ) where
   abbrev t : Table
   t = reading text .table
+
+  -- The program's records, lent to the editor of the file.
+  abbrev y : Editors
+  y = program-editors (editor-number editor)
+
+  -- What comes of that editor's call.
+  abbrev came : OrRefused Answer
+  came = answer-to t y card slip program-rooms
 
   -- An accepted text's table has at most as many slots and rules as the program's outputs have room for.
   enough : reading text .outcome ≡ Accepted → RoomRight (length (value-counts t)) (length (rules-of t)) program-rooms
@@ -89,39 +117,88 @@ module _ (text card slip : List ℕ) where
       let rules : length (rules-of t) ≤ rule-limit = subst (λ (rs : List Rule). length rs ≤ rule-limit) (sym (c .rules-are)) few in
       record { for-card = omega (arith, slots); for-changes = omega arith; for-fired = omega (arith, rules) }
 
-  answer-not-30 : reading text .outcome ≡ Accepted → (s : ℕ) → ¬ (answer-to t fresh card slip program-rooms ≡ refused 30 s)
-  unfolding answer-in
-  answer-not-30 o s e =
-      let b : answer-by-table Strata t card slip program-rooms ≡ refused 30 s = rw fresh-not-full at e in
+  -- So the response does not give 30.
+  answer-not-30 : HasRecord y → reading text .outcome ≡ Accepted → (s : ℕ) → ¬ (came ≡ refused 30 s)
+  answer-not-30 h o s e =
+      let c : Countable y = record { has-one = h; not-full = subst NotFull (sym (own-fresh (editor-number editor))) (omega arith, omega arith) } in
       table-not Strata t card slip program-rooms 30 s (enough o)
-      (subst (Judged (TableReason (takes Strata t) (RulesReason Strata (value-counts t) (rules-of t) card slip program-rooms)) (λ a. Passes (takes Strata t) (RulesRight Strata (value-counts t) (rules-of t) card slip program-rooms a))) b (table-judged Strata t card slip program-rooms)) refl
+      (subst (Judged (TableReason (takes Strata t) (RulesReason Strata (value-counts t) (rules-of t) card slip program-rooms)) (λ a. Passes (takes Strata t) (RulesRight Strata (value-counts t) (rules-of t) card slip program-rooms a)))
+      (sym (comes-by-table Strata t y card slip program-rooms c) ∙ e) (table-judged Strata t card slip program-rooms)) refl
+
+  -- A number that is an editor's has a record.
+  editor-has : is-editor (editor-number editor) ≡ true → HasRecord y
+  editor-has e = has-record-e y (program-record (editor-number editor) ∙ e)
 
   -- A listing that is a refusal is the response's, or the reading's.
-  response-refuses : (u : OrRefused Answer) (k s : ℕ) → list-response text t u ≡ refusal k s → u ≡ refused k s
+  response-refuses : (u : OrRefused Answer) (k s : ℕ) → list-response text t y u ≡ refusal k s → u ≡ refused k s
   unfolding list-response
   response-refuses (taken a) k s e = absurd (let z : _≡_ {A = ℕ} 0 1 = cc in omega arith)
-  response-refuses (refused j r) k s e = let y : j ≡ k = cc in let z : r ≡ s = cc in rw (y, z) refl
+  response-refuses (refused j r) k s e = let x : j ≡ k = cc in let z : r ≡ s = cc in rw (x, z) refl
 
-  refuses : (o : Outcome) → reading text .outcome ≡ o → (k s : ℕ) → list-reading text o t card slip ≡ refusal k s
-      → ((reading text .outcome ≡ Accepted) × (answer-to t fresh card slip program-rooms ≡ refused k s)) ⊎ (k ≤ 18)
+  refuses : (o : Outcome) → reading text .outcome ≡ o → (k s : ℕ) → list-reading text o t y card slip ≡ refusal k s → ((reading text .outcome ≡ Accepted) × (came ≡ refused k s)) ⊎ (k ≤ 18)
   unfolding list-reading
-  refuses Accepted q k s e = inl (q, response-refuses (answer-to t fresh card slip program-rooms) k s e)
+  refuses Accepted q k s e = inl (q, response-refuses came k s e)
   refuses (Refused j n) q k s e =
-      let y : j ≡ k = cc in
+      let x : j ≡ k = cc in
       inr (⊎-elim (λ o. absurd (let z : Accepted ≡ Refused j n = sym o ∙ q in let w : _≡_ {A = ℕ} 0 1 = cc in omega arith))
-      (λ w. let z : w .0 ≡ j = same (w .0) j (w .1) n (sym (ap (λ (r : FileRead). r .outcome) (w .3)) ∙ q) in omega (arith, w .2 .1, y, z)) (text-comes Strata text))
+      (λ w. let z : w .0 ≡ j = same (w .0) j (w .1) n (sym (ap (λ (r : FileRead). r .outcome) (w .3)) ∙ q) in omega (arith, w .2 .1, x, z)) (text-comes Strata text))
     where
       same : (a b m p : ℕ) → Refused a m ≡ Refused b p → a ≡ b
       same a b m p c = let z : a ≡ b = cc in z
 
-  never : (k s : ℕ) → 18 < k → ((reading text .outcome ≡ Accepted) → ¬ (answer-to t fresh card slip program-rooms ≡ refused k s)) → ¬ (listing text card slip ≡ refusal k s)
-  unfolding listing
-  never k s l n e = ⊎-elim (λ w. n (w .0) (w .1)) (λ h. omega (arith, h, l)) (refuses (reading text .outcome) refl k s e)
+  -- A refusal above 18 is 44, of a number that is no editor's, or that of a response.
+  lists-refusal : (k s : ℕ) → 18 < k → listing text card slip editor ≡ refusal k s → ((k ≡ 44) × (s ≡ 0) × (is-editor (editor-number editor) ≡ false)) ⊎ (HasRecord y × (reading text .outcome ≡ Accepted) × (came ≡ refused k s))
+  lists-refusal k s l e = go (is-editor (editor-number editor)) refl
+    where
+      go : (b : Bool) → is-editor (editor-number editor) ≡ b → ((k ≡ 44) × (s ≡ 0) × (b ≡ false)) ⊎ (HasRecord y × (reading text .outcome ≡ Accepted) × (came ≡ refused k s))
+      go true q = ⊎-elim (λ w. inr (editor-has q, w .0, w .1)) (λ h. absurd (omega (arith, h, l))) (refuses (reading text .outcome) refl k s (sym (listing-read text card slip editor q) ∙ e))
+      go false q = let z = sym (listing-44 text card slip editor q) ∙ e in let x : 44 ≡ k = cc in let w : 0 ≡ s = cc in inl (sym x, sym w, refl)
+
+  never : (k s : ℕ) → 18 < k → ¬ (k ≡ 44) → (HasRecord y → reading text .outcome ≡ Accepted → ¬ (came ≡ refused k s)) → ¬ (listing text card slip editor ≡ refusal k s)
+  never k s l n f e = ⊎-elim (λ w. n (w .0)) (λ w. f (w .0) (w .1) (w .2)) (lists-refusal k s l e)
 
   -- 30, 31 AND 32 CANNOT OCCUR IN THE PROGRAM.
-  pub none-of-caller : NoneOfCaller text card slip
+  pub none-of-caller : NoneOfCaller text card slip editor
   none-of-caller = record {
-    no-30 = λ s. never 30 s (omega arith) (λ o. answer-not-30 o s);
-    no-31 = λ s. never 31 s (omega arith) (λ o. reading-no-31 Strata text fresh card slip program-rooms s);
-    no-32 = λ s. never 32 s (omega arith) (λ o. fresh-no-32 Strata t card slip program-rooms s);
+    no-30 = λ s. never 30 s (omega arith) (λ q. omega (arith, q)) (λ h o. answer-not-30 h o s);
+    no-31 = λ s. never 31 s (omega arith) (λ q. omega (arith, q)) (λ h o. reading-no-31 Strata text y card slip program-rooms s);
+    no-32 = λ s. never 32 s (omega arith) (λ q. omega (arith, q)) (λ h o. fresh-no-32 Strata t y card slip program-rooms (own-fresh (editor-number editor)) s);
   }
+
+  -- Of 44 it is told that the file is no editor's, and there it is listed.
+  is-44 : (s : ℕ) → listing text card slip editor ≡ refusal 44 s → (s ≡ 0) × (¬ OneEditor editor)
+  is-44 s e =
+      ⊎-elim (λ w. (w .1, λ i. from-true false (sym (w .2) ∙ one-editor-i editor i))) (λ w. absurd (only-44 Strata t y card slip program-rooms s (w .2) (w .0))) (lists-refusal 44 s (omega arith) e)
+
+  lists-44 : ¬ OneEditor editor → listing text card slip editor ≡ refusal 44 0
+  lists-44 n = listing-44 text card slip editor (is-false (is-editor (editor-number editor)) (λ h. n (one-editor-e editor (is-true (is-editor (editor-number editor)) h))))
+
+  -- An answer is listed with the number of the file and a fresh record that counts it.
+  module _ (rs : List RuleLine) (cs : List ChangeLine) (new : List ℕ) (n : ℕ) (r : Tally) where
+    response-lists : is-editor (editor-number editor) ≡ true → (u : OrRefused Answer) → list-response text t y u ≡ listed rs cs new n r → (editor-number editor ≡ n) × (r ≡ one-answered fresh)
+    unfolding list-response tally-after counted
+    response-lists i (taken a) e =
+        let x : editor-number editor ≡ n = cc in
+        let z : r ≡ record-at (records-after y (taken a)) (editor-number editor) = cc in
+        (x, z ∙ program-after (editor-number editor) i (taken a) ∙ ap (λ (b : Bool). cond b fresh (one-answered fresh)) (not-full fresh (omega arith) (omega arith)))
+    response-lists i (refused k s) e = absurd (let z : _≡_ {A = ℕ} 0 1 = cc in omega arith)
+
+    reading-lists : is-editor (editor-number editor) ≡ true → (o : Outcome) → list-reading text o t y card slip ≡ listed rs cs new n r → (editor-number editor ≡ n) × (r ≡ one-answered fresh)
+    unfolding list-reading
+    reading-lists i Accepted e = response-lists i came e
+    reading-lists i (Refused k m) e = absurd (let z : _≡_ {A = ℕ} 0 1 = cc in omega arith)
+
+    answer-line : listing text card slip editor ≡ listed rs cs new n r → (editor ≡ n ∷ []) × (r ≡ one-answered fresh)
+    unfolding editor-number
+    answer-line e = go (is-editor (editor-number editor)) refl
+      where
+        go : (b : Bool) → is-editor (editor-number editor) ≡ b → (editor ≡ n ∷ []) × (r ≡ one-answered fresh)
+        go true q =
+            let w = reading-lists q (reading text .outcome) (sym (listing-read text card slip editor q) ∙ e) in
+            let f = one-editor-e editor q in
+            (f .1 ∙ ap (λ (m : ℕ). m ∷ []) (sym (ap editor-number (f .1)) ∙ w .0), w .1)
+        go false q = absurd (let c = sym (listing-44 text card slip editor q) ∙ e in let z : _≡_ {A = ℕ} 0 1 = cc in omega arith)
+
+  -- 44 COMES FIRST, EXACTLY WHERE THE EDITOR FILE IS NOT ONE EDITOR NUMBER; AN ANSWER'S LAST LINE HAS THAT NUMBER, 1 AND 0.
+  pub editor-first : EditorFirst text card slip editor
+  editor-first = record { exactly-44 = (λ e. is-44 0 e .1, lists-44); second-0 = λ s e. is-44 s e .0; last-line = answer-line }

@@ -28,14 +28,13 @@ use Rattle.reader.specs.declared.Outcome.the-variants.{Accepted}
 use Rattle.rule_file.specs.Whole.{reading}
 use Rattle.rule_file.proofs.Answers.{reading-accepted-iff}
 use Rattle.laws.specs.Answers.{taken, refused}
-use Rattle.tally.specs.declared.Tally.{Tally}
+use Rattle.tally.specs.Editors.{Editors}
 use Rattle.results.specs.Record.{bit-of}
 use Rattle.response.specs.Ending.{fired-record, answer-of, unless-conflict, answer-by-firing}
 use Rattle.response.specs.Respond.{Rooms, answer-by, response-in}
-use Rattle.tally.specs.Counting.{is-full}
 use Rattle.promises.specs.Agreement.{responds, SameResponse, same-refusal, same-answer, new-place, Unmoved}
 use Rattle.promises.proofs.Ends.{file-response, file-no-circle}
-use Rattle.promises.proofs.Moved.{MovedFile, moved-file, same-cond, same-by-rules, same-told, moved-bit, as-many}
+use Rattle.promises.proofs.Moved.{MovedFile, moved-file, same-by-record, same-by-rules, same-told, moved-bit, as-many}
 
 module _ (rs rs′ : List Rule) (q : Perm rs rs′) (z : circle-of weak rs ≡ 0) (S : List ℕ) (I : List Pair) where
   abbrev ours : List ℕ
@@ -89,9 +88,9 @@ unmoved text f h o text′ R = record {
     o′ : reading text′ .outcome ≡ Accepted
     o′ = reading-accepted-iff text′ .0 (f′, moved .is-file, (strata-of weak (moved .rules), least-strata weak (moved .rules) (accepted-too weak (f .rules) (moved .rules) (moved .perm) z)))
 
-    same : (y : Tally) (card slip : List ℕ) (rooms : Rooms) → SameResponse (new-place R) (responds text y card slip rooms) (responds text′ y card slip rooms)
+    same : (y : Editors) (card slip : List ℕ) (rooms : Rooms) → SameResponse (new-place R) (responds text y card slip rooms) (responds text′ y card slip rooms)
     same y card slip rooms =
         rw (file-response Strata text f h o y card slip rooms, file-response Strata text′ f′ (moved .is-file) o′ y card slip rooms)
-        (same-cond (new-place R) (is-full y) 32 0 _ _
+        (same-by-record (new-place R) y _ _
         (same-by-rules (new-place R) Strata (slot-counts (f .slots)) (f .rules) (moved .rules) (p-length (moved .perm)) card slip rooms
         (λ S I e. same-by-firing (f .rules) (moved .rules) (moved .perm) z S I (new-place R) (moved .places) (length (slot-counts (f .slots))))))

@@ -24,9 +24,10 @@ use Rattle.marks.specs.Selection.{no-clash, all-known, selection-refusal, selec
 use Rattle.laws.specs.Answers.{Verdict, passed, fault, OrRefused, taken, refused, after}
 use Rattle.cards.specs.Forms.{count-in, card-bits, slip-bits, padding, values-in, changes-in, values-test, card-test, change-fault, changes-test, slip-test, read-card, read-slip}
 use Rattle.response.specs.Ending.{Answer, answer-of, unless-conflict, answer-by-firing, unless-refused, answer-by-marks}
-use Rattle.tally.specs.declared.Tally.{Tally}
-use Rattle.response.specs.Respond.{_and-then_, Rooms, changes-room, if-room, answer-by, answer-by-rules, answer-by-table, answer-in}
 use Rattle.tally.specs.Counting.{is-full}
+use Rattle.tally.specs.Editors.{Editors, has-record, own-record}
+use Rattle.response.specs.Respond.{_and-then_, Rooms, changes-room, if-room, answer-by, answer-by-rules, answer-by-table, answer-in}
+use Rattle.promises.proofs.Callers.{by-record, answer-by-record}
 
 -- One of these numbers.
 abbrev pub OneOf : List ℕ → ℕ → Type 0
@@ -45,12 +46,12 @@ of-card = 20 ∷ 21 ∷ 22 ∷ 23 ∷ []
 abbrev pub of-slip : List ℕ
 of-slip = 24 ∷ 25 ∷ 26 ∷ 27 ∷ 28 ∷ []
 
--- Those of a response by a table and a tally that are in order, and of any.
+-- Those of a response by a table and a record that are in order, and of any.
 abbrev pub of-rules : List ℕ
 of-rules = 20 ∷ 21 ∷ 22 ∷ 23 ∷ 24 ∷ 25 ∷ 26 ∷ 27 ∷ 28 ∷ 30 ∷ 40 ∷ 41 ∷ 42 ∷ []
 
 abbrev pub of-response : List ℕ
-of-response = 32 ∷ 31 ∷ of-rules
+of-response = 44 ∷ 32 ∷ 31 ∷ of-rules
 
 -- The same of a test.
 abbrev OnlyFault : (ℕ → Type 0) → Verdict → Type 0
@@ -219,7 +220,7 @@ unfolding answer-by answer-by-firing
 end-refused Strata counts rs S I = conflict-refused (length counts) (length rs) S _ _
 end-refused Marks counts rs S I = marks-refused counts rs S I
 
--- a response where table and tally are in order,
+-- a response where table and record are in order,
 pub rules-refused : (way : Way) (counts : List ℕ) (rs : List Rule) (card slip : List ℕ) (rooms : Rooms) → Only (OneOf of-rules) (answer-by-rules way counts rs card slip rooms)
 unfolding answer-by-rules
 rules-refused way counts rs card slip rooms =
@@ -227,7 +228,7 @@ rules-refused way counts rs card slip rooms =
     (λ S. only-then (OneOf of-rules) (read-slip counts slip) _ (only-more (OneOf of-slip) (OneOf of-rules) (one-of-more of-slip of-rules tt) (read-slip counts slip) (slip-refused counts slip))
     (λ I. room-refused (length counts) (length rs) rooms (answer-by way counts rs S I) (end-refused way counts rs S I)))
 
--- where the tally is,
+-- where the record is,
 abbrev of-table : List ℕ
 of-table = 31 ∷ of-rules
 
@@ -238,13 +239,16 @@ table-refused way t card slip rooms =
     (only-more (OneOf of-rules) (OneOf of-table) (one-of-more of-rules of-table tt) (answer-by-rules way (value-counts t) (rules-of t) card slip rooms) (rules-refused way (value-counts t) (rules-of t) card slip rooms))
     (one-of of-table 31 tt)
 
--- and any.
-pub response-refused : (way : Way) (t : Table) (y : Tally) (card slip : List ℕ) (rooms : Rooms) → Only (OneOf of-response) (answer-in way t y card slip rooms)
-unfolding answer-in
-response-refused way t y card slip rooms =
-    only-cond (OneOf of-response) (is-full y) (refused 32 0) (answer-by-table way t card slip rooms) (one-of of-response 32 tt)
-    (only-more (OneOf of-table) (OneOf of-response) (one-of-more of-table of-response tt) (answer-by-table way t card slip rooms) (table-refused way t card slip rooms))
+-- and any: 44 and 32 come before.
+pub only-by-record : (P : ℕ → Type 0) (y : Editors) (u : OrRefused Answer) → P 44 → P 32 → Only P u → Only P (by-record y u)
+only-by-record P y u a b h = only-cond P (has-record y) _ (refused 44 0) (only-cond P (is-full (own-record y)) (refused 32 0) u b h) a
 
--- What follows the tally's test gives no 32.
-pub by-table-other : (way : Way) (t : Table) (card slip : List ℕ) (rooms : Rooms) → Only (Other 32) (answer-by-table way t card slip rooms)
-by-table-other way t card slip rooms = only-more (OneOf of-table) (Other 32) (one-of-other of-table 32 tt) (answer-by-table way t card slip rooms) (table-refused way t card slip rooms)
+pub response-refused : (way : Way) (t : Table) (y : Editors) (card slip : List ℕ) (rooms : Rooms) → Only (OneOf of-response) (answer-in way t y card slip rooms)
+response-refused way t y card slip rooms =
+    rw (answer-by-record way t y card slip rooms)
+    (only-by-record (OneOf of-response) y (answer-by-table way t card slip rooms) (one-of of-response 44 tt) (one-of of-response 32 tt)
+    (only-more (OneOf of-table) (OneOf of-response) (one-of-more of-table of-response tt) (answer-by-table way t card slip rooms) (table-refused way t card slip rooms)))
+
+-- What follows the tests of the record gives neither 44 nor 32.
+pub by-table-other : (way : Way) (t : Table) (card slip : List ℕ) (rooms : Rooms) (j : ℕ) → T (cond (has of-table j) false true) → Only (Other j) (answer-by-table way t card slip rooms)
+by-table-other way t card slip rooms j h = only-more (OneOf of-table) (Other j) (one-of-other of-table j h) (answer-by-table way t card slip rooms) (table-refused way t card slip rooms)

@@ -7,10 +7,10 @@ use mathlib.Core.List.{List}
 use Rattle.laws.specs.Answers.{OrRefused, taken, refused}
 use Rattle.table.specs.declared.Table.{Table}
 use Rattle.table.specs.declared.Way.{Way}
-use Rattle.tally.specs.declared.Tally.{Tally}
+use Rattle.tally.specs.Editors.{Editors}
 use Rattle.response.specs.Ending.{Answer}
 use Rattle.response.specs.Respond.{Rooms, Outputs, rooms-of, response-refusal, response-second, outcome-of, answer-in, response-in, outputs-after}
-use Rattle.promises.specs.Returned.{told-in, AnswersIn}
+use Rattle.promises.specs.Returned.{number-in, second-in, AnswersIn}
 use Rattle.promises.proofs.Refusals.{Only, OneOf, of-response, Other, only-more, one-of-other, response-refused}
 
 no-number : (u : OrRefused Answer) → Only (Other 0) u → response-refusal (outcome-of u) ≡ 0 → (a : Answer) × (u ≡ taken a)
@@ -23,7 +23,7 @@ unfolding outcome-of
 with-number k l (taken a) e = absurd (omega (arith, l, e))
 with-number k l (refused j s) e = ap (λ (i : ℕ). refused i s) e
 
-module _ (way : Way) (t : Table) (y : Tally) (card slip : List ℕ) (o : Outputs) where
+module _ (way : Way) (t : Table) (y : Editors) (card slip : List ℕ) (o : Outputs) where
   abbrev rooms : Rooms
   rooms = rooms-of (o .card) (o .changes) (o .fired)
 
@@ -33,13 +33,13 @@ module _ (way : Way) (t : Table) (y : Tally) (card slip : List ℕ) (o : Outputs
   answers a e = record { told = ap outcome-of e; holds = ap (λ (u : OrRefused Answer). outputs-after u o) e }
 
   -- Number 0 is an answer, any other a refusal with both numbers; 40 is a conflict with the slot that the second number names.
-  pub number-0 : response-refusal (told-in way t y card slip o .outcome) ≡ 0 → (a : Answer) × (answer-in way t y card slip rooms ≡ taken a)
+  pub number-0 : number-in way t y card slip o ≡ 0 → (a : Answer) × (answer-in way t y card slip rooms ≡ taken a)
   unfolding response-in
   number-0 e = no-number (answer-in way t y card slip rooms) (only-more (OneOf of-response) (Other 0) (one-of-other of-response 0 tt) (answer-in way t y card slip rooms) (response-refused way t y card slip rooms)) e
 
-  pub number-above : (k : ℕ) → 0 < k → response-refusal (told-in way t y card slip o .outcome) ≡ k → answer-in way t y card slip rooms ≡ refused k (response-second (told-in way t y card slip o .outcome))
+  pub number-above : (k : ℕ) → 0 < k → number-in way t y card slip o ≡ k → answer-in way t y card slip rooms ≡ refused k (second-in way t y card slip o)
   unfolding response-in
   number-above k l e = with-number k l (answer-in way t y card slip rooms) e
 
-  pub number-40 : response-refusal (told-in way t y card slip o .outcome) ≡ 40 → answer-in way t y card slip rooms ≡ refused 40 (response-second (told-in way t y card slip o .outcome))
+  pub number-40 : number-in way t y card slip o ≡ 40 → answer-in way t y card slip rooms ≡ refused 40 (second-in way t y card slip o)
   number-40 e = number-above 40 (omega arith) e

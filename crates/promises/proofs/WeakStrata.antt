@@ -25,7 +25,7 @@ use Rattle.rule_file.proofs.Answers.{reading-accepted-iff}
 use Rattle.soundness.proofs.Sound.{sound-iff-least}
 use Rattle.soundness.proofs.Taken.{takes-strata}
 use Rattle.cards.specs.Forms.{read-card, read-slip}
-use Rattle.tally.specs.declared.Tally.{Tally}
+use Rattle.tally.specs.Editors.{Editors}
 use Rattle.response.specs.Ending.{Answer}
 use Rattle.response.specs.Respond.{Rooms}
 use Rattle.results.specs.Record.{bit-of}
@@ -35,7 +35,7 @@ use Rattle.promises.proofs.Demand3.{demand-3}
 use Rattle.promises.proofs.Engines.{exactly-31}
 
 module _ (text : List ℕ) (f : File) (h : Is-file text f) where
-  none-fired : reading text .outcome ≡ Accepted → (y : Tally) (card slip : List ℕ) (rooms : Rooms) (a : Answer) → responds text y card slip rooms ≡ taken a
+  none-fired : reading text .outcome ≡ Accepted → (y : Editors) (card slip : List ℕ) (rooms : Rooms) (a : Answer) → responds text y card slip rooms ≡ taken a
       → (S : List ℕ) (I : List Pair) → read-card (slot-counts (f .slots)) card ≡ taken S → read-slip (slot-counts (f .slots)) slip ≡ taken I
       → (X : ℕ → Bool) → NoOutsideCause (f .rules) S I X → (n : ℕ) → T (X n) → bit-of (a .fired) n ≡ false
   unfolding whole-order

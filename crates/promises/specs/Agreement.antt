@@ -20,13 +20,13 @@ use Rattle.reader.specs.declared.Outcome.the-variants.{Accepted}
 use Rattle.rule_file.specs.Whole.{reading}
 use Rattle.laws.specs.Answers.{OrRefused, taken, refused}
 use Rattle.cards.specs.Forms.{read-card, read-slip}
-use Rattle.tally.specs.declared.Tally.{Tally}
+use Rattle.tally.specs.Editors.{Editors}
 use Rattle.results.specs.Record.{bit-of, ones-in}
 use Rattle.response.specs.Ending.{Answer}
 use Rattle.response.specs.Respond.{Rooms, answer-to, response-to}
 
 -- The response by the table that a text is read to: the bytes of an answer, or a refusal with both its numbers.
-abbrev pub responds : List ℕ → Tally → List ℕ → List ℕ → Rooms → OrRefused Answer
+abbrev pub responds : List ℕ → Editors → List ℕ → List ℕ → Rooms → OrRefused Answer
 responds text y card slip rooms = answer-to (reading text .table) y card slip rooms
 
 -- A slot is in conflict: it has two or more values in C.
@@ -75,20 +75,20 @@ pub data SameResponse (place : ℕ → ℕ) : OrRefused Answer → OrRefused Ans
 abbrev pub new-place : {text text′ : List ℕ} → Rearranges text text′ → ℕ → ℕ
 new-place R = under (goes (R .rules))
 
--- A rearranged text is accepted with the same slots and each rule in its new place, and the same card, slip, tally and rooms get the same response and the same tally after it.
+-- A rearranged text is accepted with the same slots and each rule in its new place, and the same card, slip, editor, records and rooms get the same response and the same records after it.
 pub record Unmoved (f : File) (text text′ : List ℕ) (R : Rearranges text text′) : Type 0 where
   pub accepted-too : reading text′ .outcome ≡ Accepted
   pub file : File
   pub is-file : Is-file text′ file
   pub same-slots : file .slots ≡ f .slots
   pub same-rules : (n : ℕ) → rule-at (file .rules) (new-place R n) ≡ rule-at (f .rules) n
-  pub same-bytes : (y : Tally) (card slip : List ℕ) (rooms : Rooms) → SameResponse (new-place R) (responds text y card slip rooms) (responds text′ y card slip rooms)
-  pub same-outcome : (y : Tally) (card slip : List ℕ) (rooms : Rooms) → response-to (reading text .table) y card slip rooms ≡ response-to (reading text′ .table) y card slip rooms
+  pub same-bytes : (y : Editors) (card slip : List ℕ) (rooms : Rooms) → SameResponse (new-place R) (responds text y card slip rooms) (responds text′ y card slip rooms)
+  pub same-outcome : (y : Editors) (card slip : List ℕ) (rooms : Rooms) → response-to (reading text .table) y card slip rooms ≡ response-to (reading text′ .table) y card slip rooms
 
 -- Demand 3 for a text that is accepted as the file f: where the response answers, where it gives 40, and for every rearrangement.
 pub record Demand3 (text : List ℕ) (f : File) : Type 0 where
-  pub where-answered : (y : Tally) (card slip : List ℕ) (rooms : Rooms) (a : Answer) → responds text y card slip rooms ≡ taken a
+  pub where-answered : (y : Editors) (card slip : List ℕ) (rooms : Rooms) (a : Answer) → responds text y card slip rooms ≡ taken a
       → Agreed f card slip (λ S I ns. Shows f S I a ns)
-  pub where-40 : (y : Tally) (card slip : List ℕ) (rooms : Rooms) (s : ℕ) → responds text y card slip rooms ≡ refused 40 s
+  pub where-40 : (y : Editors) (card slip : List ℕ) (rooms : Rooms) (s : ℕ) → responds text y card slip rooms ≡ refused 40 s
       → Agreed f card slip (λ S I ns. LowestConflict (changes (f .rules) I ns) s)
   pub where-rearranged : (text′ : List ℕ) (R : Rearranges text text′) → Unmoved f text text′ R

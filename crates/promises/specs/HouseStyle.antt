@@ -20,7 +20,7 @@ use Rattle.style.specs.Tidy.{Tidy}
 use Rattle.reader.specs.declared.Outcome.the-variants.{Accepted, Refused}
 use Rattle.rule_file.specs.Whole.{reading}
 use Rattle.printing.specs.Printing.{print-of, print-into}
-use Rattle.tally.specs.declared.Tally.{Tally}
+use Rattle.tally.specs.Editors.{Editors}
 use Rattle.response.specs.Respond.{Rooms}
 use Rattle.promises.specs.Agreement.{responds}
 
@@ -55,11 +55,11 @@ pub record HouseStyle : Type 0 where
   pub print-alike : (text text′ : List ℕ) → reading text .outcome ≡ Accepted → reading text′ .outcome ≡ Accepted → (print-of (parse text) ≡ print-of (parse text′)) ↔ Alike text text′
   -- So a text that is accepted gets the print of another exactly when they are alike.
   pub same-print : (text text′ : List ℕ) (room : ℕ) (bytes : List ℕ) → print-into text room ≡ taken bytes → reading text′ .outcome ≡ Accepted → (print-into text′ room ≡ taken bytes) ↔ Alike text text′
-  -- Texts that are alike get the same bytes or the same refusal for every card and slip. What is told, the tally after it and the outputs are functions of these.
-  pub same-answers : (text text′ : List ℕ) → Alike text text′ → (y : Tally) (card slip : List ℕ) (rooms : Rooms) → responds text y card slip rooms ≡ responds text′ y card slip rooms
+  -- Texts that are alike get the same bytes or the same refusal for every card and slip. What is told, the records after it and the outputs are functions of these.
+  pub same-answers : (text text′ : List ℕ) → Alike text text′ → (y : Editors) (card slip : List ℕ) (rooms : Rooms) → responds text y card slip rooms ≡ responds text′ y card slip rooms
   -- So texts with equal prints do.
   pub print-answers : (text text′ : List ℕ) → reading text .outcome ≡ Accepted → reading text′ .outcome ≡ Accepted → print-of (parse text) ≡ print-of (parse text′)
-      → (y : Tally) (card slip : List ℕ) (rooms : Rooms) → responds text y card slip rooms ≡ responds text′ y card slip rooms
+      → (y : Editors) (card slip : List ℕ) (rooms : Rooms) → responds text y card slip rooms ≡ responds text′ y card slip rooms
   -- The reading's own refusals come first, with both their numbers; then 34, then 33, each exactly where it is due; else the whole print.
   pub own-refusal : (text : List ℕ) (room k n : ℕ) → reading text .outcome ≡ Refused k n → print-into text room ≡ refused k n
   pub exactly-34 : (text : List ℕ) (room : ℕ) → (print-into text room ≡ refused 34 0) ↔ ((reading text .outcome ≡ Accepted) × (text-limit < length (print-of (parse text))))

@@ -4,6 +4,7 @@ pub mod Reasons
 pub mod Refusals
 pub mod Paper
 pub mod Shown
+pub mod Editors
 pub mod Day
 pub mod WeakStrata
 pub mod Called

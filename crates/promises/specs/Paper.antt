@@ -22,7 +22,7 @@ use Rattle.rule_file.specs.Whole.{reading}
 use Rattle.cards.specs.Forms.{read-card, read-slip}
 use Rattle.cards.specs.declared.Packing.the-variants.{Packed}
 use Rattle.cards.specs.Cards.{unpacking-refusal}
-use Rattle.tally.specs.declared.Tally.{Tally}
+use Rattle.tally.specs.Editors.{Editors}
 use Rattle.response.specs.Ending.{Answer}
 use Rattle.response.specs.Respond.{Outputs, response-refusal, response-second}
 use Rattle.promises.specs.Returned.{IsAccepted, card-told, slip-told, card-packing, card-left, slip-packing, slip-left, response-told, Answers}
@@ -63,9 +63,9 @@ pub record Demand2 : Type 0 where
   -- and these are exactly the texts of files with a circle through a NOT, of which it names the lowest rule.
   pub circle : (text : List ℕ) (n : ℕ) → ((reading-refusal (reading text .outcome) ≡ 18) × (reading-second (reading text .outcome) ≡ n)) ↔ ((f : File) × Is-file text f × LowestThroughNot (f .rules) n)
   -- Each answer, and each conflict, by an accepted file.
-  pub each-answer : (text : List ℕ) (f : File) → Is-file text f → IsAccepted text → (y : Tally) (card slip : List ℕ) (o : Outputs)
+  pub each-answer : (text : List ℕ) (f : File) → Is-file text f → IsAccepted text → (y : Editors) (card slip : List ℕ) (o : Outputs)
       → response-refusal (response-told (reading text .table) y card slip o .outcome) ≡ 0 → (a : Answer) × Answers (reading text .table) y card slip o a × PaperAnswer f card slip a
-  pub each-conflict : (text : List ℕ) (f : File) → Is-file text f → IsAccepted text → (y : Tally) (card slip : List ℕ) (o : Outputs)
+  pub each-conflict : (text : List ℕ) (f : File) → Is-file text f → IsAccepted text → (y : Editors) (card slip : List ℕ) (o : Outputs)
       → response-refusal (response-told (reading text .table) y card slip o .outcome) ≡ 40 → PaperConflict f card slip (response-second (response-told (reading text .table) y card slip o .outcome))
   -- The same bytes back: what unpacking returned, packed into an output that has room for them, by any table.
   pub card-back : (t : Table) (ys out : List ℕ) → Bytes ys → length ys ≤ length out → unpacking-refusal (card-told t ys .outcome) ≡ 0

@@ -1,4 +1,4 @@
--- Why something is refused, by its number and its second number: document 01, 'Refusals by who can cause them', and document 02, sections 1 (33, 34) and 3 (41, 42). A reason holds only where none that comes before it does.
+-- Why something is refused, by its number and its second number: document 01, 'Refusals by who can cause them', and document 02, sections 1 (33, 34), 3 (41, 42) and 4 (44). A reason holds only where none that comes before it does.
 use Prim.Native.Nat.{ℕ, suc, _+_, _-_, _≤_, _<_}
 use mathlib.Core.Path.{_≡_}
 use mathlib.Core.Bool.{Bool}
@@ -7,6 +7,7 @@ use mathlib.Core.Logic.{_⊎_}
 use lib.Dec.{T}
 use lib.ListN.{length, getD, take, drop}
 use Rattle.laws.specs.Packed.{byte-count}
+use Rattle.laws.specs.Numbers.{Numbered}
 use Rattle.text.specs.Tokens.{tokens}
 use Rattle.model.specs.Rules.{Pair, Pairs, Rule, among}
 use Rattle.model.specs.Orders.{changes}
@@ -21,7 +22,7 @@ use Rattle.table.specs.declared.Way.{Way}
 use Rattle.table.specs.declared.Way.the-variants as way
 use Rattle.table.specs.Zero.{zero-name, zero-slot}
 use Rattle.table.specs.Link.{rules-of, value-counts}
-use Rattle.laws.specs.Limits.{text-limit, slot-limit, value-limit, tally-limit}
+use Rattle.laws.specs.Limits.{text-limit, slot-limit, value-limit, tally-limit, editor-limit}
 use Rattle.grammar.specs.Files.{File}
 use Rattle.grammar.specs.Meaning.{Is-file}
 use Rattle.grammar.specs.Reading.{parse}
@@ -33,6 +34,7 @@ use Rattle.marks.specs.Marks.{Marks, declared-pairs, is-both, is-unknown}
 use Rattle.marks.specs.Selection.{Move, order-fired, marks-after, selection}
 use Rattle.cards.specs.Forms.{card-bits, slip-bits, count-in, values-in, changes-in, padding}
 use Rattle.tally.specs.declared.Tally.{Tally}
+use Rattle.tally.specs.Editors.{Editors, own-record}
 use Rattle.response.specs.Ending.{Answer, answer-of}
 use Rattle.response.specs.Respond.{Rooms, changes-room}
 use Rattle.promises.specs.Returned.{IsAccepted}
@@ -238,17 +240,28 @@ pub record RulesRight (way : Way) (counts : List ℕ) (rs : List Rule) (card sli
   pub end-right : EndRight counts rs card slip way
   pub answer-is : a ≡ answer-of (length counts) (length rs) (values-in card) (ends-with way counts rs card slip) (fired-by way counts rs card slip)
 
--- A tally is full: either count at 9,999 or above; or it is not.
+-- The caller has a record: a number from 1 to 40, in a table of forty records.
+pub record HasRecord (y : Editors) : Type 0 where
+  pub forty : length (y .records) ≡ editor-limit
+  pub number : Numbered editor-limit (y .caller)
+
+-- A record is full: either count at 9,999 or above; or it is not.
 abbrev pub Full : Tally → Type 0
-Full y = (tally-limit ≤ y .answered) ⊎ (tally-limit ≤ y .refused)
+Full r = (tally-limit ≤ r .answered) ⊎ (tally-limit ≤ r .refused)
 
 abbrev pub NotFull : Tally → Type 0
-NotFull y = (y .answered < tally-limit) × (y .refused < tally-limit)
+NotFull r = (r .answered < tally-limit) × (r .refused < tally-limit)
 
--- A response: 32, a full tally; then the others.
-pub data ResponseReason (way : Way) (t : Table) (y : Tally) (card slip : List ℕ) (rooms : Rooms) : ℕ → ℕ → Type 0 where
-  full-tally : Full y → ResponseReason way t y card slip rooms 32 0
-  of-table : {k s : ℕ} → NotFull y → TableReason (takes way t) (RulesReason way (value-counts t) (rules-of t) card slip rooms) k s → ResponseReason way t y card slip rooms k s
+-- A slip of the caller's can be counted: the caller has a record, and it is not full.
+pub record Countable (y : Editors) : Type 0 where
+  pub has-one : HasRecord y
+  pub not-full : NotFull (own-record y)
+
+-- A response: 44, no record; 32, a full record of the caller's own; then the others.
+pub data ResponseReason (way : Way) (t : Table) (y : Editors) (card slip : List ℕ) (rooms : Rooms) : ℕ → ℕ → Type 0 where
+  no-record : ¬ HasRecord y → ResponseReason way t y card slip rooms 44 0
+  full-record : HasRecord y → Full (own-record y) → ResponseReason way t y card slip rooms 32 0
+  of-table : {k s : ℕ} → Countable y → TableReason (takes way t) (RulesReason way (value-counts t) (rules-of t) card slip rooms) k s → ResponseReason way t y card slip rooms k s
 
 -- The table has a slot, a slot has a value; names of them that the table has.
 abbrev pub HasSlot : Table → ℕ → Type 0

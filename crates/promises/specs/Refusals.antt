@@ -1,5 +1,5 @@
 -- Demand 1: what is handed in, with any bytes and of any length, comes back with its result or with one numbered refusal, whose second number and reason are told (Reasons),
--- and after a refusal every lent buffer, the tally's own count apart, holds what it held before. That the engine always finishes is proved with each function.
+-- and after a refusal every lent buffer, the count in the caller's record apart, holds what it held before. That the engine always finishes is proved with each function.
 use Prim.Native.Nat.{ℕ}
 use mathlib.Core.Path.{_≡_}
 use mathlib.Core.Bool.{Bool}
@@ -23,11 +23,12 @@ use Rattle.cards.specs.declared.Slip.{Slip}
 use Rattle.cards.specs.Forms.{values-in, changes-in, card-bytes, slip-bytes}
 use Rattle.cards.specs.Cards.{card-values, changes-of, card-of, slip-of, no-card, no-slip, unpacking-refusal, unpacking-second, packing-refusal, packing-second, packing-length}
 use Rattle.tally.specs.declared.Tally.{Tally}
+use Rattle.tally.specs.Editors.{Editors, own-record, with-record}
 use Rattle.tally.specs.Counting.{one-answered, one-refused}
 use Rattle.response.specs.Ending.{Answer}
 use Rattle.response.specs.Respond.{Outputs, rooms-of, response-refusal, response-second}
 use Rattle.promises.specs.Returned.{print-told, print-left, card-told, slip-told, card-packing, card-left, slip-packing, slip-left, told-in, left-in, AnswersIn}
-use Rattle.promises.specs.Reasons.{FileReason, FileRight, PrintReason, PrintRight, CardReason, CardRight, PackedCardReason, PackedCardRight, SlipReason, SlipRight, PackedSlipReason, PackedSlipRight, TableReason, RulesRight, NotFull, ResponseReason, HasSlot, HasValue, slot-at, value-name-at, ShownInside, SlotNameReason, ValueNameReason}
+use Rattle.promises.specs.Reasons.{FileReason, FileRight, PrintReason, PrintRight, CardReason, CardRight, PackedCardReason, PackedCardRight, SlipReason, SlipRight, PackedSlipReason, PackedSlipRight, TableReason, RulesRight, Countable, ResponseReason, HasSlot, HasValue, slot-at, value-name-at, ShownInside, SlotNameReason, ValueNameReason}
 
 -- What comes back by its two numbers: 0, 0 and a result; or a refusal with a reason for it, and what goes with a refusal.
 abbrev pub Comes : (ℕ → ℕ → Type 0) → ℕ → ℕ → Type 0 → Type 0 → Type 0
@@ -38,10 +39,10 @@ pub record Passes (test : Bool) (Right : Type 0) : Type 0 where
   pub passes : T test
   pub right : Right
 
--- The tally counts a refusal, but for 32.
-pub record TallyRefused (k : ℕ) (before after : Tally) : Type 0 where
-  pub counted : ¬ (k ≡ 32) → after ≡ one-refused before
-  pub not-counted : k ≡ 32 → after ≡ before
+-- The caller's record counts a refusal, but for 44 and 32, which change nothing.
+pub record RecordsRefused (k : ℕ) (y : Editors) (after : List Tally) : Type 0 where
+  pub counted : ¬ (k ≡ 44) → ¬ (k ≡ 32) → after ≡ with-record y (one-refused (own-record y))
+  pub not-counted : (k ≡ 44) ⊎ (k ≡ 32) → after ≡ y .records
 
 pub record Demand1 : Type 0 where
   -- A rule file, read for the response by strata or by marks; after a refusal the table is the one without slots or rules.
@@ -70,11 +71,11 @@ pub record Demand1 : Type 0 where
       (Passes (sound t) (PackedSlipRight (value-counts t) (changes-of c) (length out)) × (packing-length (slip-packing t c out) ≡ length (slip-bytes (changes-of c))) × (slip-left t c out ≡ written (slip-bytes (changes-of c)) out))
       ((packing-length (slip-packing t c out) ≡ 0) × (slip-left t c out ≡ out))
   -- A response, by strata or by marks, whose three outputs keep their contents after a refusal.
-  pub responded : (way : Way) (t : Table) (y : Tally) (card slip : List ℕ) (o : Outputs)
+  pub responded : (way : Way) (t : Table) (y : Editors) (card slip : List ℕ) (o : Outputs)
       → Comes (ResponseReason way t y card slip (rooms-of (o .card) (o .changes) (o .fired))) (response-refusal (told-in way t y card slip o .outcome)) (response-second (told-in way t y card slip o .outcome))
-      ((a : Answer) × NotFull y × Passes (takes way t) (RulesRight way (value-counts t) (rules-of t) card slip (rooms-of (o .card) (o .changes) (o .fired)) a) × AnswersIn way t y card slip o a
-      × (told-in way t y card slip o .tally ≡ one-answered y))
-      ((left-in way t y card slip o ≡ o) × TallyRefused (response-refusal (told-in way t y card slip o .outcome)) y (told-in way t y card slip o .tally))
+      ((a : Answer) × Countable y × Passes (takes way t) (RulesRight way (value-counts t) (rules-of t) card slip (rooms-of (o .card) (o .changes) (o .fired)) a) × AnswersIn way t y card slip o a
+      × (told-in way t y card slip o .records ≡ with-record y (one-answered (own-record y))))
+      ((left-in way t y card slip o ≡ o) × RecordsRefused (response-refusal (told-in way t y card slip o .outcome)) y (told-in way t y card slip o .records))
   -- A name shown: 0 and its stretch; or 31 for a reason, with an empty part at the beginning of the text.
   pub slot-shown : (text : List ℕ) (t : Table) (slot : ℕ) → (HasSlot t slot × ShownInside text (slot-at t slot .name) (show-slot text t slot)) ⊎ (SlotNameReason text t slot × (show-slot text t slot ≡ not-shown))
   pub value-shown : (text : List ℕ) (t : Table) (slot value : ℕ)

@@ -1,4 +1,4 @@
--- What the entry points return, and what they leave in the outputs lent to them, by their contracts; `rl_..` return the same numbers (`library/specs/Results.antt`).
+-- What the entry points return, and what they leave in the buffers lent to them, by their contracts; `rl_..` return the same numbers (`library/specs/Results.antt`).
 use Prim.Native.Nat.{ℕ}
 use mathlib.Core.Path.{_≡_}
 use mathlib.Core.List.{List}
@@ -17,12 +17,11 @@ use Rattle.cards.specs.declared.CardRead.{CardRead}
 use Rattle.cards.specs.declared.SlipRead.{SlipRead}
 use Rattle.cards.specs.declared.Packing.{Packing}
 use Rattle.cards.specs.Cards.{unpacked-card, unpacked-slip, packed-card, packed-slip, card-read, slip-read, packing-of}
-use Rattle.tally.specs.declared.Tally.{Tally}
+use Rattle.tally.specs.Editors.{Editors}
 use Rattle.results.specs.Record.{ones-in}
-use Rattle.response.specs.declared.Response.{Response}
 use Rattle.response.specs.declared.Outcome.the-variants.{Answered}
 use Rattle.response.specs.Ending.{Answer}
-use Rattle.response.specs.Respond.{Outputs, outputs, rooms-of, answer-in, response-in, outputs-after}
+use Rattle.response.specs.Respond.{Outputs, outputs, rooms-of, Responded, answer-in, response-in, outputs-after, response-refusal, response-second}
 
 -- A file is accepted when its reading gives no refusal.
 abbrev pub IsAccepted : List ℕ → Type 0
@@ -55,21 +54,28 @@ slip-packing t c out = packing-of (packed-slip t c (length out))
 abbrev pub slip-left : Table → Slip → List ℕ → List ℕ
 slip-left t c out = output-of (packed-slip t c (length out)) out
 
--- `respond` by strata or by marks, and what its three outputs hold afterwards.
-abbrev pub told-in : Way → Table → Tally → List ℕ → List ℕ → Outputs → Response
+-- `rl_respond`, by strata, or `rl_respond_by_marks`: what is told and the records afterwards; and what the three outputs hold afterwards.
+abbrev pub told-in : Way → Table → Editors → List ℕ → List ℕ → Outputs → Responded
 told-in way t y card slip o = response-in way t y card slip (rooms-of (o .card) (o .changes) (o .fired))
 
-abbrev pub left-in : Way → Table → Tally → List ℕ → List ℕ → Outputs → Outputs
+abbrev pub left-in : Way → Table → Editors → List ℕ → List ℕ → Outputs → Outputs
 left-in way t y card slip o = outputs-after (answer-in way t y card slip (rooms-of (o .card) (o .changes) (o .fired))) o
 
+-- The number of a response's refusal, 0 for none, and its second number.
+abbrev pub number-in : Way → Table → Editors → List ℕ → List ℕ → Outputs → ℕ
+number-in way t y card slip o = response-refusal (told-in way t y card slip o .outcome)
+
+abbrev pub second-in : Way → Table → Editors → List ℕ → List ℕ → Outputs → ℕ
+second-in way t y card slip o = response-second (told-in way t y card slip o .outcome)
+
 -- An answer is returned: its length of changes and its count of fired rules are told, and the outputs hold its bytes at their front and beyond them what they held.
-pub record AnswersIn (way : Way) (t : Table) (y : Tally) (card slip : List ℕ) (o : Outputs) (a : Answer) : Type 0 where
+pub record AnswersIn (way : Way) (t : Table) (y : Editors) (card slip : List ℕ) (o : Outputs) (a : Answer) : Type 0 where
   pub told : told-in way t y card slip o .outcome ≡ Answered (length (a .changes)) (ones-in (a .fired))
   pub holds : left-in way t y card slip o ≡ outputs (written (a .new-card) (o .card)) (written (a .changes) (o .changes)) (written (a .fired) (o .fired))
 
 -- The same of the response by strata.
-abbrev pub response-told : Table → Tally → List ℕ → List ℕ → Outputs → Response
+abbrev pub response-told : Table → Editors → List ℕ → List ℕ → Outputs → Responded
 response-told t y card slip o = told-in Strata t y card slip o
 
-abbrev pub Answers : Table → Tally → List ℕ → List ℕ → Outputs → Answer → Type 0
+abbrev pub Answers : Table → Editors → List ℕ → List ℕ → Outputs → Answer → Type 0
 Answers t y card slip o a = AnswersIn Strata t y card slip o a

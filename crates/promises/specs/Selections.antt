@@ -16,15 +16,15 @@ use Rattle.grammar.specs.Meaning.{Is-file}
 use Rattle.grammar.specs.Pieces.{Rearranges}
 use Rattle.rule_file.specs.Whole.{reading-without-18}
 use Rattle.cards.specs.Forms.{read-card, read-slip}
-use Rattle.tally.specs.declared.Tally.{Tally}
+use Rattle.tally.specs.Editors.{Editors}
 use Rattle.response.specs.Ending.{Answer}
 use Rattle.response.specs.Respond.{Rooms, marks-answer-to, marks-response-to}
-use Rattle.promises.specs.Reasons.{RoomRight, NotFull}
+use Rattle.promises.specs.Reasons.{RoomRight, Countable}
 use Rattle.promises.specs.Agreement.{InConflict, Shows, SameResponse, new-place}
 
--- What is handed in is in order: the tally is not full, the card and the slip unpack, over the file's slots, to S and I, and the outputs have room (32, 20 to 28, 30).
-pub record HandedIn (f : File) (y : Tally) (card slip : List ℕ) (rooms : Rooms) : Type 0 where
-  pub not-full : NotFull y
+-- What is handed in is in order: the slip can be counted, the card and the slip unpack, over the file's slots, to S and I, and the outputs have room (44, 32, 20 to 28, 30).
+pub record HandedIn (f : File) (y : Editors) (card slip : List ℕ) (rooms : Rooms) : Type 0 where
+  pub countable : Countable y
   pub S : List ℕ
   pub I : List Pair
   pub card-is : read-card (slot-counts (f .slots)) card ≡ taken S
@@ -91,13 +91,13 @@ pub record OwedClash (f : File) (card slip : List ℕ) : Type 0 where
   pub slip-is : read-slip (slot-counts (f .slots)) slip ≡ taken I
   pub each-order : (ns : List ℕ) → T (whole-order (f .rules) S I ns) → (s : ℕ) × InConflict (changes (f .rules) I ns) s
 
--- A rearranged text is a file too, with the same slots and each rule in its new place, and by the tables of both the same card, slip, tally and rooms get the same response by marks and the same tally after it.
+-- A rearranged text is a file too, with the same slots and each rule in its new place, and by the tables of both the same card, slip, editor, records and rooms get the same response by marks and the same records after it.
 pub record UnmovedMarks (f : File) (text text′ : List ℕ) (R : Rearranges text text′) : Type 0 where
   pub file : File
   pub is-file : Is-file text′ file
   pub same-slots : file .slots ≡ f .slots
   pub same-rules : (n : ℕ) → rule-at (file .rules) (new-place R n) ≡ rule-at (f .rules) n
-  pub same-bytes : (y : Tally) (card slip : List ℕ) (rooms : Rooms)
+  pub same-bytes : (y : Editors) (card slip : List ℕ) (rooms : Rooms)
       → SameResponse (new-place R) (marks-answer-to (reading-without-18 text .table) y card slip rooms) (marks-answer-to (reading-without-18 text′ .table) y card slip rooms)
-  pub same-outcome : (y : Tally) (card slip : List ℕ) (rooms : Rooms)
+  pub same-outcome : (y : Editors) (card slip : List ℕ) (rooms : Rooms)
       → marks-response-to (reading-without-18 text .table) y card slip rooms ≡ marks-response-to (reading-without-18 text′ .table) y card slip rooms

@@ -21,21 +21,21 @@ use Rattle.reader.specs.declared.Outcome.the-variants.{Accepted}
 use Rattle.rule_file.specs.Whole.{reading}
 use Rattle.soundness.specs.Sound.{well-formed, sound}
 use Rattle.cards.specs.Forms.{read-card, read-slip}
-use Rattle.tally.specs.declared.Tally.{Tally}
+use Rattle.tally.specs.Editors.{Editors}
 use Rattle.response.specs.Ending.{Answer}
 use Rattle.response.specs.Respond.{Rooms, answer-to}
-use Rattle.tally.specs.Counting.{is-full}
 use Rattle.results.specs.Record.{bit-of}
 use Rattle.promises.specs.Agreement.{responds}
+use Rattle.promises.specs.Reasons.{Countable}
 
 pub record WeakStrata : Type 0 where
   -- 31 passes a table that is otherwise in order exactly where it carries the least.
   pub tested : (t : Table) → T (well-formed t) → T (sound t) ↔ LeastStrata weak (rules-of t) (stratum-at t)
-  -- So a response by such a table, at a tally that is not full, is refused with 31 exactly where it does not.
-  pub refused-31 : (t : Table) → T (well-formed t) → (y : Tally) → is-full y ≡ false → (card slip : List ℕ) (rooms : Rooms)
+  -- So a response by such a table, where the slip can be counted, is refused with 31 exactly where it does not.
+  pub refused-31 : (t : Table) → T (well-formed t) → (y : Editors) → Countable y → (card slip : List ℕ) (rooms : Rooms)
       → (answer-to t y card slip rooms ≡ refused 31 0) ↔ (¬ LeastStrata weak (rules-of t) (stratum-at t))
   -- Rules without a cause outside their set do not fire.
-  pub idle : (text : List ℕ) (f : File) → Is-file text f → reading text .outcome ≡ Accepted → (y : Tally) (card slip : List ℕ) (rooms : Rooms) (a : Answer) → responds text y card slip rooms ≡ taken a
+  pub idle : (text : List ℕ) (f : File) → Is-file text f → reading text .outcome ≡ Accepted → (y : Editors) (card slip : List ℕ) (rooms : Rooms) (a : Answer) → responds text y card slip rooms ≡ taken a
       → (S : List ℕ) (I : List Pair) → read-card (slot-counts (f .slots)) card ≡ taken S → read-slip (slot-counts (f .slots)) slip ≡ taken I
       → (X : ℕ → Bool) → NoOutsideCause (f .rules) S I X → (n : ℕ) → T (X n) → bit-of (a .fired) n ≡ false
   -- A file with strata of section 7, which fall along every `*=`, is accepted; and firing by those strata is one of the orders that demand 3 holds to the answer.

@@ -46,7 +46,7 @@ use Rattle.response.specs.declared.Outcome.{Outcome}
 use Rattle.response.specs.declared.Outcome.the-variants as response
 use Rattle.response.specs.declared.Response.{Response}
 use Rattle.response.specs.Ending.{Answer, answer-by-firing, answer-by-marks}
-use Rattle.response.specs.Respond.{Rooms, Outputs, changes-room, _and-then_, if-room, answer-by, answer-by-rules, answer-by-table, counted, tally-after, outcome-of, outputs-after, answer-in, response-in}
+use Rattle.response.specs.Respond.{Rooms, Outputs, changes-room, _and-then_, if-room, answer-by, answer-by-rules, answer-by-table, counted, tally-after, outcome-of, outputs-after, answer-at, response-at}
 use Rattle.tally.specs.Counting.{is-full, one-answered, one-refused}
 use Rattle.response.specs.inner.InOrder.{Kept, InOrder, Ends}
 use Rattle.response.proofs.InOrder.{counts-length}
@@ -207,8 +207,8 @@ ends-same u v r o o′ e w = rw e w
 
 -- 32 leaves the tally and the outputs.
 pub full-response : (way : Way) (t : Table) (y : Tally) (card slip : List ℕ) (rooms : Rooms) (o : Outputs) → is-full y ≡ true
-    → (record { outcome = response.Refused 32 0; tally = y } ≡ response-in way t y card slip rooms) × (o ≡ outputs-after (answer-in way t y card slip rooms) o)
-unfolding response-in answer-in tally-after outcome-of outputs-after
+    → (record { outcome = response.Refused 32 0; tally = y } ≡ response-at way t y card slip rooms) × (o ≡ outputs-after (answer-at way t y card slip rooms) o)
+unfolding response-at answer-at tally-after outcome-of outputs-after
 full-response way t y card slip rooms o e = rw e (refl, refl)
 
 -- Otherwise an answer adds one to slips answered, a refusal one to slips refused.
@@ -223,19 +223,19 @@ refusal-counted y (taken a) k s e = absurd (let z : _≡_ {A = ℕ} 0 1 = cc in 
 refusal-counted y (refused j r) k s e = refl
 
 counted-response : (way : Way) (t : Table) (y z : Tally) (card slip : List ℕ) (rooms : Rooms) (r : Outcome) (o o′ : Outputs) → is-full y ≡ false → Ends (answer-by-table way t card slip rooms) r o o′ → z ≡ counted y (answer-by-table way t card slip rooms)
-    → (record { outcome = r; tally = z } ≡ response-in way t y card slip rooms) × (o′ ≡ outputs-after (answer-in way t y card slip rooms) o)
-unfolding response-in answer-in tally-after
+    → (record { outcome = r; tally = z } ≡ response-at way t y card slip rooms) × (o′ ≡ outputs-after (answer-at way t y card slip rooms) o)
+unfolding response-at answer-at tally-after
 counted-response way t y z card slip rooms r o o′ e w q = rw e (λ i. record { outcome = w .0 i; tally = q i }, w .1)
 
 pub counted-answer : (way : Way) (t : Table) (y z : Tally) (card slip : List ℕ) (rooms : Rooms) (r : Outcome) (n f : ℕ) (o o′ : Outputs) → is-full y ≡ false → Ends (answer-by-table way t card slip rooms) r o o′
     → r ≡ response.Answered n f → z ≡ one-answered y
-    → (record { outcome = response.Answered n f; tally = z } ≡ response-in way t y card slip rooms) × (o′ ≡ outputs-after (answer-in way t y card slip rooms) o)
+    → (record { outcome = response.Answered n f; tally = z } ≡ response-at way t y card slip rooms) × (o′ ≡ outputs-after (answer-at way t y card slip rooms) o)
 counted-answer way t y z card slip rooms r n f o o′ e w a q =
     counted-response way t y z card slip rooms (response.Answered n f) o o′ e (sym a ∙ w .0, w .1) (q ∙ sym (answer-counted y (answer-by-table way t card slip rooms) n f (sym (w .0) ∙ a)))
 
 pub counted-refusal : (way : Way) (t : Table) (y : Tally) (card slip : List ℕ) (rooms : Rooms) (r : Outcome) (k s : ℕ) (q : Response) (o o′ : Outputs) → is-full y ≡ false → Ends (answer-by-table way t card slip rooms) r o o′
     → r ≡ response.Refused k s → q ≡ record { outcome = response.Refused k s; tally = one-refused y }
-    → (q ≡ response-in way t y card slip rooms) × (o′ ≡ outputs-after (answer-in way t y card slip rooms) o)
+    → (q ≡ response-at way t y card slip rooms) × (o′ ≡ outputs-after (answer-at way t y card slip rooms) o)
 counted-refusal way t y card slip rooms r k s q o o′ e w a z =
     let d = counted-response way t y (one-refused y) card slip rooms (response.Refused k s) o o′ e (sym a ∙ w .0, w .1) (sym (refusal-counted y (answer-by-table way t card slip rooms) k s (sym (w .0) ∙ a))) in
     (z ∙ d .0, d .1)

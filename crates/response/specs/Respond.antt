@@ -1,4 +1,5 @@
 -- The response to a slip: document 01, 'Order of a response: 32, 31, 20 to 28, 30, 40. Each of these but 32 adds one to slips refused; an answer adds one to slips answered.'
+-- Document 02, section 4: 44 comes ahead of every other refusal and is not counted; the count is the caller's record, and 32 looks at no other.
 -- In the response by marks (document 02, section 3) 41 and 42 stand in 40's place.
 use Prim.Native.Nat.{ℕ}
 use mathlib.Core.Bool.{cond}
@@ -17,6 +18,7 @@ use Rattle.soundness.specs.Sound.{takes}
 use Rattle.cards.specs.Forms.{card-bits, slip-bits, read-card, read-slip}
 use Rattle.tally.specs.declared.Tally.{Tally}
 use Rattle.tally.specs.Counting.{is-full, one-answered, one-refused}
+use Rattle.tally.specs.Editors.{Editors, has-record, own-record, with-record}
 use Rattle.response.specs.declared.Outcome.{Outcome}
 use Rattle.response.specs.declared.Outcome.the-variants.{Answered, Refused}
 use Rattle.response.specs.declared.Response.{Response}
@@ -61,9 +63,13 @@ answer-by-rules way counts rs card slip rooms =
 unfoldable pub answer-by-table : Way → Table → List ℕ → List ℕ → Rooms → OrRefused Answer
 answer-by-table way t card slip rooms = cond (takes way t) (answer-by-rules way (value-counts t) (rules-of t) card slip rooms) (refused 31 0)
 
--- 32 before all.
-unfoldable pub answer-in : Way → Table → Tally → List ℕ → List ℕ → Rooms → OrRefused Answer
-answer-in way t y card slip rooms = cond (is-full y) (refused 32 0) (answer-by-table way t card slip rooms)
+-- 32 before them, at the record in which the slip is counted.
+unfoldable pub answer-at : Way → Table → Tally → List ℕ → List ℕ → Rooms → OrRefused Answer
+answer-at way t y card slip rooms = cond (is-full y) (refused 32 0) (answer-by-table way t card slip rooms)
+
+-- 44 before all: the caller has no record.
+unfoldable pub answer-in : Way → Table → Editors → List ℕ → List ℕ → Rooms → OrRefused Answer
+answer-in way t y card slip rooms = cond (has-record y) (answer-at way t (own-record y) card slip rooms) (refused 44 0)
 
 -- The outcome: an answer says the length of the changes and how many rules fired.
 unfoldable pub outcome-of : OrRefused Answer → Outcome
@@ -75,26 +81,38 @@ unfoldable pub counted : Tally → OrRefused Answer → Tally
 counted y (taken a) = one-answered y
 counted y (refused k s) = one-refused y
 
--- The tally after a response: 32 is not counted.
+-- The record after a response: 32 is not counted.
 unfoldable pub tally-after : Tally → OrRefused Answer → Tally
 tally-after y u = cond (is-full y) y (counted y u)
 
--- The response.
-unfoldable pub response-in : Way → Table → Tally → List ℕ → List ℕ → Rooms → Response
-response-in way t y card slip rooms = record { outcome = outcome-of (answer-in way t y card slip rooms); tally = tally-after y (answer-in way t y card slip rooms) }
+-- The records after a response: the caller's is the one that counts; 44 is not counted.
+unfoldable pub records-after : Editors → OrRefused Answer → List Tally
+records-after y u = cond (has-record y) (with-record y (tally-after (own-record y) u)) (y .records)
+
+-- The response at one record.
+unfoldable pub response-at : Way → Table → Tally → List ℕ → List ℕ → Rooms → Response
+response-at way t y card slip rooms = record { outcome = outcome-of (answer-at way t y card slip rooms); tally = tally-after y (answer-at way t y card slip rooms) }
+
+-- The response: its outcome, and the records after it.
+pub record Responded : Type 0 where
+  pub outcome : Outcome
+  pub records : List Tally
+
+unfoldable pub response-in : Way → Table → Editors → List ℕ → List ℕ → Rooms → Responded
+response-in way t y card slip rooms = record { outcome = outcome-of (answer-in way t y card slip rooms); records = records-after y (answer-in way t y card slip rooms) }
 
 -- The response by strata.
-abbrev pub answer-to : Table → Tally → List ℕ → List ℕ → Rooms → OrRefused Answer
+abbrev pub answer-to : Table → Editors → List ℕ → List ℕ → Rooms → OrRefused Answer
 answer-to t y card slip rooms = answer-in Strata t y card slip rooms
 
-abbrev pub response-to : Table → Tally → List ℕ → List ℕ → Rooms → Response
+abbrev pub response-to : Table → Editors → List ℕ → List ℕ → Rooms → Responded
 response-to t y card slip rooms = response-in Strata t y card slip rooms
 
 -- The response by marks.
-abbrev pub marks-answer-to : Table → Tally → List ℕ → List ℕ → Rooms → OrRefused Answer
+abbrev pub marks-answer-to : Table → Editors → List ℕ → List ℕ → Rooms → OrRefused Answer
 marks-answer-to t y card slip rooms = answer-in Marks t y card slip rooms
 
-abbrev pub marks-response-to : Table → Tally → List ℕ → List ℕ → Rooms → Response
+abbrev pub marks-response-to : Table → Editors → List ℕ → List ℕ → Rooms → Responded
 marks-response-to t y card slip rooms = response-in Marks t y card slip rooms
 
 -- The contents of the three outputs, and their lengths.

@@ -1,10 +1,11 @@
-// The response to a slip: document 01, 'Preconditions and response', its order of refusals, and the tally.
+// The response to a slip at one record: document 01, 'Preconditions and response', its order of refusals, and the record after it.
 pub mod answering;
 pub mod slips;
 
 ghost use mathlib.Core.Path.{_≡_};
 ghost use mathlib.Core.Bool.{false};
 ghost use Rattle.table.specs.declared.Table as tables;
+ghost use Rattle.table.specs.declared.Way.the-variants.{Strata, Marks};
 ghost use Rattle.table.specs.Link.{rules-of};
 ghost use Rattle.table.specs.inner.Shape.{Shaped};
 ghost use Rattle.soundness.specs.Sound.{well-formed};
@@ -13,7 +14,7 @@ ghost use Rattle.rows.specs.inner.Rows.{table-in};
 ghost use Rattle.cards.specs.inner.Fitting.{counts-in};
 ghost use Rattle.tally.specs.Counting.{is-full, one-refused};
 ghost use Rattle.response.specs.declared.Outcome.the-variants.{Refused};
-ghost use Rattle.response.specs.Respond.{rooms-of, outputs, outputs-after, answer-by-rules, answer-in, response-in, answer-to, response-to, marks-answer-to, marks-response-to};
+ghost use Rattle.response.specs.Respond.{rooms-of, outputs, outputs-after, answer-by-rules, answer-at, response-at};
 ghost use Rattle.response.specs.inner.InOrder.{Kept, Ends};
 use answering::finish;
 use rows::NUMBERS;
@@ -35,7 +36,7 @@ pub enum Outcome {
     Refused(u8, usize),
 }
 
-// The outcome and the tally after it.
+// The outcome and the record after it.
 pub struct Response {
     pub outcome: Outcome,
     pub tally: Tally,
@@ -100,9 +101,9 @@ fn conclude(
 ) -> Response
     requires { ⌜ ((t : tables.Table) × Shaped t × Enters t (well-formed t) entry (now counts) (now rows)) ⌝ }
     ensures { λ r. ⌜ ((t : tables.Table) → Shaped t → Enters t (well-formed t) entry (now (counts .entry)) (now (rows .entry))
-        → (r ≡ response-in way t tally (now (card .entry)) (now (slip .entry)) (rooms-of (now (renewed .entry)) (now (changes .entry)) (now (fired .entry))))
+        → (r ≡ response-at way t tally (now (card .entry)) (now (slip .entry)) (rooms-of (now (renewed .entry)) (now (changes .entry)) (now (fired .entry))))
         × (outputs (now (renewed .exit)) (now (changes .exit)) (now (fired .exit))
-        ≡ outputs-after (answer-in way t tally (now (card .entry)) (now (slip .entry)) (rooms-of (now (renewed .entry)) (now (changes .entry)) (now (fired .entry)))) (outputs (now (renewed .entry)) (now (changes .entry)) (now (fired .entry))))) ⌝ }
+        ≡ outputs-after (answer-at way t tally (now (card .entry)) (now (slip .entry)) (rooms-of (now (renewed .entry)) (now (changes .entry)) (now (fired .entry)))) (outputs (now (renewed .entry)) (now (changes .entry)) (now (fired .entry))))) ⌝ }
 {
     if is_full(tally) {
         return Response {
@@ -155,9 +156,9 @@ pub fn respond(
     changes: &mut [u8],
     fired: &mut [u8],
 ) -> Response
-    ensures { λ r. ⌜ (r ≡ response-to t tally (now (card .entry)) (now (slip .entry)) (rooms-of (now (renewed .entry)) (now (changes .entry)) (now (fired .entry))))
+    ensures { λ r. ⌜ (r ≡ response-at Strata t tally (now (card .entry)) (now (slip .entry)) (rooms-of (now (renewed .entry)) (now (changes .entry)) (now (fired .entry))))
         × (outputs (now (renewed .exit)) (now (changes .exit)) (now (fired .exit))
-        ≡ outputs-after (answer-to t tally (now (card .entry)) (now (slip .entry)) (rooms-of (now (renewed .entry)) (now (changes .entry)) (now (fired .entry)))) (outputs (now (renewed .entry)) (now (changes .entry)) (now (fired .entry)))) ⌝ }
+        ≡ outputs-after (answer-at Strata t tally (now (card .entry)) (now (slip .entry)) (rooms-of (now (renewed .entry)) (now (changes .entry)) (now (fired .entry)))) (outputs (now (renewed .entry)) (now (changes .entry)) (now (fired .entry)))) ⌝ }
 {
     let mut counts: [usize; SLOTS] = [0; SLOTS];
     let mut rows: [[u16; NUMBERS]; RULES] = [[0; NUMBERS]; RULES];
@@ -186,9 +187,9 @@ pub fn respond_by_marks(
     changes: &mut [u8],
     fired: &mut [u8],
 ) -> Response
-    ensures { λ r. ⌜ (r ≡ marks-response-to t tally (now (card .entry)) (now (slip .entry)) (rooms-of (now (renewed .entry)) (now (changes .entry)) (now (fired .entry))))
+    ensures { λ r. ⌜ (r ≡ response-at Marks t tally (now (card .entry)) (now (slip .entry)) (rooms-of (now (renewed .entry)) (now (changes .entry)) (now (fired .entry))))
         × (outputs (now (renewed .exit)) (now (changes .exit)) (now (fired .exit))
-        ≡ outputs-after (marks-answer-to t tally (now (card .entry)) (now (slip .entry)) (rooms-of (now (renewed .entry)) (now (changes .entry)) (now (fired .entry)))) (outputs (now (renewed .entry)) (now (changes .entry)) (now (fired .entry)))) ⌝ }
+        ≡ outputs-after (answer-at Marks t tally (now (card .entry)) (now (slip .entry)) (rooms-of (now (renewed .entry)) (now (changes .entry)) (now (fired .entry)))) (outputs (now (renewed .entry)) (now (changes .entry)) (now (fired .entry)))) ⌝ }
 {
     let mut counts: [usize; SLOTS] = [0; SLOTS];
     let mut rows: [[u16; NUMBERS]; RULES] = [[0; NUMBERS]; RULES];

@@ -20,7 +20,8 @@ use Rattle.table.proofs.Flat.{placed-inside, set-in, set-more}
 use Rattle.marks.specs.Marks.{Marks, declared-pairs, rivals, update}
 use Rattle.marks.proofs.Updates.{SameAt, same-at-trans, update-same, update-more, update-known, rivals-i}
 use Rattle.marks.proofs.Loop.{Clear}
-use Rattle.selecting.specs.inner.Known.{Known, marks-of, made-positive, marked, assigned-one, assigned, clashes}
+use Rattle.judging.specs.inner.Known.{Known, marks-of}
+use Rattle.marking.specs.inner.Marked.{made-positive, marked, assigned-one, assigned, clashes}
 use Rattle.selecting.proofs.MarkLaws.{Whole, Rival, rivals-one, marked-outs, marked-marks}
 use Rattle.selecting.proofs.Given.{Given, declared-value, value-declared, declared-placed}
 

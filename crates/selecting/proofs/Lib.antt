@@ -1,10 +1,3 @@
-pub mod Known
-pub mod Slots
-pub mod Negative
-pub mod Tests
-pub mod Joining
-pub mod Chains
-pub mod Counts
 pub mod Live
 pub mod MarkLaws
 pub mod Given

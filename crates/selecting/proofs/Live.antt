@@ -22,7 +22,8 @@ use Rattle.table.specs.Link.{assignments-of}
 use Rattle.table.specs.inner.Flat.{pair-places, place-of}
 use Rattle.table.proofs.Flat.{same-place}
 use Rattle.rows.specs.inner.Rows.{rule-in, RowsFit}
-use Rattle.selecting.specs.inner.Live.{times, live-below, Live}
+use Rattle.judging.specs.inner.Times.{times}
+use Rattle.selecting.specs.inner.Live.{live-below, Live}
 
 -- What the rule in a row assigns, the rows counted from 0.
 abbrev pub assigned-at : List (List ℕ) → ℕ → List Pair

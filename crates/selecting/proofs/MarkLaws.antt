@@ -25,8 +25,9 @@ use Rattle.marks.specs.Truths.{True, False, Unknown}
 use Rattle.marks.specs.inner.Number.{number}
 use Rattle.marks.specs.Marks.{Marks, update, rivals, truth-had, truth-turns}
 use Rattle.marks.proofs.Updates.{SameAt, rivals-i, rivals-e}
+use Rattle.judging.specs.inner.Known.{Known, known, marks-of, Truths}
+use Rattle.marking.specs.inner.Marked.{ruled-out, made-positive, rival-out, rivals-out, marked, unassigned-one, unassigned-out}
 use Rattle.selecting.specs.inner.Selected.{CardIs}
-use Rattle.selecting.specs.inner.Known.{Known, known, marks-of, Truths, ruled-out, made-positive, rival-out, rivals-out, marked, unassigned-one, unassigned-out}
 
 -- One pair more is flagged: it is, and the others are as they were.
 set-here : (bs : List Bool) (q : Pair) → q .value < row → place-of q < length bs → T (set-of (set bs (place-of q) true) q)

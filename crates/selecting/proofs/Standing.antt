@@ -37,8 +37,10 @@ use Rattle.marks.proofs.Selections.{all-pairs-i, all-pairs-e}
 use Rattle.marks.proofs.Correct.{selection-positive-declared}
 use Rattle.marks.proofs.Loop.{Clear, more-stays, Selecting, selecting-rivalled, fired-marks, fire-one, loop-clash, loop-end}
 use Rattle.marks.proofs.Loop as loop
-use Rattle.selecting.specs.inner.Known.{Known, known, marks-of, Truths, assigned, clashes, unassigned-out, FirstNegative, AllMarked, NotMarked}
-use Rattle.selecting.specs.inner.Live.{times, Live}
+use Rattle.judging.specs.inner.Known.{Known, known, marks-of, Truths}
+use Rattle.judging.specs.inner.Times.{times}
+use Rattle.marking.specs.inner.Marked.{assigned, clashes, unassigned-out, FirstNegative, AllMarked, NotMarked}
+use Rattle.selecting.specs.inner.Live.{Live}
 use Rattle.selecting.specs.inner.Selected.{SlipIs, OneValue, Selected}
 use Rattle.selecting.proofs.Live.{assigned-at, times-among, among-times, live-has, live-some, live-released}
 use Rattle.selecting.proofs.MarkLaws.{unassigned-outs}

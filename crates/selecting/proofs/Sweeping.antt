@@ -13,12 +13,13 @@ use Rattle.model.specs.Rules.{Pair}
 use Rattle.table.specs.Link.{rule-of}
 use Rattle.table.specs.inner.Flat.{pair-places, place-of}
 use Rattle.rows.specs.inner.Rows.{rule-in}
-use Rattle.firing.proofs.Lists.{set-low}
+use Rattle.testing.proofs.Lists.{set-low}
 use Rattle.marks.specs.inner.Number.{number}
 use Rattle.marks.specs.Marks.{truth-rule}
-use Rattle.selecting.specs.inner.Known.{Known, known, marks-of, Truths, Three, ruled-out, made-positive, rival-out, rivals-out, marked, assigned-one, assigned, unassigned-one, unassigned-out}
+use Rattle.judging.specs.inner.Known.{Known, known, marks-of, Truths, Three}
+use Rattle.marking.specs.inner.Marked.{ruled-out, made-positive, rival-out, rivals-out, marked, assigned-one, assigned, unassigned-one, unassigned-out}
+use Rattle.marking.specs.inner.Waking.{Chained}
 use Rattle.selecting.specs.inner.Live.{Live}
-use Rattle.selecting.specs.inner.Waking.{Chained}
 
 -- The chains are in order, the tests come to three values, and the assignments left are counted.
 pub record Held (rows : List (List ℕ)) (n : ℕ) (heads nexts live truth : List ℕ) (dead : List Bool) : Type 0 where

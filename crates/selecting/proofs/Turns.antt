@@ -10,9 +10,9 @@ use Rattle.laws.specs.Limits.{rule-limit}
 use Rattle.laws.specs.inner.Flags.{flags-set}
 use Rattle.laws.proofs.Flags.{flags-more, flags-top}
 use Rattle.rows.proofs.Laws.{at-last}
-use Rattle.firing.specs.inner.Waiting.{Woken}
-use Rattle.firing.specs.declared.waiting.Turn.{Turn}
-use Rattle.selecting.specs.inner.Waking.{turn-at}
+use Rattle.testing.specs.inner.Waiting.{Woken}
+use Rattle.testing.specs.declared.waiting.Turn.{Turn}
+use Rattle.marking.specs.inner.Waking.{turn-at}
 
 module _ (k : ℕ) (woken : List ℕ) where
   -- The rule looked at next is one,

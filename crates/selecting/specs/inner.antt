@@ -1,4 +1,2 @@
-pub mod Known
 pub mod Live
 pub mod Selected
-pub mod Waking

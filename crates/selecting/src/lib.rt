@@ -1,9 +1,4 @@
 // The selection of document 02, section 3, over rows: rules are fired and pairs ruled out until nothing more applies.
-pub mod counting;
-pub mod marking;
-pub mod truth;
-pub mod waking;
-
 ghost use mathlib.Core.Path.{_≡_};
 ghost use mathlib.Core.Bool.{false};
 ghost use mathlib.Core.List.{List, []};
@@ -18,23 +13,23 @@ ghost use Rattle.rows.specs.inner.Rows.{rule-in, table-in, RowsFit};
 ghost use Rattle.marks.specs.Marks.{declared-pairs};
 ghost use Rattle.marks.specs.inner.Declared.{Declared};
 ghost use Rattle.selecting.specs.inner.Selected.{Counts, CardIs, SlipIs, OneValue, Selected};
-use counting::count_assigned;
-use counting::release;
-use marking::all_known;
-use marking::assign;
-use marking::first_negative;
-use marking::rule_out_unassigned;
+use judging::counting::count_assigned;
+use judging::counting::release;
+use judging::truth::FALSE;
+use judging::truth::UNKNOWN;
+use judging::truth::rule_truth;
+use judging::truth::truth_of;
+use marking::pairs::all_known;
+use marking::pairs::assign;
+use marking::pairs::first_negative;
+use marking::pairs::rule_out_unassigned;
+use marking::waking::TESTS;
+use marking::waking::chain;
+use marking::waking::next_rule;
 use rows::NUMBERS;
 use table::PAIRS;
 use table::RULES;
 use table::SLOTS;
-use truth::FALSE;
-use truth::UNKNOWN;
-use truth::rule_truth;
-use truth::truth_of;
-use waking::TESTS;
-use waking::chain;
-use waking::next_rule;
 
 // Selects until nothing more applies: an unfired rule that is True is fired, a pair that only False rules assign is ruled out.
 // 0 with the positive pairs and the fired rules, 41 where a pair would be both positive and negative, else 42 where a pair stays unknown.

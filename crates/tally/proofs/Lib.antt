@@ -1,1 +1,2 @@
+pub mod EditorLaws
 pub mod TallyLaws

@@ -1,7 +1,9 @@
-// The tally of a day: slips answered and slips refused, 0 to 9,999 each.
+// The tally of a day: slips answered and slips refused, 0 to 9,999 each, for each editor.
 ghost use mathlib.Core.Path.{_≡_};
 ghost use mathlib.Core.Bool.{false};
 ghost use Rattle.tally.specs.Counting.{is-full, one-answered, one-refused};
+ghost use Rattle.tally.specs.Editors.{is-editor};
+ghost use Rattle.tally.specs.inner.Places.{record-place};
 
 // Slips answered and slips refused.
 #[repr(C)]
@@ -46,4 +48,30 @@ pub fn one_refused(tally: Tally) -> Tally
         answered: tally.answered,
         refused: tally.refused + 1,
     }
+}
+
+// Editors, and so records in a table of them.
+pub const EDITORS: usize = 40;
+
+// Whether a number is an editor's: from 1 to 40.
+pub fn is_editor(editor: usize) -> bool
+    ensures { λ b. ⌜ b ≡ is-editor editor ⌝ }
+{
+    if editor < 1 {
+        return false;
+    }
+    editor <= EDITORS
+}
+
+// The place of an editor's record in a table of so many; past its end where there is none: 44.
+pub fn place(count: usize, editor: usize) -> usize
+    ensures { λ r. ⌜ r ≡ record-place count editor ⌝ }
+{
+    if count != EDITORS {
+        return count;
+    }
+    if !is_editor(editor) {
+        return count;
+    }
+    editor - 1
 }

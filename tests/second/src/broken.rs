@@ -5,13 +5,14 @@ use crate::cards::{
     card_fields, card_length, faulty_changes, pack_card, pack_slip, put, slip_bytes, slip_fields, unpack_card,
     unpack_slip,
 };
+use crate::editors::{Caller, Tally, FULL};
 use crate::engine::{parts, Engine, Second};
 use crate::fault::Fault;
 use crate::response::{conflict, fired_count, needed, outcome, record, short_output};
-use crate::response::{Answer, Changes, Outputs, Tally, FULL};
+use crate::response::{Answer, Changes, Outputs};
 use crate::table::{Name, Pair, Program, Table};
-use crate::table31::tested;
-use crate::{broken_marks, broken_print, broken_reading, broken_strata, refusal, Refusal};
+use crate::table31::{tested, tested_for_marks};
+use crate::{broken_editors, broken_marks, broken_print, broken_reading, broken_strata, refusal, Refusal};
 
 /// The second engine with one fault, and the responses it has given.
 pub struct Broken {
@@ -182,7 +183,7 @@ impl Broken {
         outcome
     }
 
-    /// Whether a tally is full.
+    /// Whether a record is full.
     fn full(&self, tally: Tally) -> bool {
         let full = |count: u32| match self.fault {
             Fault::FullEarly => count >= FULL - 1,
@@ -199,6 +200,39 @@ impl Broken {
             outputs.changes[answer.changes.len()..].fill(0);
             outputs.fired[answer.fired.len()..].fill(0);
         }
+    }
+
+    /// The response at one record.
+    fn respond_at(
+        &mut self,
+        table: &Table,
+        tally: &mut Tally,
+        card: &[u8],
+        slip: &[u8],
+        mut outputs: Outputs,
+    ) -> Result<usize, Refusal> {
+        if self.fault == Fault::TableBeforeTally && tested(table).is_err() {
+            tally.add(false);
+            return Err(refusal(31, 0));
+        }
+        if self.full(*tally) {
+            if self.fault == Fault::CountedOnFull {
+                tally.add(false);
+            }
+            return Err(refusal(32, 0));
+        }
+        let answer = self.answer(table, card, slip, outputs.rooms());
+        let conflict = answer.as_ref().map_or_else(|why| why.number == 40, |_| false);
+        if !(conflict && self.fault == Fault::ConflictUncounted) {
+            tally.add(answer.is_ok());
+        }
+        if conflict && self.fault == Fault::WrittenOnConflict {
+            outputs.card[..card.len()].copy_from_slice(card);
+        }
+        let answer = answer?;
+        outputs.write(&answer);
+        self.clear_tails(&mut outputs, &answer);
+        Ok(answer.changes.len())
     }
 }
 
@@ -260,43 +294,29 @@ impl Engine for Broken {
     fn respond(
         &mut self,
         table: &Table,
-        tally: Tally,
+        caller: Caller,
         card: &[u8],
         slip: &[u8],
-        mut outputs: Outputs,
-    ) -> (Tally, Result<usize, Refusal>) {
-        let refused = Tally { refused: tally.refused + 1, ..tally };
-        if self.fault == Fault::TableBeforeTally && tested(table).is_err() {
-            return (refused, Err(refusal(31, 0)));
-        }
-        if self.full(tally) {
-            return (if self.fault == Fault::CountedOnFull { refused } else { tally }, Err(refusal(32, 0)));
-        }
-        match self.answer(table, card, slip, outputs.rooms()) {
-            Ok(answer) => {
-                outputs.write(&answer);
-                self.clear_tails(&mut outputs, &answer);
-                (Tally { answered: tally.answered + 1, ..tally }, Ok(answer.changes.len()))
-            }
-            Err(why) if why.number == 40 && self.fault == Fault::ConflictUncounted => (tally, Err(why)),
-            Err(why) => {
-                if why.number == 40 && self.fault == Fault::WrittenOnConflict {
-                    outputs.card[..card.len()].copy_from_slice(card);
-                }
-                (refused, Err(why))
-            }
-        }
+        outputs: Outputs,
+    ) -> Result<usize, Refusal> {
+        let is_31 = || tested(table).is_err();
+        broken_editors::respond(self.fault, caller, outputs, is_31, |tally, outputs| {
+            self.respond_at(table, tally, card, slip, outputs)
+        })
     }
 
     fn respond_by_marks(
         &mut self,
         table: &Table,
-        tally: Tally,
+        caller: Caller,
         card: &[u8],
         slip: &[u8],
         outputs: Outputs,
-    ) -> (Tally, Result<usize, Refusal>) {
-        broken_marks::respond(self.fault, table, tally, card, slip, outputs)
+    ) -> Result<usize, Refusal> {
+        let is_31 = || tested_for_marks(table).is_err();
+        broken_editors::respond(self.fault, caller, outputs, is_31, |tally, outputs| {
+            broken_marks::respond_at(self.fault, table, tally, card, slip, outputs)
+        })
     }
 
     fn fired_count(&mut self, record: &[u8]) -> usize {

@@ -1,9 +1,10 @@
 //! The reading without test 18, the test 31 for it and the response by marks with one fault.
 
+use crate::editors::Tally;
 use crate::fault::Fault;
 use crate::marks::{self, had, not, Mark, Marks, Moment, Truth};
 use crate::read::{read, read_unlayered};
-use crate::response::{self, answered, counted, enabled, fire, outcome, Answer, Firing, Outputs, Tally};
+use crate::response::{self, answered, counted, enabled, fire, outcome, Answer, Firing, Outputs};
 use crate::strata::strata;
 use crate::table::{Literal, Pair, Program, Rule, Table};
 use crate::table31::{tested, tested_for_marks, unlayered};
@@ -184,25 +185,24 @@ fn answer(fault: Fault, table: &Table, card: &[u8], slip: &[u8], rooms: [usize; 
     }
 }
 
-/// The response by marks with a fault.
-pub fn respond(
+/// The response by marks at one record with a fault.
+pub fn respond_at(
     fault: Fault,
     table: &Table,
-    tally: Tally,
+    tally: &mut Tally,
     card: &[u8],
     slip: &[u8],
     outputs: Outputs,
-) -> (Tally, Result<usize, Refusal>) {
+) -> Result<usize, Refusal> {
+    let before = *tally;
     let Outputs { card: new, changes, fired } = outputs;
-    let (after, result) =
-        counted(tally, Outputs { card: &mut *new, changes, fired }, |rooms| answer(fault, table, card, slip, rooms));
+    let outputs = Outputs { card: &mut *new, changes, fired };
+    let result = counted(tally, outputs, |rooms| answer(fault, table, card, slip, rooms));
     match (fault, result) {
-        (Fault::MarksUncounted, Err(why)) if why.number > 40 => (tally, result),
-        (Fault::ClashAsConflict, Err(why)) if why.number == 41 => (after, Err(refusal(40, 0))),
-        (Fault::WrittenOnUnknown, Err(why)) if why.number == 42 => {
-            new[..card.len()].copy_from_slice(card);
-            (after, result)
-        }
-        _ => (after, result),
+        (Fault::MarksUncounted, Err(why)) if why.number > 40 => *tally = before,
+        (Fault::ClashAsConflict, Err(why)) if why.number == 41 => return Err(refusal(40, 0)),
+        (Fault::WrittenOnUnknown, Err(why)) if why.number == 42 => new[..card.len()].copy_from_slice(card),
+        _ => {}
     }
+    result
 }

@@ -1,78 +1,20 @@
 //! The comparison of an engine with the second engine over generated inputs.
 
-use std::fmt::Debug;
 use std::path::Path;
 
+use crate::days::{compare_day, compare_response, entry, fitting, respond, Entry, Seen};
 use crate::engine::{Engine, Second, Way};
-use crate::gen::{self, any_file, File, Rng};
+use crate::gen::{any_file, File, Rng};
+use crate::gen_editors::Day;
 use crate::gen_marks;
 use crate::gen_tables::{circled_table, damaged};
-use crate::gen_text::Sketch;
+use crate::lent::{lend, same, Difference};
 use crate::print::{print_of, put};
 use crate::raw::PRINT_BYTES;
 use crate::read::read_rules;
-use crate::response::{needed, Outputs, Tally};
 use crate::table::{table_of, Table};
-use crate::table31::unlayered;
 use crate::text::pieces;
 use crate::Refusal;
-
-/// A difference: where it was seen, what the second engine gave, what the other gave.
-#[derive(Clone, Debug)]
-pub struct Difference {
-    pub place: String,
-    pub second: String,
-    pub other: String,
-}
-
-/// Says where two results differ.
-fn same<T: PartialEq + Debug>(place: &str, second: &T, other: &T) -> Result<(), Difference> {
-    if second == other {
-        return Ok(());
-    }
-    Err(Difference { place: place.to_string(), second: format!("{second:?}"), other: format!("{other:?}") })
-}
-
-/// The bytes before and after each lent output, which no engine may touch.
-const MARGIN: usize = 16;
-
-/// The contents of an output before a call: no two neighbours alike, so that a stray write is seen.
-fn filled(room: usize) -> Vec<u8> {
-    (0..room + 2 * MARGIN).map(|at| (at * 37 + 165) as u8).collect()
-}
-
-/// What a call left: its result and the whole of each lent output, margins too.
-type Left<T> = (T, Vec<Vec<u8>>);
-
-/// Lends outputs of the given lengths to a call.
-fn lend<T, const N: usize>(rooms: [usize; N], call: impl FnOnce([&mut [u8]; N]) -> T) -> Left<T> {
-    let mut whole = rooms.map(filled);
-    let lent: Vec<&mut [u8]> = whole
-        .iter_mut()
-        .map(|output| {
-            let end = output.len() - MARGIN;
-            &mut output[MARGIN..end]
-        })
-        .collect();
-    let result = call(lent.try_into().expect("as many outputs as rooms"));
-    (result, whole.to_vec())
-}
-
-/// The entry of a response: card, slip, tally and output lengths.
-#[derive(Clone, Debug)]
-pub struct Entry {
-    pub card: Vec<u8>,
-    pub slip: Vec<u8>,
-    pub tally: Tally,
-    pub rooms: [usize; 3],
-}
-
-/// The response of an engine by a way with what it left in the outputs.
-fn respond(engine: &mut dyn Engine, way: Way, table: &Table, entry: &Entry) -> Left<(Tally, Result<usize, Refusal>)> {
-    lend(entry.rooms, |[card, changes, fired]| {
-        engine.respond_by(way, table, entry.tally, &entry.card, &entry.slip, Outputs { card, changes, fired })
-    })
-}
 
 /// Compares readings for a response: refusals, and tables place by place; after a refusal only that there are no slots or rules.
 fn compare_read(other: &mut dyn Engine, way: Way, text: &[u8]) -> Result<(Option<Refusal>, Box<Table>), Difference> {
@@ -132,55 +74,6 @@ fn compare_names(other: &mut dyn Engine, text: &[u8], table: &Table) -> Result<(
     Ok(())
 }
 
-/// Compares the unpacking of an entry and the packing back, then the packing of made forms with any room.
-fn compare_cards(
-    other: &mut dyn Engine,
-    table: &Table,
-    entry: &Entry,
-    sketch: &Sketch,
-    rng: &mut Rng,
-) -> Result<(), Difference> {
-    let card = Second.unpack_card(table, &entry.card);
-    same("unpacking a card", &card, &other.unpack_card(table, &entry.card))?;
-    let slip = Second.unpack_slip(table, &entry.slip);
-    same("unpacking a slip", &slip, &other.unpack_slip(table, &entry.slip))?;
-    let made_card = if rng.chance(1, 2) { card.ok() } else { None };
-    let values = made_card.unwrap_or_else(|| gen::unpacked_card(rng, sketch));
-    let room = rng.below(20);
-    let ours = lend([room], |[output]| Second.pack_card(table, &values, output));
-    same("packing a card", &ours, &lend([room], |[output]| other.pack_card(table, &values, output)))?;
-    let made_slip = if rng.chance(1, 2) { slip.ok() } else { None };
-    let changes = made_slip.unwrap_or_else(|| gen::unpacked_slip(rng, sketch));
-    let most = *rng.pick(&[6, 40]);
-    let room = rng.below(most);
-    let ours = lend([room], |[output]| Second.pack_slip(table, &changes, output));
-    same("packing a slip", &ours, &lend([room], |[output]| other.pack_slip(table, &changes, output)))
-}
-
-/// Compares one response by a way, whole outputs with their margins; gives the tally after it.
-fn compare_response(other: &mut dyn Engine, way: Way, table: &Table, entry: &Entry) -> Result<Tally, Difference> {
-    let ours = respond(&mut Second, way, table, entry);
-    same("the response", &ours, &respond(other, way, table, entry))?;
-    let (left, outputs) = ours;
-    let record = &outputs[2][MARGIN..MARGIN + entry.rooms[2]];
-    same("the number of fired rules", &Second.fired_count(record), &other.fired_count(record))?;
-    Ok(left.0)
-}
-
-/// The lengths that a response on any table needs, as far as its counts say.
-fn needed_by(table: &Table) -> [usize; 3] {
-    unlayered(table).map_or([17, 37, 32], |program| needed(&program))
-}
-
-/// The sketch that cards and slips are made for: the file's, but for most refused files the empty one.
-fn fitting(rng: &mut Rng, file: &File, table: &Table) -> Sketch {
-    if table.width == 0 && rng.chance(3, 4) {
-        gen::empty_sketch()
-    } else {
-        file.sketch.clone()
-    }
-}
-
 /// A table for the test 31: the one that was read, changed; for a file refused with 18 often its rules with numbers that are no strata, changed or not.
 fn changed_table(rng: &mut Rng, text: &[u8], refused: Option<Refusal>, table: &Table) -> Box<Table> {
     let circled = refused.map_or(false, |why| why.number == 18) && rng.chance(1, 2);
@@ -197,16 +90,6 @@ fn changed_table(rng: &mut Rng, text: &[u8], refused: Option<Refusal>, table: &T
     }
 }
 
-/// An entry for a table made from a sketch.
-fn entry(rng: &mut Rng, sketch: &Sketch, table: &Table, tally: Tally) -> Entry {
-    Entry {
-        card: gen::card(rng, sketch),
-        slip: gen::slip(rng, sketch),
-        tally,
-        rooms: gen::rooms(rng, needed_by(table)),
-    }
-}
-
 /// An input that showed a difference: the way of the response asked or read for, the rule text and the entry, if one was reached.
 #[derive(Clone, Debug)]
 pub struct Failing {
@@ -215,30 +98,6 @@ pub struct Failing {
     pub text: Vec<u8>,
     pub entry: Option<Entry>,
     pub difference: Difference,
-}
-
-/// A difference, and the entry it was seen with, if one was reached.
-struct Seen {
-    entry: Option<Entry>,
-    difference: Difference,
-}
-
-/// Compares a day of entries on one table by a way, the tally handed on from each to the next.
-fn compare_day(
-    other: &mut dyn Engine,
-    way: Way,
-    sketch: &Sketch,
-    table: &Table,
-    rng: &mut Rng,
-) -> Result<(), Box<Seen>> {
-    let mut tally = gen::tally(rng);
-    for _ in 0..4 {
-        let entry = entry(rng, sketch, table, tally);
-        let cards = compare_cards(other, table, &entry, sketch, rng);
-        let after = cards.and_then(|_| compare_response(other, way, table, &entry));
-        tally = after.map_err(|difference| Seen { entry: Some(entry), difference })?;
-    }
-    Ok(())
 }
 
 /// A difference seen without an entry.
@@ -259,29 +118,25 @@ fn compare_by_strata(other: &mut dyn Engine, file: &File, rng: &mut Rng) -> Resu
     compare_strata(other, &file.text).map_err(no_entry)?;
     compare_names(other, &file.text, &table).map_err(no_entry)?;
     let sketch = fitting(rng, file, &table);
-    compare_day(other, Way::Strata, &sketch, &table, rng)?;
+    compare_day(other, &[(Way::Strata, &table)], &sketch, rng)?;
     let changed = changed_table(rng, &file.text, refused, &table);
     compare_names(other, &file.text, &changed).map_err(no_entry).map_err(on_changed)?;
     let sketch = fitting(rng, file, &changed);
-    compare_day(other, Way::Strata, &sketch, &changed, rng).map_err(on_changed)?;
+    compare_day(other, &[(Way::Strata, &changed)], &sketch, rng).map_err(on_changed)?;
     Ok(table)
 }
 
-/// Compares the response by marks on a file as read without test 18, on its table with strata, and on a changed table; and the strata response on the first.
+/// Compares the response by marks on a file as read without test 18, then both responses on that table and on the one with strata, and the response by marks on a changed table.
 fn compare_by_marks(other: &mut dyn Engine, file: &File, layered: &Table, rng: &mut Rng) -> Result<(), Box<Seen>> {
     let (_, table) = compare_read(other, Way::Marks, &file.text).map_err(no_entry)?;
     let sketch = fitting(rng, file, &table);
-    compare_day(other, Way::Marks, &sketch, &table, rng)?;
-    let entry = entry(rng, &sketch, &table, Tally::default());
-    for (way, table) in [(Way::Marks, layered), (Way::Strata, &table)] {
-        let compared = compare_response(other, way, table, &entry);
-        let seen = |difference| Box::new(Seen { entry: Some(entry.clone()), difference });
-        compared.map_err(|difference| on_changed(seen(difference)))?;
-    }
+    compare_day(other, &[(Way::Marks, &table)], &sketch, rng)?;
+    let both = [(Way::Marks, layered), (Way::Strata, &*table), (Way::Strata, layered), (Way::Marks, &*table)];
+    compare_day(other, &both, &sketch, rng).map_err(on_changed)?;
     let either = if rng.chance(1, 2) { layered } else { &table };
     let changed = damaged(rng, either, file.text.len());
     let sketch = fitting(rng, file, &changed);
-    compare_day(other, Way::Marks, &sketch, &changed, rng).map_err(on_changed)
+    compare_day(other, &[(Way::Marks, &changed)], &sketch, rng).map_err(on_changed)
 }
 
 /// Compares an engine with the second on the inputs of a seed: a file of any kind by both ways, and one made for the response by marks.
@@ -339,15 +194,24 @@ pub fn shrunk(other: &mut dyn Engine, failing: &Failing) -> Failing {
     smaller
 }
 
-/// Writes a failing input into a folder: rules.txt, card.bin, slip.bin, and what was seen.
+/// What a call was made with besides its card and slip.
+fn call(entry: &Entry) -> String {
+    let records: Vec<(u32, u32)> = entry.records.iter().map(|record| (record.answered, record.refused)).collect();
+    format!("editor {} with {} records {records:?}\noutput lengths {:?}\n", entry.editor, records.len(), entry.rooms)
+}
+
+/// Writes a failing input into a folder: rules.txt, card.bin, slip.bin, editor.bin where the number is a byte, and what was seen.
 pub fn store(folder: &Path, failing: &Failing) -> std::io::Result<()> {
     std::fs::create_dir_all(folder)?;
     let entry = failing.entry.as_ref();
     std::fs::write(folder.join("rules.txt"), &failing.text)?;
     std::fs::write(folder.join("card.bin"), entry.map_or(&[0][..], |entry| &entry.card))?;
     std::fs::write(folder.join("slip.bin"), entry.map_or(&[0][..], |entry| &entry.slip))?;
+    if let Ok(editor) = u8::try_from(entry.map_or(1, |entry| entry.editor)) {
+        std::fs::write(folder.join("editor.bin"), [editor])?;
+    }
     let Difference { place, second, other } = &failing.difference;
-    let call = entry.map_or(String::new(), |entry| format!("{:?}\noutput lengths {:?}\n", entry.tally, entry.rooms));
+    let call = entry.map_or(String::new(), call);
     let Failing { seed, way, .. } = failing;
     let seen = format!("seed {seed} by {way:?}\n{place}\n{call}second engine: {second}\nother engine: {other}\n");
     std::fs::write(folder.join("seen.txt"), seen)
@@ -366,11 +230,11 @@ pub fn refusals_met(way: Way, first: u64, rounds: u64) -> std::collections::BTre
             *met.entry(print.err().map_or(0, |why| why.number)).or_default() += 1;
         }
         for changed in [None, Some(changed_table(&mut rng, &file.text, refused, &table))] {
-            let tally = gen::tally(&mut rng);
+            let day = Day::new(&mut rng);
             let table = changed.as_ref().unwrap_or(&table);
             let sketch = fitting(&mut rng, &file, table);
-            let entry = entry(&mut rng, &sketch, table, tally);
-            let result = respond(&mut Second, way, table, &entry).0 .1;
+            let entry = entry(&mut rng, &sketch, table, &day);
+            let result = respond(&mut Second, way, table, &entry).result;
             *met.entry(result.err().map_or(0, |why| why.number)).or_default() += 1;
         }
     }

@@ -1,6 +1,7 @@
 //! What the comparison asks of an engine, and the second engine as one.
 
-use crate::response::{respond, Outputs, Tally};
+use crate::editors::Caller;
+use crate::response::{respond, Outputs};
 use crate::table::{Name, Pair, Table};
 use crate::table31::{slot_name, tested, unlayered, value_name};
 use crate::{cards, marks, print, read, refusal, response, strata, Refusal};
@@ -44,25 +45,25 @@ pub trait Engine {
     /// Packs a slip into an output: its length, or 31, 24 to 27, 30.
     fn pack_slip(&mut self, table: &Table, changes: &[Pair], output: &mut [u8]) -> Result<usize, Refusal>;
 
-    /// The response: the tally after it, and the changes' length or 32, 31, 20 to 28, 30, 40.
+    /// The response, counted in the caller's record: the changes' length, or 44, 32, 31, 20 to 28, 30, 40.
     fn respond(
         &mut self,
         table: &Table,
-        tally: Tally,
+        caller: Caller,
         card: &[u8],
         slip: &[u8],
         outputs: Outputs,
-    ) -> (Tally, Result<usize, Refusal>);
+    ) -> Result<usize, Refusal>;
 
-    /// The response by marks: the tally after it, and the changes' length or 32, 31, 20 to 28, 30, 41, 42.
+    /// The response by marks, counted in the caller's record: the changes' length, or 44, 32, 31, 20 to 28, 30, 41, 42.
     fn respond_by_marks(
         &mut self,
         table: &Table,
-        tally: Tally,
+        caller: Caller,
         card: &[u8],
         slip: &[u8],
         outputs: Outputs,
-    ) -> (Tally, Result<usize, Refusal>);
+    ) -> Result<usize, Refusal>;
 
     /// How many rules fired, by the fired record.
     fn fired_count(&mut self, record: &[u8]) -> usize;
@@ -80,14 +81,14 @@ pub trait Engine {
         &mut self,
         way: Way,
         table: &Table,
-        tally: Tally,
+        caller: Caller,
         card: &[u8],
         slip: &[u8],
         outputs: Outputs,
-    ) -> (Tally, Result<usize, Refusal>) {
+    ) -> Result<usize, Refusal> {
         match way {
-            Way::Strata => self.respond(table, tally, card, slip, outputs),
-            Way::Marks => self.respond_by_marks(table, tally, card, slip, outputs),
+            Way::Strata => self.respond(table, caller, card, slip, outputs),
+            Way::Marks => self.respond_by_marks(table, caller, card, slip, outputs),
         }
     }
 }
@@ -147,23 +148,23 @@ impl Engine for Second {
     fn respond(
         &mut self,
         table: &Table,
-        tally: Tally,
+        caller: Caller,
         card: &[u8],
         slip: &[u8],
         outputs: Outputs,
-    ) -> (Tally, Result<usize, Refusal>) {
-        respond(table, tally, card, slip, outputs)
+    ) -> Result<usize, Refusal> {
+        respond(table, caller, card, slip, outputs)
     }
 
     fn respond_by_marks(
         &mut self,
         table: &Table,
-        tally: Tally,
+        caller: Caller,
         card: &[u8],
         slip: &[u8],
         outputs: Outputs,
-    ) -> (Tally, Result<usize, Refusal>) {
-        marks::respond(table, tally, card, slip, outputs)
+    ) -> Result<usize, Refusal> {
+        marks::respond(table, caller, card, slip, outputs)
     }
 
     fn fired_count(&mut self, record: &[u8]) -> usize {

@@ -171,12 +171,60 @@ faults! {
     CountedOnFull,
     /// 40 is not counted.
     ConflictUncounted,
-    /// A tally is full at 9,998.
+    /// A record is full at 9,998.
     FullEarly,
-    /// A tally is full at 9,999 only, not above.
+    /// A record is full at 9,999 only, not above.
     FullExactly,
     /// Only slips answered are looked at for 32.
     RefusedNeverFull,
+    /// The record of editor 1 counts for every editor.
+    FirstCounted,
+    /// The record after the caller's counts in its place, after the last the first.
+    NextCounted,
+    /// The record after the caller's counts too.
+    NextCountedToo,
+    /// All records count.
+    AllCounted,
+    /// A refused slip is added to those answered.
+    RefusedAsAnswered,
+    /// 32 looks at the record of editor 1.
+    FullByFirst,
+    /// 32 looks at the record after the caller's.
+    FullByNext,
+    /// 32 is given where any record is full.
+    FullByAny,
+    /// 32 is given only where all records are full.
+    FullByAll,
+    /// 32 is given where the numbers of all records together come to 9,999.
+    FullTogether,
+    /// 32 clears the caller's record.
+    FullStartsAnew,
+    /// 32 clears the new card's output.
+    ClearedOnFull,
+    /// 44 is counted, in the caller's place or the first.
+    NoEditorCounted,
+    /// 44 clears the new card's output.
+    ClearedWithoutEditor,
+    /// 44 has the editor number as its second number.
+    EditorNamed,
+    /// 44 is tested after 32.
+    EditorAfterFull,
+    /// 44 is tested after 31.
+    EditorAfterTable,
+    /// A table of more than forty records is taken.
+    LongerTaken,
+    /// A table of fewer than forty records is taken where the caller has a place in it.
+    ShorterTaken,
+    /// Editor 0 is taken as 1.
+    NoNumberAsFirst,
+    /// Editor 41 is taken as 1, and so on.
+    NumbersAround,
+    /// An editor number is cut to its last byte.
+    NumberCut,
+    /// Editors are numbered from 0 to 39.
+    NumbersFromNone,
+    /// Editor 40 is refused with 44.
+    LastNumberRefused,
     /// The first slip is answered and all others are echoed.
     FirstOfDay,
     /// The ones of a record are counted in its first 31 bytes.

@@ -3,12 +3,13 @@
 use std::collections::{BTreeMap, BTreeSet};
 
 use crate::cards::{card_bytes, slip_bytes, unpack_card, unpack_slip};
+use crate::editors::{fresh, Caller};
 use crate::engine::{Engine, Way};
 use crate::gen::{card_values, plain_file, slip_changes, Rng};
 use crate::gen_rules::{sketch, Ranks, Shape};
 use crate::kinds::{response_kinds, text_kinds, Kind};
 use crate::orders::{complete_orders, complete_sets, consistent_ends, end, End, Moment};
-use crate::response::{Changes, Outputs, Tally};
+use crate::response::{Changes, Outputs};
 use crate::strata::strata;
 use crate::table::Table;
 use crate::table31::tested;
@@ -24,16 +25,21 @@ pub struct Given {
     pub fired: Vec<u8>,
 }
 
-/// The response of an engine by a way on a fresh tally with long outputs.
-pub fn given_by(engine: &mut dyn Engine, way: Way, table: &Table, card: &[u8], slip: &[u8]) -> Given {
+/// The response of an engine by a way to a caller, with long outputs.
+pub fn given_to(engine: &mut dyn Engine, way: Way, table: &Table, caller: Caller, card: &[u8], slip: &[u8]) -> Given {
     let (mut new, mut changes, mut fired) = (vec![0; 17], vec![0; 37], vec![0; 32]);
     let outputs = Outputs { card: &mut new, changes: &mut changes, fired: &mut fired };
-    let result = engine.respond_by(way, table, Tally::default(), card, slip, outputs).1;
+    let result = engine.respond_by(way, table, caller, card, slip, outputs);
     changes.truncate(result.unwrap_or(0));
     Given { refused: result.err(), card: new, changes, fired }
 }
 
-/// The strata response of an engine on a fresh tally with long outputs.
+/// The response of an engine by a way to editor 1 on fresh records.
+pub fn given_by(engine: &mut dyn Engine, way: Way, table: &Table, card: &[u8], slip: &[u8]) -> Given {
+    given_to(engine, way, table, Caller { records: &mut fresh(), editor: 1 }, card, slip)
+}
+
+/// The strata response of an engine to editor 1 on fresh records.
 pub fn given(engine: &mut dyn Engine, table: &Table, card: &[u8], slip: &[u8]) -> Given {
     given_by(engine, Way::Strata, table, card, slip)
 }

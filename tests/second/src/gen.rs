@@ -1,4 +1,4 @@
-//! Generated inputs: rule files, cards, slips, output lengths and tallies, good and damaged.
+//! Generated inputs: rule files, cards, slips and output lengths, good and damaged.
 
 use crate::cards::{card_bytes, card_length, slip_bytes, slip_length};
 use crate::gen_print::long_print;
@@ -6,7 +6,6 @@ use crate::gen_rules::{chain, sketch, Ranks, SHAPES};
 use crate::gen_text::{crowd, damage_bytes, damage_condition, damage_near, damage_tokens, double};
 use crate::gen_text::{join, sketch_tokens, Sketch};
 use crate::read::TEXT;
-use crate::response::Tally;
 use crate::table::Pair;
 
 /// A seeded xorshift generator.
@@ -236,14 +235,6 @@ pub fn damage_changes(rng: &mut Rng, changes: &mut Vec<Pair>) {
             _ => changes[at].1 = 0,
         }
     }
-}
-
-/// A tally: mostly small, or about 9,999.
-pub fn tally(rng: &mut Rng) -> Tally {
-    let edges = [0, 1, 4_321, 9_996, 9_997, 9_998, 9_998, 9_999, 10_000, 65_535];
-    let often = *rng.pick(&[0, 0, 0, 1]);
-    let mut count = || if rng.chance(often, 2) { *rng.pick(&edges) } else { rng.below(3) as u32 };
-    Tally { answered: count(), refused: count() }
 }
 
 /// Output lengths about those that are needed: mostly enough, sometimes one or more too short.

@@ -1,4 +1,4 @@
-//! The kinds of rules, responses and tables that strata and circles tell apart, for the tests to hold the generator to.
+//! The kinds of rules, responses and tables that strata and circles tell apart, and of calls by their editors, for the tests to hold the generator to.
 
 use std::collections::BTreeSet;
 
@@ -17,7 +17,7 @@ use crate::{broken_firing, broken_reading};
 /// Makes the enum of kinds and the lists of those of rules, texts, responses and tables.
 macro_rules! kinds {
     ($($(#[$about:meta])* $list:ident { $($(#[$sentence:meta])* $name:ident,)* })*) => {
-        /// A kind of rules, of a response or of a table.
+        /// A kind of rules, of a response, of a table or of a call.
         #[derive(Clone, Copy, PartialEq, Eq, PartialOrd, Ord, Debug)]
         pub enum Kind {
             $($($(#[$sentence])* $name,)*)*
@@ -144,6 +144,42 @@ kinds! {
         ZeroMixed,
         /// Other numbers.
         OtherNumbers,
+    }
+
+    /// The kinds of a call by its editor and the lent records.
+    CALL_KINDS {
+        /// Editor 1 is counted.
+        FirstEditor,
+        /// Editor 40 is counted.
+        LastEditor,
+        /// The caller's record is full, and no other.
+        OwnFull,
+        /// The caller's record is not full, and all others are.
+        OthersFull,
+        /// The caller's record is not full, and that of editor 1 is.
+        FirstFull,
+        /// A slip answered makes the caller's record full.
+        LastAnswered,
+        /// A slip refused makes the caller's record full.
+        LastRefused,
+        /// 44 of editor 0.
+        NoNumber,
+        /// 44 of editor 41.
+        NumberAbove,
+        /// 44 of a number whose last byte is an editor's.
+        NumberCut,
+        /// 44 of no records.
+        NoRecords,
+        /// 44 of one record fewer than forty, where the caller has a place.
+        OneFewer,
+        /// 44 of one record more than forty, where the caller has a place.
+        OneMore,
+        /// 44 where the caller has a place with a full record.
+        FullWithout,
+        /// 44 on a table that is 31.
+        UnsoundWithout,
+        /// 44 of both the number and the table of records.
+        NeitherFits,
     }
 }
 

@@ -1,6 +1,7 @@
 //! A second engine for RL, made from the papers apart from the proved one, and its comparison with other engines.
 
 pub mod broken;
+pub mod broken_editors;
 pub mod broken_firing;
 pub mod broken_marks;
 pub mod broken_print;
@@ -8,16 +9,22 @@ pub mod broken_reading;
 pub mod broken_strata;
 pub mod cards;
 pub mod compare;
+pub mod day_lines;
+pub mod days;
+pub mod editor_kinds;
+pub mod editors;
 pub mod engine;
 pub mod fault;
 pub mod firing_checks;
 pub mod gen;
+pub mod gen_editors;
 pub mod gen_marks;
 pub mod gen_print;
 pub mod gen_rules;
 pub mod gen_tables;
 pub mod gen_text;
 pub mod kinds;
+pub mod lent;
 pub mod listing;
 pub mod mark_checks;
 pub mod mark_kinds;

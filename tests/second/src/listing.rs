@@ -1,13 +1,22 @@
 //! What the program prints.
 
 use crate::cards::{card_length, slip_length, unpack_slip, CHANGES};
+use crate::editors::{fresh, is_editor, Caller, Tally};
 use crate::read::read;
-use crate::response::{respond, Outputs, Tally};
+use crate::response::{respond, Outputs};
 use crate::table::{Name, Table, RULES};
 use crate::table31::{slot_name, tested, value_name};
-use crate::Refusal;
+use crate::{refusal, Refusal};
 
-/// The bytes of a response that was answered, and the tally after it.
+/// The number of an editor file: its only byte, as it stands; 44 where that is no editor's or the file is not one byte long.
+fn editor_number(file: &[u8]) -> Result<usize, Refusal> {
+    match file {
+        [byte] if is_editor(usize::from(*byte)) => Ok(usize::from(*byte)),
+        _ => Err(refusal(44, 0)),
+    }
+}
+
+/// The bytes of a response that was answered, and the editor's record after it.
 struct Answered {
     card: Vec<u8>,
     changes: Vec<u8>,
@@ -15,15 +24,16 @@ struct Answered {
     tally: Tally,
 }
 
-/// The response on a fresh tally.
-fn answered(table: &Table, card: &[u8], slip: &[u8]) -> Result<Answered, Refusal> {
+/// The response to an editor on fresh records.
+fn answered(table: &Table, editor: usize, card: &[u8], slip: &[u8]) -> Result<Answered, Refusal> {
+    let mut records = fresh();
     let mut new = vec![0; card_length(table.width as usize)];
     let mut changes = vec![0; slip_length(CHANGES)];
     let mut fired = vec![0; (RULES + 7) / 8];
     let outputs = Outputs { card: &mut new, changes: &mut changes, fired: &mut fired };
-    let (tally, length) = respond(table, Tally::default(), card, slip, outputs);
-    changes.truncate(length?);
-    Ok(Answered { card: new, changes, fired, tally })
+    let length = respond(table, Caller { records: &mut records, editor }, card, slip, outputs)?;
+    changes.truncate(length);
+    Ok(Answered { card: new, changes, fired, tally: records[editor - 1] })
 }
 
 /// A line for each rule in number order.
@@ -45,20 +55,21 @@ fn change_lines(text: &[u8], table: &Table, changes: &[u8]) -> Result<String, Re
     unpack_slip(&tested(table)?, changes)?.into_iter().map(line).collect()
 }
 
-/// The lines of an answer, or the refusal.
-fn lines(text: &[u8], card: &[u8], slip: &[u8]) -> Result<String, Refusal> {
+/// The lines of an answer, or the refusal; that of the editor comes before the reading's.
+fn lines(text: &[u8], card: &[u8], slip: &[u8], editor: &[u8]) -> Result<String, Refusal> {
+    let editor = editor_number(editor)?;
     let table = read(text)?;
-    let answered = answered(&table, card, slip)?;
+    let answered = answered(&table, editor, card, slip)?;
     let card: String = answered.card.iter().map(|byte| format!("{byte:02X}")).collect();
     let Tally { answered: good, refused: bad } = answered.tally;
     let rules = rule_lines(&table, &answered.fired);
     let changes = change_lines(text, &table, &answered.changes)?;
-    Ok(format!("{rules}{changes}card {card}\ntally {good} {bad}\n"))
+    Ok(format!("{rules}{changes}card {card}\ntally {editor} {good} {bad}\n"))
 }
 
-/// What the program prints for the contents of its three files.
-pub fn listing(text: &[u8], card: &[u8], slip: &[u8]) -> String {
-    match lines(text, card, slip) {
+/// What the program prints for the contents of its four files.
+pub fn listing(text: &[u8], card: &[u8], slip: &[u8], editor: &[u8]) -> String {
+    match lines(text, card, slip, editor) {
         Ok(lines) => lines,
         Err(why) => format!("refused {} {}\n", why.number, why.second),
     }

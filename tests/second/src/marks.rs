@@ -2,7 +2,8 @@
 
 use std::collections::BTreeSet;
 
-use crate::response::{answered, counted, outcome, Answer, Changes, Firing, Outputs, Tally};
+use crate::editors::Caller;
+use crate::response::{answered, counted, outcome, Answer, Changes, Firing, Outputs};
 use crate::table::{Literal, Pair, Program, Rule, Table};
 use crate::table31::tested_for_marks;
 use crate::{refusal, Refusal};
@@ -211,13 +212,7 @@ pub fn answer(table: &Table, card: &[u8], slip: &[u8], rooms: [usize; 3]) -> Res
     })
 }
 
-/// The response by marks: the tally after it, and the changes' length or the refusal.
-pub fn respond(
-    table: &Table,
-    tally: Tally,
-    card: &[u8],
-    slip: &[u8],
-    outputs: Outputs,
-) -> (Tally, Result<usize, Refusal>) {
-    counted(tally, outputs, |rooms| answer(table, card, slip, rooms))
+/// The response by marks: the changes' length or the refusal; 44 comes first and is not counted.
+pub fn respond(table: &Table, caller: Caller, card: &[u8], slip: &[u8], outputs: Outputs) -> Result<usize, Refusal> {
+    counted(caller.own()?, outputs, |rooms| answer(table, card, slip, rooms))
 }

@@ -1,6 +1,7 @@
-//! The stored cases of the project's program: three files for each, some of which may be missing or be folders, and what the program prints.
+//! The stored cases of the project's program: four files for each, some of which may be missing or be folders, and what the program prints.
 
 use crate::cards::{card_bytes, slip_bytes};
+use crate::editors::EDITORS;
 use crate::listing::listing;
 
 /// The slots of the lettered cases, and their rules.
@@ -30,26 +31,27 @@ pub enum Kept {
     Folder,
 }
 
-/// The files of a case, in the order in which the program opens them.
-pub struct Case {
-    pub files: [Kept; 3],
+/// The names of the files, in the order in which the program opens them.
+pub const NAMES: [&str; 4] = ["rules.txt", "card.bin", "slip.bin", "editor.bin"];
+
+/// The rules, the card and the slip of a case.
+type Asked = [Kept; 3];
+
+/// The files of a case, in the order of their names.
+pub type Case = [Kept; 4];
+
+/// What is asked with all its files.
+fn asked(text: &str, card: &[u8], slip: &[u8]) -> Asked {
+    [text.as_bytes(), card, slip].map(|bytes| Kept::Bytes(bytes.to_vec()))
 }
 
-/// The names of the files.
-const NAMES: [&str; 3] = ["rules.txt", "card.bin", "slip.bin"];
-
-/// A case with all its files.
-fn case(text: &str, card: &[u8], slip: &[u8]) -> Case {
-    Case { files: [Kept::Bytes(text.as_bytes().to_vec()), Kept::Bytes(card.to_vec()), Kept::Bytes(slip.to_vec())] }
-}
-
-/// A case over the slots x, y and z.
-fn rules(rules: &[&str], card: &[u8], slip: &[u8]) -> Case {
-    case(&format!("{SLOTS} {}", rules.join(" ")), card, slip)
+/// What is asked over the slots x, y and z.
+fn rules(rules: &[&str], card: &[u8], slip: &[u8]) -> Asked {
+    asked(&format!("{SLOTS} {}", rules.join(" ")), card, slip)
 }
 
 /// The lettered cases.
-fn lettered() -> Vec<Case> {
+fn lettered() -> Vec<Asked> {
     vec![
         rules(&[A], &ZEROS, &X_TO_1),
         rules(&[B], &ZEROS, &X_TO_1),
@@ -67,21 +69,21 @@ fn lettered() -> Vec<Case> {
 }
 
 /// The limits of a text, each kept and broken.
-fn limits() -> Vec<Case> {
+fn limits() -> Vec<Asked> {
     let named =
-        |size: usize| case(&format!("SLOT {} {{v}};", "n".repeat(size)), &card_bytes(&[0]), &slip_bytes(&[(0, 1)]));
+        |size: usize| asked(&format!("SLOT {} {{v}};", "n".repeat(size)), &card_bytes(&[0]), &slip_bytes(&[(0, 1)]));
     let many = |count: usize| rules(&vec![A; count], &ZEROS, &X_TO_1);
     let tests = |count: usize| {
         let rule = format!("WHEN x *= 1 IF {} THEN z := 1;", vec!["y |= 0"; count].join(" AND "));
         rules(&[&rule], &ZEROS, &X_TO_1)
     };
-    let long = |size: usize| case(&" ".repeat(size), &[0], &[0]);
+    let long = |size: usize| asked(&" ".repeat(size), &[0], &[0]);
     let pairs = [named(24), named(25), many(255), many(256), tests(8), tests(9), long(65_535), long(65_536)];
-    pairs.into_iter().chain([rules(&["("], &ZEROS, &X_TO_1), case("", &[0], &[0])]).collect()
+    pairs.into_iter().chain([rules(&["("], &ZEROS, &X_TO_1), asked("", &[0], &[0])]).collect()
 }
 
 /// Every refusal of a card and of a slip, and the longest that their counts allow.
-fn entries() -> Vec<Case> {
+fn entries() -> Vec<Asked> {
     let cards: [&[u8]; 6] = [&[], &[0x0C, 0x44], &[0x08, 0x44], &[0xFC], &[0x0C, 0x44, 0x40, 0], &[0x0C, 0xC4, 0x41]];
     let longest = [vec![0xFC], vec![0; 32]].concat();
     let slips: [&[u8]; 5] = [&[], &[0x04], &[0x00, 0x00], &[0x04, 0x05], &[0x04, 0x00]];
@@ -96,32 +98,33 @@ fn entries() -> Vec<Case> {
 }
 
 /// Case C with files that are not there, and with folders in the place of files.
-fn without(gone: &[usize], folders: &[usize]) -> Case {
-    let mut case = rules(&[A, B], &ZEROS, &X_TO_1);
-    gone.iter().for_each(|at| case.files[*at] = Kept::Nothing);
-    folders.iter().for_each(|at| case.files[*at] = Kept::Folder);
-    case
+fn without(gone: &[usize], folders: &[usize]) -> Asked {
+    let mut files = rules(&[A, B], &ZEROS, &X_TO_1);
+    gone.iter().for_each(|at| files[*at] = Kept::Nothing);
+    folders.iter().for_each(|at| files[*at] = Kept::Folder);
+    files
 }
 
 /// Files that are not there: the first of them in the order of opening is named.
-fn missing() -> Vec<Case> {
+fn missing() -> Vec<Asked> {
     [&[0][..], &[1], &[2], &[1, 2], &[0, 1, 2]].map(|gone| without(gone, &[])).into()
 }
 
 /// Folders in the place of files: the first of them is named, unless a file is not there, which shows before any is read.
-fn folders() -> Vec<Case> {
+fn folders() -> Vec<Asked> {
     let alone = [&[0][..], &[1], &[2], &[1, 2], &[0, 1, 2]].map(|folders| without(&[], folders));
     alone.into_iter().chain([without(&[2], &[0])]).collect()
 }
 
 /// The example of a dialect dictionary: an undated slot stays undated, and a word last heard before 1800 is labelled.
-fn dialect() -> Case {
+fn dialect() -> Asked {
     let folder = std::path::Path::new(env!("CARGO_MANIFEST_DIR")).join("../../examples/dialect");
-    Case { files: NAMES.map(|name| std::fs::read(folder.join(name)).map_or(Kept::Nothing, Kept::Bytes)) }
+    let file = |name: &str| std::fs::read(folder.join(name)).map_or(Kept::Nothing, Kept::Bytes);
+    ["rules.txt", "card.bin", "slip.bin"].map(file)
 }
 
 /// Circles: case D with a cause, from the slip or from a rule; a rule that tests what it assigns, plainly and under NOT, with a cause and without; circles through a NOT, one of which meets a rule twice; a plain circle above a NOT and one kept plain by cancelled NOTs.
-fn circles() -> Vec<Case> {
+fn circles() -> Vec<Asked> {
     let own = |nots: &str| format!("WHEN x *= 1 IF {nots}y *= 1 THEN y := 1;");
     let back = "WHEN y *= 1 IF NOT NOT z *= 1 THEN x := 1;";
     let above = ["WHEN x *= 1 IF NOT y *= 1 THEN z := 1;", C, "WHEN y *= 0 IF TRUE THEN y := 1;"];
@@ -143,7 +146,7 @@ fn circles() -> Vec<Case> {
 }
 
 /// As much as a file may have, in names of 24 bytes: 32 slots that all change, half by the slip and half by rules that wait for each other; and of 255 rules the last 192 as a chain under NOT, the highest stratum first, that never begins.
-fn full() -> Case {
+fn full() -> Asked {
     let name = |kind: char, at: usize| format!("{kind}{at:023}");
     let pair = |slot: usize, sign: &str, value: usize| format!("{} {sign} {}", name('s', slot), name('v', value));
     let values = (1..=9).map(|value| name('v', value)).collect::<Vec<_>>().join(",");
@@ -159,26 +162,65 @@ fn full() -> Case {
     };
     let text: String = slots.chain((0..63).map(waiting)).chain((0..192).rev().map(chained)).collect();
     let changes: Vec<(u8, u8)> = (0..16).map(|slot| (slot, 2)).collect();
-    case(&text, &card_bytes(&[1; 32]), &slip_bytes(&changes))
+    asked(&text, &card_bytes(&[1; 32]), &slip_bytes(&changes))
 }
 
 /// A card of 32 slots, the longest that is answered, and one rule.
-fn wide() -> Case {
+fn wide() -> Asked {
     let slots: String = (0..32).map(|slot| format!("SLOT s{slot} {{a,b}};\n")).collect();
-    case(&format!("{slots}WHEN s31 *= b IF s0 |= a THEN s15 := b;"), &card_bytes(&[1; 32]), &slip_bytes(&[(31, 2)]))
+    asked(&format!("{slots}WHEN s31 *= b IF s0 |= a THEN s15 := b;"), &card_bytes(&[1; 32]), &slip_bytes(&[(31, 2)]))
 }
 
-/// All stored cases.
+/// A case of what is asked and what stands under the name of the editor's file.
+fn by_editor(asked: Asked, editor: Kept) -> Case {
+    let [text, card, slip] = asked;
+    [text, card, slip, editor]
+}
+
+/// Case C with an editor's file of some bytes.
+fn by_bytes(editor: &[u8]) -> Case {
+    by_editor(rules(&[A, B], &ZEROS, &X_TO_1), Kept::Bytes(editor.to_vec()))
+}
+
+/// The editor's file: the first and the last editor; no byte, two, one and a newline, many, none of an editor, a digit; where the text or the card would be refused; missing, a folder, alone and beside another file.
+fn editors() -> Vec<Case> {
+    let files: [&[u8]; 12] =
+        [&[1], &[40], &[], &[7, 7], &[7, b'\n'], &[7; 40], &[0], &[41], b"1", &[128], &[255], b"15\n"];
+    let no_editor = || Kept::Bytes(vec![41]);
+    let refused = [
+        by_editor(rules(&["("], &ZEROS, &X_TO_1), no_editor()),
+        by_editor(rules(&["WHEN x *= 1 IF y |= 0 AND TRUE THEN z := 1;"], &ZEROS, &X_TO_1), no_editor()),
+        by_editor(rules(&[A, B], &[], &X_TO_1), no_editor()),
+        by_editor(rules(&[A, B], &ZEROS, &[]), Kept::Bytes(Vec::new())),
+        by_editor(rules(&[H], &ZEROS, &X_TO_1), Kept::Bytes(vec![0])),
+    ];
+    let unread = [
+        by_editor(without(&[], &[]), Kept::Nothing),
+        by_editor(without(&[], &[]), Kept::Folder),
+        by_editor(without(&[2], &[]), Kept::Nothing),
+        by_editor(without(&[], &[2]), Kept::Nothing),
+        by_editor(without(&[], &[2]), Kept::Folder),
+        by_editor(without(&[0], &[]), no_editor()),
+        by_editor(without(&[], &[0]), no_editor()),
+        by_editor(rules(&["("], &ZEROS, &X_TO_1), Kept::Nothing),
+    ];
+    files.into_iter().map(by_bytes).chain(refused).chain(unread).collect()
+}
+
+/// All stored cases: those of each question by one editor after another, then those of the editor's file.
 pub fn cases() -> Vec<Case> {
-    let mut cases = lettered();
-    cases.extend(limits());
-    cases.extend(entries());
-    cases.extend(missing());
-    cases.push(dialect());
-    cases.extend(circles());
-    cases.extend(folders());
-    cases.extend([full(), wide()]);
-    cases
+    let mut asked = lettered();
+    asked.extend(limits());
+    asked.extend(entries());
+    asked.extend(missing());
+    asked.push(dialect());
+    asked.extend(circles());
+    asked.extend(folders());
+    asked.extend([full(), wide()]);
+    let number = |at: usize| 1 + (6 + 7 * at) % EDITORS;
+    let by_number = |(at, asked): (usize, Asked)| by_editor(asked, Kept::Bytes(vec![number(at) as u8]));
+    let asked_by = asked.into_iter().enumerate().map(by_number);
+    asked_by.chain(editors()).collect()
 }
 
 /// The folder of a case.
@@ -188,11 +230,13 @@ pub fn folder(at: usize) -> String {
 
 /// What the program prints in the folder of a case.
 fn printed(case: &Case) -> String {
-    let first = |is: fn(&Kept) -> bool| case.files.iter().zip(NAMES).find(|(file, _)| is(file)).map(|(_, name)| name);
+    let first = |is: fn(&Kept) -> bool| case.iter().zip(NAMES).find(|(file, _)| is(file)).map(|(_, name)| name);
     let unopened = first(|file| matches!(file, Kept::Nothing));
-    match (unopened.or(first(|file| matches!(file, Kept::Folder))), &case.files) {
+    match (unopened.or(first(|file| matches!(file, Kept::Folder))), case) {
         (Some(name), _) => format!("unread {name}\n"),
-        (None, [Kept::Bytes(text), Kept::Bytes(card), Kept::Bytes(slip)]) => listing(text, card, slip),
+        (None, [Kept::Bytes(text), Kept::Bytes(card), Kept::Bytes(slip), Kept::Bytes(editor)]) => {
+            listing(text, card, slip, editor)
+        }
         (None, _) => unreachable!("every file has its bytes"),
     }
 }
@@ -200,5 +244,5 @@ fn printed(case: &Case) -> String {
 /// What stands in the folder of a case: each file by its name, and what the program prints as `expected`.
 pub fn files(case: &Case) -> Vec<(&'static str, Kept)> {
     let expected = ("expected", Kept::Bytes(printed(case).into_bytes()));
-    NAMES.into_iter().zip(case.files.clone()).chain([expected]).collect()
+    NAMES.into_iter().zip(case.clone()).chain([expected]).collect()
 }

@@ -1,8 +1,9 @@
-//! The response: preconditions, firing by strata, conflicts, the answer and the tally.
+//! The response: preconditions, firing by strata, conflicts, the answer and its counting.
 
 use std::collections::BTreeSet;
 
 use crate::cards::{bytes_of, card_bytes, card_length, slip_bytes, slip_length, unpack_card, unpack_slip, CHANGES};
+use crate::editors::{Caller, Tally};
 use crate::table::{Literal, Pair, Program, Rule, Table};
 use crate::table31::tested;
 use crate::{refusal, Refusal};
@@ -75,16 +76,6 @@ pub fn record(rules: usize, fired: &[usize]) -> Vec<u8> {
 pub fn fired_count(record: &[u8]) -> usize {
     record.iter().map(|byte| (0..8).filter(|at| byte >> at & 1 == 1).count()).sum()
 }
-
-/// Slips answered and slips refused.
-#[derive(Clone, Copy, PartialEq, Eq, Debug, Default)]
-pub struct Tally {
-    pub answered: u32,
-    pub refused: u32,
-}
-
-/// The number at which a tally is full.
-pub const FULL: u32 = 9_999;
 
 /// The bytes of an answer: the new card, the changes as a slip, the fired record.
 pub struct Answer {
@@ -159,31 +150,24 @@ impl Outputs<'_> {
     }
 }
 
-/// Writes and counts an answer, made for the outputs' lengths, or counts its refusal; 32 where the tally is full.
+/// Writes an answer, made for the outputs' lengths, and counts it or its refusal in a record; 32 where the record is full.
 pub fn counted(
-    tally: Tally,
+    record: &mut Tally,
     mut outputs: Outputs,
     answer: impl FnOnce([usize; 3]) -> Result<Answer, Refusal>,
-) -> (Tally, Result<usize, Refusal>) {
-    if tally.answered >= FULL || tally.refused >= FULL {
-        return (tally, Err(refusal(32, 0)));
+) -> Result<usize, Refusal> {
+    if record.is_full() {
+        return Err(refusal(32, 0));
     }
-    match answer(outputs.rooms()) {
-        Ok(answer) => {
-            outputs.write(&answer);
-            (Tally { answered: tally.answered + 1, ..tally }, Ok(answer.changes.len()))
-        }
-        Err(why) => (Tally { refused: tally.refused + 1, ..tally }, Err(why)),
-    }
+    let answer = answer(outputs.rooms());
+    record.add(answer.is_ok());
+    answer.map(|answer| {
+        outputs.write(&answer);
+        answer.changes.len()
+    })
 }
 
-/// The response: the tally after it, and the changes' length or the refusal.
-pub fn respond(
-    table: &Table,
-    tally: Tally,
-    card: &[u8],
-    slip: &[u8],
-    outputs: Outputs,
-) -> (Tally, Result<usize, Refusal>) {
-    counted(tally, outputs, |rooms| answer(table, card, slip, rooms))
+/// The response: the changes' length or the refusal; 44 comes first and is not counted.
+pub fn respond(table: &Table, caller: Caller, card: &[u8], slip: &[u8], outputs: Outputs) -> Result<usize, Refusal> {
+    counted(caller.own()?, outputs, |rooms| answer(table, card, slip, rooms))
 }

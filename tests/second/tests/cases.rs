@@ -50,20 +50,20 @@ fn c_prints_as_listed() {
     let given = response(&[A, B], &ZEROS, &X_TO_1);
     assert_eq!(given.changes, [0x0C, 0x04, 0x12, 0x11, 0x00]);
     assert_eq!((given.fired[0], fired_count(&given.fired)), (0xC0, 2));
-    let printed = listing(&text(&[A, B]), &ZEROS, &X_TO_1);
+    let printed = listing(&text(&[A, B]), &ZEROS, &X_TO_1, &[7]);
     let wanted =
-        "rule 1 stratum 1 fired\nrule 2 stratum 1 fired\nchange x 1\nchange y 1\nchange z 1\ncard 0C8880\ntally 1 0\n";
+        "rule 1 stratum 1 fired\nrule 2 stratum 1 fired\nchange x 1\nchange y 1\nchange z 1\ncard 0C8880\ntally 7 1 0\n";
     assert_eq!(printed, wanted);
 }
 
 #[test]
 fn d_fires_neither_rule_without_an_outside_cause() {
-    let idle = "rule 1 stratum 1 idle\nrule 2 stratum 1 idle\nchange y 1\ncard 0C4840\ntally 1 0\n";
-    assert_eq!(listing(&text(&[A, C]), &ZEROS, &Y_TO_1), idle);
-    let fired = "rule 1 stratum 1 fired\nrule 2 stratum 1 fired\nchange x 1\nchange z 1\ncard 0C8480\ntally 1 0\n";
+    let idle = "rule 1 stratum 1 idle\nrule 2 stratum 1 idle\nchange y 1\ncard 0C4840\ntally 1 1 0\n";
+    assert_eq!(listing(&text(&[A, C]), &ZEROS, &Y_TO_1, &[1]), idle);
+    let fired = "rule 1 stratum 1 fired\nrule 2 stratum 1 fired\nchange x 1\nchange z 1\ncard 0C8480\ntally 1 1 0\n";
     for slip in [X_TO_1, Z_TO_1] {
-        assert_eq!(listing(&text(&[A, C]), &ZEROS, &slip), fired);
-        assert_eq!(listing(&text(&[C, A]), &ZEROS, &slip), fired);
+        assert_eq!(listing(&text(&[A, C]), &ZEROS, &slip, &[1]), fired);
+        assert_eq!(listing(&text(&[C, A]), &ZEROS, &slip, &[1]), fired);
     }
 }
 
@@ -312,11 +312,11 @@ fn cards_and_slips_of_wrong_form() {
 
 #[test]
 fn an_empty_file_answers_an_empty_slip() {
-    assert_eq!(listing(b"", &[0], &[0]), "card 00\ntally 1 0\n");
-    assert_eq!(listing(b"", &[1], &[0]), "refused 23 0\n");
-    assert_eq!(listing(b"", &[0, 0], &[0]), "refused 20 0\n");
-    assert_eq!(listing(b"", &[0], &[0x04, 0x04]), "refused 25 0\n");
-    assert_eq!(listing(&text(&[A]), &ZEROS, &[0]), "rule 1 stratum 1 idle\ncard 0C4440\ntally 1 0\n");
+    assert_eq!(listing(b"", &[0], &[0], &[40]), "card 00\ntally 40 1 0\n");
+    assert_eq!(listing(b"", &[1], &[0], &[40]), "refused 23 0\n");
+    assert_eq!(listing(b"", &[0, 0], &[0], &[40]), "refused 20 0\n");
+    assert_eq!(listing(b"", &[0], &[0x04, 0x04], &[40]), "refused 25 0\n");
+    assert_eq!(listing(&text(&[A]), &ZEROS, &[0], &[2]), "rule 1 stratum 1 idle\ncard 0C4440\ntally 2 1 0\n");
 }
 
 #[test]

@@ -37,9 +37,9 @@ fn the_second_engine_agrees_with_itself() {
 #[test]
 fn every_refusal_is_met() {
     let met = |way: Way| refusals_met(way, 1, 4_000).into_keys().collect::<Vec<u8>>();
-    let all = [0, 10, 11, 12, 13, 14, 15, 16, 17, 18, 20, 21, 22, 23, 24, 25, 26, 27, 28, 30, 31, 32, 33, 34, 40];
+    let all = [0, 10, 11, 12, 13, 14, 15, 16, 17, 18, 20, 21, 22, 23, 24, 25, 26, 27, 28, 30, 31, 32, 33, 34, 40, 44];
     assert_eq!(met(Way::Strata), all);
-    let all = [0, 10, 11, 12, 13, 14, 15, 16, 17, 20, 21, 22, 23, 24, 25, 26, 27, 28, 30, 31, 32, 41, 42];
+    let all = [0, 10, 11, 12, 13, 14, 15, 16, 17, 20, 21, 22, 23, 24, 25, 26, 27, 28, 30, 31, 32, 41, 42, 44];
     assert_eq!(met(Way::Marks), all);
 }
 
@@ -52,7 +52,7 @@ fn a_failing_input_is_kept() {
     let folder = std::env::temp_dir().join(format!("second-kept-{}", std::process::id()));
     store(&folder, &smaller).unwrap();
     assert_eq!(std::fs::read(folder.join("rules.txt")).unwrap(), smaller.text);
-    assert!(folder.join("card.bin").exists() && folder.join("slip.bin").exists());
+    assert!(["card.bin", "slip.bin", "editor.bin", "seen.txt"].iter().all(|name| folder.join(name).exists()));
     std::fs::remove_dir_all(&folder).unwrap();
 }
 
@@ -169,12 +169,16 @@ fn broken_responses_are_not_what_the_firing_orders_come_to() {
 fn the_first_file_that_cannot_be_opened_or_read_is_named() {
     let program = env!("CARGO_BIN_EXE_second");
     let printed =
-        |names: [&str; 3]| String::from_utf8(Command::new(program).args(names).output().unwrap().stdout).unwrap();
-    assert_eq!(printed(["/nowhere/r", "/nowhere/c", "/nowhere/s"]), "unread /nowhere/r\n");
-    assert_eq!(printed(["/dev/null", "/nowhere/c", "/nowhere/s"]), "unread /nowhere/c\n");
-    assert_eq!(printed(["/dev/null", "/dev/null", "/nowhere/s"]), "unread /nowhere/s\n");
-    assert_eq!(printed(["/dev/null", "/dev/null", "/dev/null"]), "refused 20 0\n");
-    assert_eq!(printed(["/", "/dev/null", "/"]), "unread /\n");
-    assert_eq!(printed(["/dev/null", "/dev", "/"]), "unread /dev\n");
-    assert_eq!(printed(["/", "/", "/nowhere/s"]), "unread /nowhere/s\n");
+        |names: [&str; 4]| String::from_utf8(Command::new(program).args(names).output().unwrap().stdout).unwrap();
+    let null = "/dev/null";
+    assert_eq!(printed(["/nowhere/r", "/nowhere/c", "/nowhere/s", "/nowhere/e"]), "unread /nowhere/r\n");
+    assert_eq!(printed([null, "/nowhere/c", "/nowhere/s", "/nowhere/e"]), "unread /nowhere/c\n");
+    assert_eq!(printed([null, null, "/nowhere/s", "/nowhere/e"]), "unread /nowhere/s\n");
+    assert_eq!(printed([null, null, null, "/nowhere/e"]), "unread /nowhere/e\n");
+    assert_eq!(printed([null, null, null, null]), "refused 44 0\n");
+    assert_eq!(printed(["/", null, "/", null]), "unread /\n");
+    assert_eq!(printed([null, "/dev", "/", null]), "unread /dev\n");
+    assert_eq!(printed([null, null, null, "/dev"]), "unread /dev\n");
+    assert_eq!(printed(["/", "/", "/nowhere/s", null]), "unread /nowhere/s\n");
+    assert_eq!(printed(["/", "/", "/", "/nowhere/e"]), "unread /nowhere/e\n");
 }

@@ -1,16 +1,18 @@
-//! The generator reaches every kind of rules, responses and tables that strata and circles tell apart.
+//! The generator reaches every kind of rules, responses and tables that strata and circles tell apart, and of calls by their editors.
 
 use std::collections::BTreeMap;
 
 use second::compare::compare_seeds;
+use second::editor_kinds::call_kinds;
+use second::editors::Caller;
 use second::engine::{Engine, Second};
 use second::firing_checks::{check_small, Counts};
 use second::kinds::{response_kinds, rule_kinds, table_kinds, text_kinds, Kind};
-use second::kinds::{MARK_KINDS, MARK_TABLE_KINDS, RESPONSE_KINDS, RULE_KINDS, TABLE_KINDS, TEXT_KINDS};
+use second::kinds::{CALL_KINDS, MARK_KINDS, MARK_TABLE_KINDS, RESPONSE_KINDS, RULE_KINDS, TABLE_KINDS, TEXT_KINDS};
 use second::mark_kinds::{mark_kinds, mark_table_kinds};
-use second::response::{Outputs, Tally};
+use second::response::Outputs;
 use second::table::{Name, Pair, Table};
-use second::table31::unlayered;
+use second::table31::{tested, tested_for_marks, unlayered};
 use second::table_lines::{generated, tables};
 use second::Refusal;
 
@@ -80,33 +82,37 @@ impl Engine for Watching {
     fn respond(
         &mut self,
         table: &Table,
-        tally: Tally,
+        caller: Caller,
         card: &[u8],
         slip: &[u8],
         outputs: Outputs,
-    ) -> (Tally, Result<usize, Refusal>) {
+    ) -> Result<usize, Refusal> {
         meet(&mut self.met, table_kinds(table));
-        let (after, result) = Second.respond(table, tally, card, slip, outputs);
+        let (records, editor) = (caller.records.to_vec(), caller.editor);
+        let result = Second.respond(table, caller, card, slip, outputs);
+        meet(&mut self.met, call_kinds(&records, editor, &result, tested(table).is_err()));
         if result.map_or_else(|why| why.number == 40, |_| true) {
             meet(&mut self.met, response_kinds(table, card, slip));
         }
-        (after, result)
+        result
     }
 
     fn respond_by_marks(
         &mut self,
         table: &Table,
-        tally: Tally,
+        caller: Caller,
         card: &[u8],
         slip: &[u8],
         outputs: Outputs,
-    ) -> (Tally, Result<usize, Refusal>) {
+    ) -> Result<usize, Refusal> {
         meet(&mut self.met, mark_table_kinds(table));
-        let (after, result) = Second.respond_by_marks(table, tally, card, slip, outputs);
-        if result.map_or_else(|why| why.number > 40, |_| true) {
+        let (records, editor) = (caller.records.to_vec(), caller.editor);
+        let result = Second.respond_by_marks(table, caller, card, slip, outputs);
+        meet(&mut self.met, call_kinds(&records, editor, &result, tested_for_marks(table).is_err()));
+        if result.map_or_else(|why| why.number == 41 || why.number == 42, |_| true) {
             meet(&mut self.met, mark_kinds(table, card, slip));
         }
-        (after, result)
+        result
     }
 
     fn fired_count(&mut self, record: &[u8]) -> usize {
@@ -120,7 +126,7 @@ fn the_comparison_meets_every_kind() {
     assert!(compare_seeds(&mut watching, 1, 3_000).0.is_none());
     let kinds = [RULE_KINDS, TEXT_KINDS, RESPONSE_KINDS, TABLE_KINDS];
     demand(&watching.met, &kinds, 3);
-    demand(&watching.met, &[MARK_KINDS, MARK_TABLE_KINDS], 10);
+    demand(&watching.met, &[MARK_KINDS, MARK_TABLE_KINDS, CALL_KINDS], 10);
 }
 
 #[test]

@@ -2,13 +2,14 @@
 
 use second::broken::Broken;
 use second::cards::slip_bytes;
+use second::editors::{fresh, Caller, Tally};
 use second::engine::{Engine, Second, Way};
 use second::fault::Fault;
 use second::firing_checks::{given, given_by, Given};
 use second::mark_checks::{check_small, MarkCounts};
 use second::program_cases::{A, B, C, D, E, H, SLOTS, X_TO_1, Y_TO_1, ZEROS, Z_TO_1};
 use second::read::{read, read_unlayered};
-use second::response::{Outputs, Tally};
+use second::response::Outputs;
 use second::table::Table;
 use second::{refusal, Refusal};
 
@@ -167,16 +168,18 @@ fn reading_without_18_keeps_10_to_17() {
     assert!(*table == *layered);
 }
 
-/// The response by marks under some rules, with a tally and outputs of some lengths.
+/// The response by marks under some rules to an editor with a record, with outputs of some lengths: the record after it and the result.
 fn response(rules: &[&str], tally: (u32, u32), card: &[u8], rooms: [usize; 3]) -> ((u32, u32), Result<usize, Refusal>) {
     let (mut new, mut changes, mut fired) = (vec![7; rooms[0]], vec![7; rooms[1]], vec![7; rooms[2]]);
     let outputs = Outputs { card: &mut new, changes: &mut changes, fired: &mut fired };
-    let tally = Tally { answered: tally.0, refused: tally.1 };
+    let mut records = fresh();
+    records[39] = Tally { answered: tally.0, refused: tally.1 };
     let table = read_unlayered(&text(rules)).unwrap();
-    let (after, result) = Second.respond_by_marks(&table, tally, card, &X_TO_1, outputs);
+    let caller = Caller { records: &mut records, editor: 40 };
+    let result = Second.respond_by_marks(&table, caller, card, &X_TO_1, outputs);
     let kept = [new, changes, fired].concat().iter().all(|byte| *byte == 7);
     assert_eq!(kept, result.is_err());
-    ((after.answered, after.refused), result)
+    ((records[39].answered, records[39].refused), result)
 }
 
 #[test]

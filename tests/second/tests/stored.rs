@@ -1,11 +1,11 @@
-//! What the second engine makes of the project's stored texts, prints, responses by marks, tables and folders is what is stored.
+//! What the second engine makes of the project's stored texts, prints, responses by marks, days, tables and folders is what is stored.
 
 use std::fs;
 use std::path::{Path, PathBuf};
 
 use second::engine::Second;
 use second::program_cases::Kept;
-use second::{mark_lines, print_lines, program_cases, read_lines, table_lines};
+use second::{day_lines, mark_lines, print_lines, program_cases, read_lines, table_lines};
 
 /// A path of the repository.
 fn path(name: &str) -> PathBuf {
@@ -38,6 +38,12 @@ fn stored_prints_are_as_stored() {
 fn stored_responses_by_marks_are_as_stored() {
     let output = |input: &[u8]| mark_lines::output(&mut Second, input);
     held("tests/stored/marks/input", "tests/stored/marks/expected", output);
+}
+
+#[test]
+fn stored_days_are_as_stored() {
+    let output = |input: &[u8]| day_lines::output(&mut Second, input);
+    held("tests/stored/days/input", "tests/stored/days/expected", output);
 }
 
 #[test]

@@ -1,10 +1,11 @@
-//! The test 31, names shown, the order of a response's refusals, the tally, and what generated tables show.
+//! The test 31, names shown, the order of a response's refusals, what is counted, and what generated tables show.
 
+use second::editors::{fresh, Caller, Tally};
 use second::engine::{Engine, Second};
 use second::fault::Fault;
 use second::program_cases::{A, B, C, D, E, SLOTS};
 use second::read::read;
-use second::response::{Outputs, Tally};
+use second::response::Outputs;
 use second::strata::strata;
 use second::table::{LiteralPlace, Name, Table};
 use second::table31::{slot_name, tested, unlayered, value_name};
@@ -106,17 +107,18 @@ fn names_are_stretches_of_the_text() {
     assert_eq!(slot_name(TEXT, &wide, 32), Err(refusal(31, 0)));
 }
 
-/// The response on a table with outputs of some lengths: the tally and the result.
+/// The response on a table to an editor with a record, with outputs of some lengths: the record after it and the result.
 fn response(table: &Table, tally: (u32, u32), slip: &[u8], rooms: [usize; 3]) -> ((u32, u32), Result<usize, Refusal>) {
     let (mut card, mut changes, mut fired) = (vec![0; rooms[0]], vec![0; rooms[1]], vec![0; rooms[2]]);
     let outputs = Outputs { card: &mut card, changes: &mut changes, fired: &mut fired };
-    let tally = Tally { answered: tally.0, refused: tally.1 };
-    let (after, result) = Second.respond(table, tally, &[0x08, 0x44], slip, outputs);
-    ((after.answered, after.refused), result)
+    let mut records = fresh();
+    records[4] = Tally { answered: tally.0, refused: tally.1 };
+    let result = Second.respond(table, Caller { records: &mut records, editor: 5 }, &[0x08, 0x44], slip, outputs);
+    ((records[4].answered, records[4].refused), result)
 }
 
 #[test]
-fn the_tally_counts_all_but_32() {
+fn a_record_counts_all_but_32() {
     let table = read(TEXT).unwrap();
     let rooms = [2, 37, 1];
     assert_eq!(response(&table, (3, 4), &[0], rooms), ((4, 4), Ok(1)));

@@ -8,6 +8,7 @@ use std::time::Instant;
 use native::cards::{unpack_card, unpack_slip};
 use native::engine::{Engine, Native};
 use native::inputs::inputs;
+use native::measure::EDITOR;
 use native::systems::Case;
 use native::test31::tested;
 
@@ -21,7 +22,7 @@ struct System {
     folder: PathBuf,
 }
 
-/// Writes the rules of a folder in the languages of the other systems, and gives the commands; the folder has rules.txt, card.bin and slip.bin.
+/// Writes the rules of a folder in the languages of the other systems, and gives the commands; the folder has rules.txt, card.bin, slip.bin and editor.bin.
 fn systems(rl: &Path, folder: &Path, made: &Path) -> Vec<System> {
     let file = |name: &str| std::fs::read(folder.join(name)).expect("the file is there");
     let (text, card, slip) = (file("rules.txt"), file("card.bin"), file("slip.bin"));
@@ -90,7 +91,9 @@ fn best(systems: &[System]) -> Vec<Option<(f64, Changes)>> {
 fn write_largest(folder: &Path) {
     let input = inputs().into_iter().rfind(|input| input.grows).expect("there are inputs");
     std::fs::create_dir_all(folder).expect("the folder is made");
-    for (name, bytes) in [("rules.txt", input.text), ("card.bin", input.card), ("slip.bin", input.slip)] {
+    let files =
+        [("rules.txt", input.text), ("card.bin", input.card), ("slip.bin", input.slip), ("editor.bin", vec![EDITOR])];
+    for (name, bytes) in files {
         std::fs::write(folder.join(name), bytes).expect("the file is written");
     }
 }

@@ -9,9 +9,9 @@ use Rattle.table.specs.inner.Flat.{pair-places, add-pairs}
 use Rattle.table.proofs.Walks.{assigned-from, assigned-start, assigned-end, assigned-next}
 use Rattle.rows.specs.inner.Rows.{rule-in}
 use Rattle.rows.proofs.Laws.{assignment-is, row-rule-shaped}
-use Rattle.firing.specs.inner.Truth.{Truth}
-use Rattle.firing.specs.inner.Waiting.{Waiting, Woken}
-use Rattle.firing.proofs.Truths.{truth-more}
+use Rattle.testing.specs.inner.Truth.{Truth}
+use Rattle.testing.specs.inner.Waiting.{Waiting, Woken}
+use Rattle.testing.proofs.Truths.{truth-more}
 use native.Mathlib.Omega.{arith}
 use borrow.Author.Needs.{needs}
 use Rattle.firing.proofs.assign.Statement.{statement}

@@ -11,7 +11,7 @@ use Rattle.listing.proofs.list_answer.Tie as tie
 
 -- The lines of the answer.
 abbrev lines : tie.Start → List ℕ
-lines s = printed (list-answer (s .args .text .now) (s .args .t) (answer-bytes (s .args .card .now) (s .args .changes .now) (s .args .bits .now)) (s .args .tally))
+lines s = printed (list-answer (s .args .text .now) (s .args .t) (answer-bytes (s .args .card .now) (s .args .changes .now) (s .args .bits .now)) (s .args .editor) (s .args .tally))
 
 slice-aggregate-put-answer : tie.Need-slice-aggregate-put-answer
 slice-aggregate-put-answer c = search needs

@@ -3,36 +3,40 @@
 use Prim.Native.Nat.{ℕ, _≤_}
 use native.Mathlib.Omega.{arith}
 use mathlib.Core.Path.{_≡_, sym, _∙_}
+use mathlib.Core.Bool.{true}
 use mathlib.Core.List.{List}
 use lib.ListN.{length, take}
 use lib.Seq.{length-take-le}
 use borrow.Author.Needs.{needs}
 use Rattle.laws.specs.Answers.{taken}
 use Rattle.table.specs.declared.Table.{Table}
+use Rattle.table.specs.declared.Way.the-variants.{Strata}
 use Rattle.laws.specs.Limits.{slot-limit, rule-limit}
 use Rattle.tally.specs.Counting.{fresh}
+use Rattle.tally.specs.Editors.{is-editor}
 use Rattle.reader.specs.declared.Outcome.the-variants.{Accepted}
 use Rattle.rule_file.specs.Whole.{reading}
 use Rattle.response.specs.Ending.{Answer}
-use Rattle.response.specs.Respond.{answer-to}
+use Rattle.response.specs.Respond.{answer-at}
 use Rattle.writing.specs.inner.Puts.{longest}
-use Rattle.listing.specs.Listing.{program-rooms, list-response}
+use Rattle.listing.specs.Listing.{program-rooms, program-editors, list-response}
 use Rattle.listing.specs.Printed.{page, printed}
 use Rattle.listing.specs.inner.AnswerLines.{answer-bytes, list-answer}
 use Rattle.listing.proofs.Accepted.{few-slots, few-rules}
 use Rattle.listing.proofs.Answered.{Parts}
+use Rattle.listing.proofs.Callers.{program-answer}
 use Rattle.listing.proofs.Bounded.{parts-of, answer-bounded}
 use Rattle.listing.proofs.Delivered.{Delivered, delivers, delivered-listed, refused-listed}
 use Rattle.listing.proofs.list_response.Statement.{statement}
 use Rattle.listing.proofs.list_response.Tie as tie
 
 -- What is known of an answer by an accepted text's table, and how long its lines are.
-module _ (text : List ℕ) (o : reading text .outcome ≡ Accepted) (t : Table) (e : t ≡ reading text .table) (card slip : List ℕ) (a : Answer) (q : answer-to t fresh card slip program-rooms ≡ taken a) where
+module _ (text : List ℕ) (o : reading text .outcome ≡ Accepted) (t : Table) (e : t ≡ reading text .table) (card slip : List ℕ) (a : Answer) (q : answer-at Strata t fresh card slip program-rooms ≡ taken a) where
   parts-for : Parts (t .width) (t .count) a
   parts-for = rw e (parts-of text o card slip a (rw e at q))
 
-  short : length (printed (list-response text t (taken a))) ≤ longest
-  short = let h : length (printed (list-response text t (taken a))) ≤ page = rw e (answer-bounded text o card slip a (rw e at q)) in omega arith
+  short : (n : ℕ) → is-editor n ≡ true → length (printed (list-response text t (program-editors n) (taken a))) ≤ longest
+  short n w = let h : length (printed (list-response text t (program-editors n) (taken a))) ≤ page = rw e (answer-bounded text o n card slip a w (rw e at q)) in omega arith
 
 -- What the function was called with, and what is known of its table.
 abbrev start : tie.After-respond → tie.Start
@@ -139,13 +143,13 @@ slice-aggregate-list-answer-3 c =
 
 -- What is listed of the parts of the outputs.
 listed : (c : tie.After-bytes-for2) → let q = c .before .before .before .before .before in let p = call q in let g = start p .args in
-    list-answer (g .text .now) (g .t) (answer-bytes (take (c .before .before .bytes-for .result) (card-out p)) (take (long q) (changes-out p)) (take (c .bytes-for2 .result) (fired-out p))) (p .respond .result .tally)
-    ≡ list-response (g .text .now) (g .t) (taken (told q .shown))
+    list-answer (g .text .now) (g .t) (answer-bytes (take (c .before .before .bytes-for .result) (card-out p)) (take (long q) (changes-out p)) (take (c .bytes-for2 .result) (fired-out p))) (g .editor) (p .respond .result .tally)
+    ≡ list-response (g .text .now) (g .t) (program-editors (g .editor)) (taken (told q .shown))
 listed c =
     let q = c .before .before .before .before .before in
     let p = call q in
     let g = start p .args in
-    delivered-listed (g .text .now) (g .t) (g .card .now) (g .slip .now) (long q) (c .before .before .bytes-for .result) (c .bytes-for2 .result) (p .respond .result .tally) (card-out p) (changes-out p) (fired-out p) (told q)
+    delivered-listed (g .text .now) (g .t) (g .card .now) (g .slip .now) (g .editor) (long q) (c .before .before .bytes-for .result) (c .bytes-for2 .result) (p .respond .result .tally) (card-out p) (changes-out p) (fired-out p) (told q) (start p .pre .2)
     (c .before .before .bytes-for .ensures ∙ sym (parts q .card-length)) (c .bytes-for2 .ensures ∙ sym (parts q .fired-there))
 
 list-answer-requires : tie.Need-list-answer-requires
@@ -155,7 +159,7 @@ list-answer-requires c κs =
     let s = start (call q) in
     let g = s .args in
     let w = parts q .changes-whole in
-    (within s .1, rw (told q .changes-front) w, rw (listed b) (short (g .text .now) (s .pre .0) (g .t) (s .pre .1) (g .card .now) (g .slip .now) (told q .shown) (told q .is-taken)))
+    (within s .1, rw (told q .changes-front) w, rw (listed b) (short (g .text .now) (s .pre .0) (g .t) (s .pre .1) (g .card .now) (g .slip .now) (told q .shown) (told q .is-taken) (g .editor) (s .pre .2)))
 
 same-length : tie.Need-same-length
 same-length c = search needs
@@ -165,7 +169,9 @@ returns c =
     let p = c .before .before in
     let b = p .before .before .before .before .before in
     let q = b .before .before .before .before .before in
-    rw (told q .is-taken, ← listed b) (p .list-answer .ensures)
+    let s = start (call q) in
+    let g = s .args in
+    rw (program-answer (g .editor) (s .pre .2) (g .t) (g .card .now) (g .slip .now) program-rooms, told q .is-taken, ← listed b) (p .list-answer .ensures)
 
 enum-known-outcome-2 : tie.Need-enum-known-outcome-2
 enum-known-outcome-2 c = search needs
@@ -181,8 +187,9 @@ returns-2 c =
     let p = c .before .before in
     let q = p .before .before .before in
     let r = q .before .before .before .before .before .before in
-    let g = start r .args in
-    rw (← refused-listed (g .text .now) (g .t) (g .card .now) (g .slip .now) (r .respond .result) _ _ (r .respond .ensures .0) (q .outcome2 .given .1)) (p .list-refusal .ensures)
+    let s = start r in
+    let g = s .args in
+    rw (program-answer (g .editor) (s .pre .2) (g .t) (g .card .now) (g .slip .now) program-rooms, ← refused-listed (g .text .now) (g .t) (g .card .now) (g .slip .now) (program-editors (g .editor)) (r .respond .result) _ _ (r .respond .ensures .0) (q .outcome2 .given .1)) (p .list-refusal .ensures)
 
 pub list-response-spec : {M : Type 1} → statement M
 list-response-spec =

@@ -31,9 +31,9 @@ slot-change text s v = record { slot = show-name text (s .name) .part; value = s
 abbrev pub answer-bytes : List ℕ → List ℕ → List ℕ → Answer
 answer-bytes card changes fired = record { new-card = card; changes = changes; fired = fired }
 
--- The listing of an answer with its tally.
-abbrev pub list-answer : List ℕ → Table → Answer → Tally → Listing
-list-answer text t a y = listed (fired-lines t (a .fired)) (map (change-line text t) (changes-in (a .changes))) (a .new-card) y
+-- The listing of an answer with the editor's number and record.
+abbrev pub list-answer : List ℕ → Table → Answer → ℕ → Tally → Listing
+list-answer text t a n y = listed (fired-lines t (a .fired)) (map (change-line text t) (changes-in (a .changes))) (a .new-card) n y
 
 -- The bytes of changes have all that they count, in slots of so many.
 pub record ChangesWhole (width : ℕ) (ys : List ℕ) : Type 0 where

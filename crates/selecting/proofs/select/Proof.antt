@@ -9,18 +9,19 @@ use native.Mathlib.Omega.{arith}
 use lib.ListN.{length, length-replicate}
 use borrow.Author.Needs.{needs}
 use Rattle.laws.specs.Limits.{rule-limit}
-use Rattle.firing.proofs.Lists.{woken-none}
+use Rattle.testing.proofs.Lists.{woken-none}
 use Rattle.model.specs.Rules.{Pair}
 use Rattle.table.specs.Link.{rules-of}
 use Rattle.rows.specs.inner.Rows.{table-in}
 use Rattle.marks.specs.Truths.{Truth₃, True, False, Unknown}
 use Rattle.marks.specs.inner.Number.{number}
 use Rattle.marks.specs.Marks.{declared-pairs}
-use Rattle.selecting.specs.inner.Known.{Known, known, AllMarked, NotMarked}
+use Rattle.judging.specs.inner.Known.{Known, known}
+use Rattle.judging.proofs.Tests.{truths-three}
+use Rattle.marking.specs.inner.Marked.{AllMarked, NotMarked}
+use Rattle.marking.proofs.Chains.{chained-start}
 use Rattle.selecting.specs.inner.Selected.{CardIs, SlipIs, OneValue, Selected}
 use Rattle.selecting.proofs.Turns.{kept-fire, kept-kill, turn-fire, turn-kill, sweep-less}
-use Rattle.selecting.proofs.Chains.{chained-start}
-use Rattle.selecting.proofs.Tests.{truths-three}
 use Rattle.selecting.proofs.MarkLaws.{truths-card}
 use Rattle.selecting.proofs.Live.{live-start, live-next, live-small, live-enough, live-released}
 use Rattle.selecting.proofs.Sweeping.{Seen, three-assigned, three-unassigned}

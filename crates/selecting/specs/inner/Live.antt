@@ -1,19 +1,13 @@
 -- The assignments to each pair that are left: those of rules that have not been found False.
 use mathlib.Core.Path.{_≡_}
 use mathlib.Core.Bool.{Bool, false, cond}
-use mathlib.Core.List.{List, [], _∷_}
+use mathlib.Core.List.{List, []}
 use Prim.Native.Nat.{ℕ, zero, suc, _+_, _<_}
-use lib.Dec.{eqb}
 use lib.ListN.{getD}
-use Rattle.model.specs.Rules.{Pair}
 use Rattle.table.specs.Link.{assignments-of}
-use Rattle.table.specs.inner.Flat.{pair-places, place-of}
+use Rattle.table.specs.inner.Flat.{pair-places}
 use Rattle.rows.specs.inner.Rows.{rule-in}
-
--- How often the pair at q is among some pairs.
-unfoldable pub times : ℕ → List Pair → ℕ
-times q [] = 0
-times q (p ∷ ps) = cond (eqb (place-of p) q) 1 0 + times q ps
+use Rattle.judging.specs.inner.Times.{times}
 
 -- How often the first n rules that are not dead assign the pair at q.
 unfoldable pub live-below : List (List ℕ) → List Bool → ℕ → ℕ → ℕ

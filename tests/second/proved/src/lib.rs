@@ -2,9 +2,10 @@
 
 use std::fmt::Write;
 
+use second::editors::{Caller, Tally};
 use second::engine::Engine;
 use second::raw::{self, given, Card, Change, RlName, RlRead, RlResponse, Slip};
-use second::response::{fired_count, Outputs, Tally};
+use second::response::{fired_count, Outputs};
 use second::table::{program_in, Literal, Name, Pair, Program, Rule, Table, SLOTS};
 use second::{refusal, Refusal};
 
@@ -67,20 +68,35 @@ fn reading(read: RlRead) -> (Option<Refusal>, Box<Table>) {
     (checked(fits, given(read.number, read.second, ())).err(), Box::new(read.table))
 }
 
-/// A tally in two bytes for each count.
-fn two_bytes(tally: Tally) -> raw::Tally {
-    let count = |n: u32| u16::try_from(n).expect("a tally of two bytes");
-    raw::Tally { answered: count(tally.answered), refused: count(tally.refused) }
+/// A record in two bytes for each count.
+fn two_bytes(record: &Tally) -> raw::Tally {
+    let count = |n: u32| u16::try_from(n).expect("a count of two bytes");
+    raw::Tally { answered: count(record.answered), refused: count(record.refused) }
+}
+
+/// The records before and after the lent ones, which the library may not touch.
+const MARGIN: [raw::Tally; 4] = [raw::Tally { answered: 4_369, refused: 8_738 }; 4];
+
+/// Lends records to a call between others; gives its result and whether the others are as they were.
+fn lend(records: &mut [Tally], call: impl FnOnce(&mut [raw::Tally]) -> RlResponse) -> (RlResponse, bool) {
+    let made: Vec<raw::Tally> = records.iter().map(two_bytes).collect();
+    let mut whole = [&MARGIN[..], &made, &MARGIN].concat();
+    let lent = MARGIN.len()..MARGIN.len() + records.len();
+    let response = call(&mut whole[lent.clone()]);
+    for (to, from) in records.iter_mut().zip(&whole[lent.clone()]) {
+        *to = Tally { answered: from.answered.into(), refused: from.refused.into() };
+    }
+    (response, whole[..lent.start] == MARGIN && whole[lent.end..] == MARGIN)
 }
 
 impl Proved {
-    /// The tally and the result of a response; a refusal comes without a length or fired rules.
-    fn response(&mut self, table: &Table, response: RlResponse) -> (Tally, Result<usize, Refusal>) {
-        let fits = response.number == 0 || (response.length, response.fired) == (0, 0);
+    /// The result of a response, given whether nothing else was touched; a refusal comes without a length or fired rules.
+    fn response(&mut self, table: &Table, responded: (RlResponse, bool)) -> Result<usize, Refusal> {
+        let (response, untouched) = responded;
+        let fits = untouched && (response.number == 0 || (response.length, response.fired) == (0, 0));
         self.fired = response.fired;
         self.record = if response.number == 0 { (table.count as usize + 7) / 8 } else { 0 };
-        let after = Tally { answered: response.tally.answered.into(), refused: response.tally.refused.into() };
-        (after, checked(fits, given(response.number, response.second, response.length)))
+        checked(fits, given(response.number, response.second, response.length))
     }
 }
 
@@ -148,25 +164,31 @@ impl Engine for Proved {
     fn respond(
         &mut self,
         table: &Table,
-        tally: Tally,
+        caller: Caller,
         card: &[u8],
         slip: &[u8],
         outputs: Outputs,
-    ) -> (Tally, Result<usize, Refusal>) {
+    ) -> Result<usize, Refusal> {
         let Outputs { card: renewed, changes, fired } = outputs;
-        self.response(table, raw::respond(table, two_bytes(tally), card, slip, renewed, changes, fired))
+        let Caller { records, editor } = caller;
+        let responded =
+            lend(records, |records| raw::respond(table, records, editor, card, slip, renewed, changes, fired));
+        self.response(table, responded)
     }
 
     fn respond_by_marks(
         &mut self,
         table: &Table,
-        tally: Tally,
+        caller: Caller,
         card: &[u8],
         slip: &[u8],
         outputs: Outputs,
-    ) -> (Tally, Result<usize, Refusal>) {
+    ) -> Result<usize, Refusal> {
         let Outputs { card: renewed, changes, fired } = outputs;
-        self.response(table, raw::respond_by_marks(table, two_bytes(tally), card, slip, renewed, changes, fired))
+        let Caller { records, editor } = caller;
+        let responded =
+            lend(records, |records| raw::respond_by_marks(table, records, editor, card, slip, renewed, changes, fired));
+        self.response(table, responded)
     }
 
     /// What the last response said, and the one bits beyond its record.

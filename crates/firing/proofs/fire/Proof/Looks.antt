@@ -21,10 +21,10 @@ use Rattle.table.proofs.Link.{stratum-at-is}
 use Rattle.table.proofs.Walks.{literals-from}
 use Rattle.rows.specs.inner.Rows.{tests, literal-in, rule-in, table-in, RowFits}
 use Rattle.rows.proofs.Laws.{literal-is, rule-row, rows-count, rows-table-shaped}
-use Rattle.firing.specs.inner.Truth.{Truth}
-use Rattle.firing.specs.inner.Waiting.{Waiting, Woken}
-use Rattle.firing.proofs.Truths.{trigger-holds}
-use Rattle.firing.proofs.Lists.{turn-rule, turn-woken, turn-place}
+use Rattle.testing.specs.inner.Truth.{Truth}
+use Rattle.testing.specs.inner.Waiting.{Waiting, Woken}
+use Rattle.testing.proofs.Truths.{trigger-holds}
+use Rattle.testing.proofs.Lists.{turn-rule, turn-woken, turn-place}
 use Rattle.firing.proofs.Sorted.{Sorts, sorts-rules}
 use Rattle.firing.proofs.Running.{Kept, turns-left, turn-over, passes-left, Running, run-pass, run-turn}
 use native.Mathlib.Omega.{arith}

@@ -13,7 +13,7 @@ use Rattle.listing.proofs.answers.put_answer.Tie as tie
 
 -- What follows each part.
 abbrev rest-3 : tie.Start → List ℕ
-rest-3 s = tally-text (s .args .tally)
+rest-3 s = tally-text (s .args .editor) (s .args .tally)
 
 abbrev rest-2 : tie.Start → List ℕ
 rest-2 s = card-text (s .args .card .now) ++ rest-3 s
@@ -23,11 +23,11 @@ rest-1 s = changes-text (map (change-line (s .args .text .now) (s .args .t)) (ch
 
 -- What is left to put, at first and after each part.
 abbrev LeftAt : tie.Start → List ℕ → ℕ → List ℕ → Type 0
-LeftAt s out k rest = Left (s .args .out .now) 0 (printed (list-answer (s .args .text .now) (s .args .t) (answer-bytes (s .args .card .now) (s .args .changes .now) (s .args .bits .now)) (s .args .tally))) out k rest
+LeftAt s out k rest = Left (s .args .out .now) 0 (printed (list-answer (s .args .text .now) (s .args .t) (answer-bytes (s .args .card .now) (s .args .changes .now) (s .args .bits .now)) (s .args .editor) (s .args .tally))) out k rest
 
 all-left : (s : tie.Start) → LeftAt s (s .args .out .now) 0 (rules-text 1 (fired-lines (s .args .t) (s .args .bits .now)) ++ rest-1 s)
 unfolding printed
-all-left s = left-start (s .args .out .now) 0 (printed (list-answer (s .args .text .now) (s .args .t) (answer-bytes (s .args .card .now) (s .args .changes .now) (s .args .bits .now)) (s .args .tally))) (let h = s .pre .2 in omega arith)
+all-left s = left-start (s .args .out .now) 0 (printed (list-answer (s .args .text .now) (s .args .t) (answer-bytes (s .args .card .now) (s .args .changes .now) (s .args .bits .now)) (s .args .editor) (s .args .tally))) (let h = s .pre .2 in omega arith)
 
 abbrev start-1 : tie.After-put-rules → tie.Start
 start-1 c = c .before .before .before .before .before .before .before

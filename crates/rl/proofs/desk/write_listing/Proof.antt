@@ -13,8 +13,8 @@ use Rattle.rl.proofs.desk.write_listing.Tie as tie
 -- The page has room for the listing.
 fits : (c : tie.After-list) → c .list .result ≤ page
 fits c =
-    let a = c .before .before .before .before .before .before .args in
-    omega (arith, c .list .ensures .0, listing-bounded (a .text .now) (a .card .now) (a .slip .now))
+    let a = c .before .before .before .before .before .before .before .args in
+    omega (arith, c .list .ensures .0, listing-bounded (a .text .now) (a .card .now) (a .slip .now) (a .editor .now))
 
 blank-requires : tie.Need-blank-requires
 blank-requires c κs = search needs
@@ -31,7 +31,7 @@ array-share-prefix-out c = let h = fits (c .before) in search needs
 slice-aggregate-write-all : tie.Need-slice-aggregate-write-all
 slice-aggregate-write-all c =
     let l = c .before .before in
-    sym (length-take-le (l .list .result) _ (omega (arith, fits l, l .list .kept .1 .1 .1 .0, l .before .before .blank .ensures)))
+    sym (length-take-le (l .list .result) _ (omega (arith, fits l, l .list .kept .1 .1 .1 .1 .0, l .before .before .blank .ensures)))
 
 write-all-requires : tie.Need-write-all-requires
 write-all-requires c κs = search needs

@@ -12,13 +12,13 @@ use Rattle.model.specs.Orders.{rule-at}
 use Rattle.table.specs.Link.{rules-of, rule-of}
 use Rattle.table.specs.inner.Flat.{pair-places}
 use Rattle.rows.specs.inner.Rows.{rule-in, table-in, RowFits}
-use Rattle.firing.specs.inner.Waiting.{Woken}
+use Rattle.testing.specs.inner.Waiting.{Woken}
 use Rattle.marks.specs.inner.Number.{number}
 use Rattle.marks.specs.Marks.{truth-rule, declared-pairs}
 use Rattle.marks.specs.inner.Declared.{Declared}
-use Rattle.selecting.specs.inner.Known.{Known, known, marks-of, Truths}
+use Rattle.judging.specs.inner.Known.{Known, known, marks-of, Truths}
+use Rattle.marking.specs.inner.Waking.{Chained}
 use Rattle.selecting.specs.inner.Live.{Live}
-use Rattle.selecting.specs.inner.Waking.{Chained}
 use Rattle.selecting.specs.inner.Selected.{Counts, CardIs, SlipIs, OneValue}
 use Rattle.selecting.proofs.Turns.{Kept, turns-left, sweeps-left, turn-rule, turn-woken, turn-place, turn-seen, turn-over}
 use Rattle.selecting.proofs.Sweeping.{Held, Seen}

@@ -6,7 +6,9 @@ use std::process::{exit, Command};
 use proved::Proved;
 use second::compare::{compare_seeds, shrunk, store};
 use second::gen::{any_file, card, slip, Rng};
+use second::gen_editors::editor_file;
 use second::listing::listing;
+use second::program_cases::NAMES;
 use second::table_lines;
 
 /// What the command line asks for.
@@ -36,9 +38,9 @@ fn asked() -> Asked {
     asked
 }
 
-/// Runs a program in a folder that holds its three files.
-fn run(program: &Path, folder: &Path, files: [&[u8]; 3]) -> Vec<u8> {
-    for (name, bytes) in ["rules.txt", "card.bin", "slip.bin"].iter().zip(files) {
+/// Runs a program in a folder that holds its four files.
+fn run(program: &Path, folder: &Path, files: [&[u8]; 4]) -> Vec<u8> {
+    for (name, bytes) in NAMES.iter().zip(files) {
         std::fs::write(folder.join(name), bytes).expect("the folder can be written");
     }
     Command::new(program).current_dir(folder).output().expect("the program can be run").stdout
@@ -54,8 +56,9 @@ fn try_program(asked: &Asked, program: &Path) -> bool {
         let mut rng = Rng::new(seed);
         let file = any_file(&mut rng);
         let (card, slip) = (card(&mut rng, &file.sketch), slip(&mut rng, &file.sketch));
-        let wanted = listing(&file.text, &card, &slip);
-        let printed = run(&program, &folder, [&file.text, &card, &slip]);
+        let editor = editor_file(&mut rng);
+        let wanted = listing(&file.text, &card, &slip, &editor);
+        let printed = run(&program, &folder, [&file.text, &card, &slip, &editor]);
         if printed != wanted.as_bytes() {
             println!(
                 "seed {seed} in {}: printed\n{}wanted\n{wanted}",

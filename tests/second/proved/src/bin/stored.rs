@@ -1,10 +1,10 @@
-//! The stored cases through the library: `stored texts`, `stored prints`, `stored marks` and `stored cards` read the input of that kind from standard input and write what the library says of each case.
+//! The stored cases through the library: `stored texts`, `stored prints`, `stored marks`, `stored days` and `stored cards` read the input of that kind from standard input and write what the library says of each case.
 
 use std::io::{Read, Write};
 
 use proved::Proved;
 use second::raw::{self, Card, Change, RlPacked, Slip, Table, SLOTS};
-use second::{mark_lines, print_lines, read_lines};
+use second::{day_lines, mark_lines, print_lines, read_lines};
 
 /// The bytes of the output that a packing is lent the front of, and what it holds before.
 const ROOM: usize = 64;
@@ -138,8 +138,9 @@ fn main() -> std::io::Result<()> {
         Some("texts") => read_lines::output(&mut Proved::default(), &input),
         Some("prints") => print_lines::output(&mut Proved::default(), &input),
         Some("marks") => mark_lines::output(&mut Proved::default(), &input),
+        Some("days") => day_lines::output(&mut Proved::default(), &input),
         Some("cards") => card_lines(&input),
-        _ => panic!("stored texts, stored prints, stored marks, or stored cards"),
+        _ => panic!("stored texts, stored prints, stored marks, stored days, or stored cards"),
     };
     std::io::stdout().write_all(&written)
 }

@@ -1,0 +1,115 @@
+-- `judging::truth::rule_truth` meets its contract.
+-- Assumes nothing.
+use mathlib.Core.Path.{_≡_, ap, _∙_}
+use mathlib.Core.List.{List}
+use Prim.Native.Nat.{ℕ, _-_, _≤_, _<_}
+use lib.ListN.{getD}
+use Rattle.rows.specs.inner.Rows.{rule-in}
+use Rattle.rows.proofs.Laws.{number-fits}
+use Rattle.marks.specs.inner.Number.{number}
+use Rattle.judging.specs.inner.Known.{Known, marks-of, Truths}
+use Rattle.judging.proofs.Tests.{trigger-literal}
+use Rattle.judging.proofs.Joining.{Joined, joined-start, joined-false, joined-kept, joined-lower, joined-end}
+use native.Mathlib.Omega.{arith}
+use borrow.Author.Needs.{needs}
+use Rattle.judging.proofs.truth.rule_truth.Statement.{statement}
+use Rattle.judging.proofs.truth.rule_truth.Tie as tie
+
+abbrev Inv-literals : tie.InvT-literals
+Inv-literals row truth trigger least₀ m j₀ least j = (j ≤ m) × ((S : List ℕ) (k : Known) → Truths S k → truth ≡ k .truth → Joined S (marks-of k) (rule-in row) j least)
+
+abbrev μ-literals : tie.MeasureT-literals
+μ-literals row truth trigger least₀ m j₀ least j = m - j
+
+-- There is a literal at the place at hand.
+used : (c : tie.In-literals Inv-literals μ-literals) → c .before .literals .j < rule-in (c .before .before .before .before .before .args .row .now) .tested
+used c = omega (arith, c .before .before .tested .ensures, c .literals-test .taken)
+
+trigger-requires : tie.Need-trigger-requires Inv-literals μ-literals
+trigger-requires c κs = search needs
+
+literal-truth-requires : tie.Need-literal-truth-requires Inv-literals μ-literals
+literal-truth-requires c κs = search needs
+
+tested-requires : tie.Need-tested-requires Inv-literals μ-literals
+tested-requires c κs = search needs
+
+literals-holds : tie.Need-literals-holds Inv-literals μ-literals
+literals-holds c =
+    let s = c .before .before .before in
+    let row = s .args .row .now in (
+      search needs,
+      λ S k t e.
+          let x = rw (c .before .before .trigger .ensures) at (c .before .literal-truth .ensures S k t e) in
+          joined-start S (marks-of k) (rule-in row) (c .before .literal-truth .result) (x ∙ ap number (trigger-literal S (marks-of k) (getD row 0 0) (s .pre .0 .trigger-becomes))),
+    )
+
+returns : tie.Need-returns Inv-literals μ-literals
+returns c =
+    let a = c .before .before in
+    let s = a .before .before .before .before in
+    λ S k t e. joined-false S (marks-of k) (rule-in (s .args .row .now)) (a .literals .j) (rw (c .if1 .taken) at (a .literals .inv .1 S k t e))
+
+literal-requires : tie.Need-literal-requires Inv-literals μ-literals
+literal-requires c κs = search needs
+
+literal-truth-requires-2 : tie.Need-literal-truth-requires-2 Inv-literals μ-literals
+literal-truth-requires-2 c κs =
+    let i = c .before .before in
+    let s = i .before .before .before .before .before in
+    (number-fits (s .args .row .now) (s .pre .0) (i .before .literals .j) (c .literal .result) (used i) (c .literal .ensures), s .pre .1)
+
+add-j : tie.Need-add-j Inv-literals μ-literals
+add-j c = search needs
+
+literals-less : tie.Need-literals-less Inv-literals μ-literals
+literals-less c = search needs
+
+literals-again : tie.Need-literals-again Inv-literals μ-literals
+literals-again c =
+    let l = c .before .before in
+    let i = l .before .before in
+    let a = i .before in
+    let s = a .before .before .before .before in (
+      search needs,
+      λ S k t e. joined-kept S (marks-of k) (s .args .row .now) (s .pre .0) (a .literals .j) (l .literal .result) (used i) (l .literal .ensures) (c .before .literal-truth2 .result) (a .literals .least) (c .before .literal-truth2 .ensures S k t e) (c .if2 .taken) (a .literals .inv .1 S k t e),
+    )
+
+literals-less-2 : tie.Need-literals-less-2 Inv-literals μ-literals
+literals-less-2 c = search needs
+
+literals-again-2 : tie.Need-literals-again-2 Inv-literals μ-literals
+literals-again-2 c =
+    let l = c .before .before in
+    let i = l .before .before in
+    let a = i .before in
+    let s = a .before .before .before .before in (
+      search needs,
+      λ S k t e. joined-lower S (marks-of k) (s .args .row .now) (s .pre .0) (a .literals .j) (l .literal .result) (used i) (l .literal .ensures) (c .before .literal-truth2 .result) (a .literals .least) (c .before .literal-truth2 .ensures S k t e) (omega (arith, c .if2 .left)) (a .literals .inv .1 S k t e),
+    )
+
+returns-2 : tie.Need-returns-2 Inv-literals μ-literals
+returns-2 c =
+    let a = c .before in
+    let s = a .before .before .before .before in
+    λ S k t e. joined-end S (marks-of k) (rule-in (s .args .row .now)) (a .literals .j) (a .literals .least) (omega (arith, a .before .tested .ensures, c .literals-test .left)) (a .literals .inv .1 S k t e)
+
+pub rule-truth-spec : {M : Type 1} → statement M
+rule-truth-spec =
+    tie.close
+    (tie.spec
+    Inv-literals
+    μ-literals
+    trigger-requires
+    literal-truth-requires
+    tested-requires
+    literals-holds
+    returns
+    literal-requires
+    literal-truth-requires-2
+    add-j
+    literals-less
+    literals-again
+    literals-less-2
+    literals-again-2
+    returns-2)

@@ -1,0 +1,96 @@
+// True, False and Unknown by number: the tests of a card and its marks looked up, and what literals and rules come to.
+ghost use mathlib.Core.Path.{_≡_};
+ghost use mathlib.Core.List.{List};
+ghost use Prim.Native.Nat.{ℕ, _<_};
+ghost use lib.ListN.{getD};
+ghost use Rattle.laws.specs.Limits.{slot-limit, row};
+ghost use Rattle.table.specs.Link.{literal-of, rule-of};
+ghost use Rattle.rows.specs.inner.Rows.{tests, literal-in, rule-in, RowFits};
+ghost use Rattle.marks.specs.inner.Number as truths;
+ghost use Rattle.marks.specs.Marks.{truth-literal, truth-rule};
+ghost use Rattle.judging.specs.inner.Known.{Known, known, marks-of, Truths, Three};
+use rows::NUMBERS;
+use rows::UNDER_NOT;
+use rows::wide;
+use table::PAIRS;
+use table::ROW;
+use table::SLOTS;
+use testing::truth::WITHOUT_NOT;
+
+// The three by number.
+pub const FALSE: u8 = 0;
+
+pub const UNKNOWN: u8 = 1;
+
+pub const TRUE: u8 = 2;
+
+// What each test without NOT comes to at a card and its marks: `|=` for each pair, then `*=` for each.
+pub fn truth_of(
+    card: &[u8; SLOTS],
+    positive: &[bool; PAIRS],
+    negative: &[bool; PAIRS],
+) -> [u8; WITHOUT_NOT]
+    requires { ⌜ ((s : ℕ) → s < slot-limit → getD (now card) s 0 < row) ⌝ }
+    ensures { λ r. ⌜ Truths (now (card .entry)) (known (now (positive .entry)) (now (negative .entry)) r) ⌝ }
+{
+    let mut truth: [u8; WITHOUT_NOT] = [FALSE; WITHOUT_NOT];
+    let mut p: usize = 0;
+    'pairs: while p < PAIRS {
+        let mark = if positive[p] {
+            TRUE
+        } else if negative[p] {
+            FALSE
+        } else {
+            UNKNOWN
+        };
+        truth[PAIRS + p] = mark;
+        p += 1;
+    }
+    let mut s: usize = 0;
+    'slots: while s < SLOTS {
+        let v = table::wide(card[s]);
+        let at = s * ROW + v;
+        truth[at] = TRUE;
+        truth[PAIRS + at] = FALSE;
+        s += 1;
+    }
+    truth
+}
+
+// What a literal comes to, by the number of its test.
+pub fn literal_truth(number: u16, truth: &[u8; WITHOUT_NOT]) -> u8
+    requires { ⌜ (number < tests) × Three (now truth) ⌝ }
+    ensures { λ r. ⌜ ((S : List ℕ) (k : Known) → Truths S k → now (truth .entry) ≡ k .truth → r ≡ truths.number (truth-literal S (marks-of k) (literal-of (literal-in number)))) ⌝ }
+{
+    let at = wide(number % UNDER_NOT);
+    let test = truth[at];
+    if number / UNDER_NOT == 1 {
+        TRUE - test
+    } else {
+        test
+    }
+}
+
+// What a rule comes to: the least of its trigger and its literals; nothing is below False.
+pub fn rule_truth(row: &[u16; NUMBERS], truth: &[u8; WITHOUT_NOT]) -> u8
+    requires { ⌜ RowFits (now row) × Three (now truth) ⌝ }
+    ensures { λ r. ⌜ ((S : List ℕ) (k : Known) → Truths S k → now (truth .entry) ≡ k .truth → r ≡ truths.number (truth-rule S (marks-of k) (rule-of (rule-in (now (row .entry)))))) ⌝ }
+{
+    let trigger = rows::trigger(row);
+    let mut least = literal_truth(trigger, truth);
+    let m = rows::tested(row);
+    let mut j: usize = 0;
+    'literals: while j < m {
+        if least == FALSE {
+            return FALSE;
+        }
+        let number = rows::literal(row, j);
+        let x = literal_truth(number, truth);
+        j += 1;
+        if least <= x {
+            continue 'literals;
+        }
+        least = x;
+    }
+    least
+}

@@ -1,0 +1,4 @@
+pub mod Marked
+pub mod Slots
+pub mod Negative
+pub mod Chains

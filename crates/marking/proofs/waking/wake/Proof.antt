@@ -1,0 +1,124 @@
+-- `marking::waking::wake` meets its contract.
+-- Assumes nothing.
+use Prim.Native.Nat.{_-_, _*_, _/_, _≤_, _<_}
+use lib.ListN.{getD}
+use Rattle.laws.specs.Limits.{rule-limit}
+use Rattle.testing.specs.inner.Waiting.{Woken}
+use Rattle.testing.proofs.Lists.{woken-more}
+use native.Mathlib.Omega.{arith}
+use borrow.Author.Needs.{needs}
+use Rattle.marking.proofs.waking.wake.Statement.{statement}
+use Rattle.marking.proofs.waking.wake.Tie as tie
+
+abbrev Inv-chain : tie.InvT-chain
+Inv-chain p n heads nexts queued₀ woken₀ left top₀ x₀ queued woken top x = (x ≤ n * 9) × Woken n top woken
+
+abbrev μ-chain : tie.MeasureT-chain
+μ-chain p n heads nexts queued₀ woken₀ left top₀ x₀ queued woken top x = x
+
+-- The next test of the chain comes before, and is one of a rule.
+falls : (c : tie.After-wide Inv-chain μ-chain) →
+    let a = c .before .before in
+    (getD (a .before .before .args .nexts .now) (c .wide .result - 1) 0 < a .chain .x) × (getD (a .before .before .args .nexts .now) (c .wide .result - 1) 0 ≤ a .before .before .args .n * 9)
+falls c =
+    let a = c .before .before in
+    let h = a .before .before .pre .2 .nexts-fall (c .wide .result - 1) in
+    let e = c .wide .ensures in
+    (omega (arith, h, e, c .before .chain-test .taken), omega (arith, h, e, c .before .chain-test .taken, a .chain .inv .0))
+
+mul-x : tie.Need-mul-x Inv-chain μ-chain
+mul-x c = search needs
+
+element-copy-out-x : tie.Need-element-copy-out-x Inv-chain μ-chain
+element-copy-out-x c = search needs
+
+chain-holds : tie.Need-chain-holds Inv-chain μ-chain
+chain-holds c = (c .before .pre .2 .heads-low (c .before .args .p), c .before .pre .3)
+
+wide-requires : tie.Need-wide-requires Inv-chain μ-chain
+wide-requires c κs = search needs
+
+sub-o : tie.Need-sub-o Inv-chain μ-chain
+sub-o c = search needs
+
+mul-x-2 : tie.Need-mul-x-2 Inv-chain μ-chain
+mul-x-2 c = search needs
+
+element-copy-out-x-2 : tie.Need-element-copy-out-x-2 Inv-chain μ-chain
+element-copy-out-x-2 c = search needs
+
+element-copy-out-if1 : tie.Need-element-copy-out-if1 Inv-chain μ-chain
+element-copy-out-if1 c = search needs
+
+chain-less : tie.Need-chain-less Inv-chain μ-chain
+chain-less c = falls (c .before .before .before) .0
+
+chain-again : tie.Need-chain-again Inv-chain μ-chain
+chain-again c =
+    let w = c .before .before .before in
+    (falls w .1, w .before .before .chain .inv .1)
+
+chain-less-2 : tie.Need-chain-less-2 Inv-chain μ-chain
+chain-less-2 c = falls (c .before .before .before .before) .0
+
+chain-again-2 : tie.Need-chain-again-2 Inv-chain μ-chain
+chain-again-2 c =
+    let w = c .before .before .before .before in
+    (falls w .1, w .before .before .chain .inv .1)
+
+element-write-queued : tie.Need-element-write-queued Inv-chain μ-chain
+element-write-queued c = search needs
+
+cast-woken : tie.Need-cast-woken Inv-chain μ-chain
+cast-woken c = search needs
+
+mul-woken : tie.Need-mul-woken Inv-chain μ-chain
+mul-woken c = search needs
+
+element-write-woken : tie.Need-element-write-woken Inv-chain μ-chain
+element-write-woken c = search needs
+
+add-top : tie.Need-add-top Inv-chain μ-chain
+add-top c = search needs
+
+chain-less-3 : tie.Need-chain-less-3 Inv-chain μ-chain
+chain-less-3 c = falls (c .before .before .before .before) .0
+
+chain-again-3 : tie.Need-chain-again-3 Inv-chain μ-chain
+chain-again-3 c =
+    let w = c .before .before .before .before in
+    let a = w .before .before in
+    let s = a .before .before in
+    let few : a .chain .top < rule-limit = omega (arith, s .pre .1, c .if2 .left) in
+    let rule : (w .wide .result - 1) / 9 < s .args .n = omega (arith, w .wide .ensures, w .before .chain-test .taken, a .chain .inv .0) in
+    (falls w .1, woken-more (s .args .n) (a .chain .top) ((w .wide .result - 1) / 9) (a .chain .woken) few rule (a .chain .inv .1))
+
+returns : tie.Need-returns Inv-chain μ-chain
+returns c = search needs
+
+pub wake-spec : {M : Type 1} → statement M
+wake-spec =
+    tie.close
+    (tie.spec
+    Inv-chain
+    μ-chain
+    mul-x
+    element-copy-out-x
+    chain-holds
+    wide-requires
+    sub-o
+    mul-x-2
+    element-copy-out-x-2
+    element-copy-out-if1
+    chain-less
+    chain-again
+    chain-less-2
+    chain-again-2
+    element-write-queued
+    cast-woken
+    mul-woken
+    element-write-woken
+    add-top
+    chain-less-3
+    chain-again-3
+    returns)

@@ -1,0 +1,4 @@
+pub mod Holding
+pub mod Filling
+pub mod Truths
+pub mod Lists
