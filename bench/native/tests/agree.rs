@@ -67,7 +67,7 @@ fn responses(rng: &mut Rng, way: Way, table: &SecondTable, sketch: &Sketch, engi
     let [a, b, c] = &mut theirs;
     let outputs = second::response::Outputs { card: a, changes: b, fired: c };
     let caller = second::editors::Caller { records: &mut their_records, editor };
-    let their_answer = Second.respond_by(way, table, caller, &card, &slip, outputs);
+    let their_answer = Second.respond(way, table, caller, &card, &slip, outputs);
     let [a, b, c] = &mut ours;
     let outputs = Outputs { card: a, changes: b, fired: c };
     let caller = Caller { records: &mut our_records, editor };

@@ -45,7 +45,6 @@ use Rattle.table.proofs.Table as table
 use Rattle.table.proofs.Table.Laws as table-laws
 use Rattle.tally.proofs.Tally as tally
 use Rattle.tally.proofs.Tally.Laws as tally-laws
-use Rattle.tally.proofs.place as place
 use Rattle.library.proofs.at_record.Counted as counted
 use Rattle.library.proofs.RlResponse as response
 use Rattle.library.proofs.RlResponse.Laws as response-laws

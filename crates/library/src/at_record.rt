@@ -78,9 +78,9 @@ pub fn respond_by_marks_at(
 {
     let response = response::respond_by_marks(t, tally, card, slip, renewed, changes, fired);
     let outcome = response.outcome;
-    let after = response.tally;
+    let left = response.tally;
     Counted {
         response: response_numbers(outcome),
-        tally: after,
+        tally: left,
     }
 }

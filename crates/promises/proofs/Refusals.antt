@@ -74,7 +74,7 @@ unfolding after
 only-after P passed u g h = h
 only-after P (fault k s) u g h = g
 
-pub only-then : {A B : Type 0} (P : ℕ → Type 0) (u : OrRefused A) (f : A → OrRefused B) → Only P u → ((a : A) → Only P (f a)) → Only P (u and-then f)
+only-then : {A B : Type 0} (P : ℕ → Type 0) (u : OrRefused A) (f : A → OrRefused B) → Only P u → ((a : A) → Only P (f a)) → Only P (u and-then f)
 unfolding _and-then_
 only-then P (taken a) f g h = h a
 only-then P (refused k s) f g h = g
@@ -110,7 +110,7 @@ both : (a b : Bool) → T (cond a b false) → T a × T b
 both true b h = (tt, h)
 both false b h = absurd h
 
-pub one-of-more : (ns ms : List ℕ) → T (within ns ms) → (k : ℕ) → OneOf ns k → OneOf ms k
+one-of-more : (ns ms : List ℕ) → T (within ns ms) → (k : ℕ) → OneOf ns k → OneOf ms k
 one-of-more [] ms t k h = absurd h
 one-of-more (n ∷ ns) ms t k (inl e) = rw e (one-of ms n (both (has ms n) (within ns ms) t .0))
 one-of-more (n ∷ ns) ms t k (inr h) = one-of-more ns ms (both (has ms n) (within ns ms) t .1) k h

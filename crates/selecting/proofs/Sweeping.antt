@@ -16,7 +16,7 @@ use Rattle.rows.specs.inner.Rows.{rule-in}
 use Rattle.testing.proofs.Lists.{set-low}
 use Rattle.marks.specs.inner.Number.{number}
 use Rattle.marks.specs.Marks.{truth-rule}
-use Rattle.judging.specs.inner.Known.{Known, known, marks-of, Truths, Three}
+use Rattle.judging.specs.inner.Known.{Known, marks-of, Truths, Three}
 use Rattle.marking.specs.inner.Marked.{ruled-out, made-positive, rival-out, rivals-out, marked, assigned-one, assigned, unassigned-one, unassigned-out}
 use Rattle.marking.specs.inner.Waking.{Chained}
 use Rattle.selecting.specs.inner.Live.{Live}

@@ -6,7 +6,7 @@ use crate::cards::{
     unpack_slip,
 };
 use crate::editors::{Caller, Tally, FULL};
-use crate::engine::{parts, Engine, Second};
+use crate::engine::{parts, Engine, Second, Way};
 use crate::fault::Fault;
 use crate::response::{conflict, fired_count, needed, outcome, record, short_output};
 use crate::response::{Answer, Changes, Outputs};
@@ -293,29 +293,20 @@ impl Engine for Broken {
 
     fn respond(
         &mut self,
+        way: Way,
         table: &Table,
         caller: Caller,
         card: &[u8],
         slip: &[u8],
         outputs: Outputs,
     ) -> Result<usize, Refusal> {
-        let is_31 = || tested(table).is_err();
-        broken_editors::respond(self.fault, caller, outputs, is_31, |tally, outputs| {
-            self.respond_at(table, tally, card, slip, outputs)
-        })
-    }
-
-    fn respond_by_marks(
-        &mut self,
-        table: &Table,
-        caller: Caller,
-        card: &[u8],
-        slip: &[u8],
-        outputs: Outputs,
-    ) -> Result<usize, Refusal> {
-        let is_31 = || tested_for_marks(table).is_err();
-        broken_editors::respond(self.fault, caller, outputs, is_31, |tally, outputs| {
-            broken_marks::respond_at(self.fault, table, tally, card, slip, outputs)
+        let is_31 = || match way {
+            Way::Strata => tested(table).is_err(),
+            Way::Marks => tested_for_marks(table).is_err(),
+        };
+        broken_editors::respond(self.fault, caller, outputs, is_31, |tally, outputs| match way {
+            Way::Strata => self.respond_at(table, tally, card, slip, outputs),
+            Way::Marks => broken_marks::respond_at(self.fault, table, tally, card, slip, outputs),
         })
     }
 

@@ -42,7 +42,7 @@ pub fn respond(engine: &mut dyn Engine, way: Way, table: &Table, entry: &Entry) 
     let mut records = entry.records.clone();
     let caller = Caller { records: &mut records, editor: entry.editor };
     let (result, outputs) = lend(entry.rooms, |[card, changes, fired]| {
-        engine.respond_by(way, table, caller, &entry.card, &entry.slip, Outputs { card, changes, fired })
+        engine.respond(way, table, caller, &entry.card, &entry.slip, Outputs { card, changes, fired })
     });
     Responded { result, records, outputs }
 }

@@ -1,7 +1,7 @@
 //! What the comparison asks of an engine, and the second engine as one.
 
 use crate::editors::Caller;
-use crate::response::{respond, Outputs};
+use crate::response::Outputs;
 use crate::table::{Name, Pair, Table};
 use crate::table31::{slot_name, tested, unlayered, value_name};
 use crate::{cards, marks, print, read, refusal, response, strata, Refusal};
@@ -45,19 +45,10 @@ pub trait Engine {
     /// Packs a slip into an output: its length, or 31, 24 to 27, 30.
     fn pack_slip(&mut self, table: &Table, changes: &[Pair], output: &mut [u8]) -> Result<usize, Refusal>;
 
-    /// The response, counted in the caller's record: the changes' length, or 44, 32, 31, 20 to 28, 30, 40.
+    /// The response of a way, counted in the caller's record: the changes' length, or 44, 32, 31, 20 to 28, 30, then 40, or by marks 41 and 42.
     fn respond(
         &mut self,
-        table: &Table,
-        caller: Caller,
-        card: &[u8],
-        slip: &[u8],
-        outputs: Outputs,
-    ) -> Result<usize, Refusal>;
-
-    /// The response by marks, counted in the caller's record: the changes' length, or 44, 32, 31, 20 to 28, 30, 41, 42.
-    fn respond_by_marks(
-        &mut self,
+        way: Way,
         table: &Table,
         caller: Caller,
         card: &[u8],
@@ -73,22 +64,6 @@ pub trait Engine {
         match way {
             Way::Strata => self.read(text),
             Way::Marks => self.read_unlayered(text),
-        }
-    }
-
-    /// The response of a way.
-    fn respond_by(
-        &mut self,
-        way: Way,
-        table: &Table,
-        caller: Caller,
-        card: &[u8],
-        slip: &[u8],
-        outputs: Outputs,
-    ) -> Result<usize, Refusal> {
-        match way {
-            Way::Strata => self.respond(table, caller, card, slip, outputs),
-            Way::Marks => self.respond_by_marks(table, caller, card, slip, outputs),
         }
     }
 }
@@ -147,24 +122,17 @@ impl Engine for Second {
 
     fn respond(
         &mut self,
+        way: Way,
         table: &Table,
         caller: Caller,
         card: &[u8],
         slip: &[u8],
         outputs: Outputs,
     ) -> Result<usize, Refusal> {
-        respond(table, caller, card, slip, outputs)
-    }
-
-    fn respond_by_marks(
-        &mut self,
-        table: &Table,
-        caller: Caller,
-        card: &[u8],
-        slip: &[u8],
-        outputs: Outputs,
-    ) -> Result<usize, Refusal> {
-        marks::respond(table, caller, card, slip, outputs)
+        match way {
+            Way::Strata => response::respond(table, caller, card, slip, outputs),
+            Way::Marks => marks::respond(table, caller, card, slip, outputs),
+        }
     }
 
     fn fired_count(&mut self, record: &[u8]) -> usize {

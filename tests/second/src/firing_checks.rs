@@ -29,7 +29,7 @@ pub struct Given {
 pub fn given_to(engine: &mut dyn Engine, way: Way, table: &Table, caller: Caller, card: &[u8], slip: &[u8]) -> Given {
     let (mut new, mut changes, mut fired) = (vec![0; 17], vec![0; 37], vec![0; 32]);
     let outputs = Outputs { card: &mut new, changes: &mut changes, fired: &mut fired };
-    let result = engine.respond_by(way, table, caller, card, slip, outputs);
+    let result = engine.respond(way, table, caller, card, slip, outputs);
     changes.truncate(result.unwrap_or(0));
     Given { refused: result.err(), card: new, changes, fired }
 }

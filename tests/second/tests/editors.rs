@@ -28,7 +28,7 @@ fn tally(answered: u32, refused: u32) -> Tally {
 fn respond(way: Way, table: &Table, records: &mut [Tally], editor: usize, card: &[u8]) -> Result<usize, Refusal> {
     let (mut new, mut changes, mut fired) = ([7; 3], [7; 37], [7; 1]);
     let outputs = Outputs { card: &mut new, changes: &mut changes, fired: &mut fired };
-    let result = Second.respond_by(way, table, Caller { records, editor }, card, &X_TO_1, outputs);
+    let result = Second.respond(way, table, Caller { records, editor }, card, &X_TO_1, outputs);
     assert_eq!(new == [7; 3] && changes == [7; 37] && fired == [7; 1], result.is_err());
     result
 }

@@ -5,7 +5,7 @@ use std::collections::BTreeMap;
 use second::compare::compare_seeds;
 use second::editor_kinds::call_kinds;
 use second::editors::Caller;
-use second::engine::{Engine, Second};
+use second::engine::{Engine, Second, Way};
 use second::firing_checks::{check_small, Counts};
 use second::kinds::{response_kinds, rule_kinds, table_kinds, text_kinds, Kind};
 use second::kinds::{CALL_KINDS, MARK_KINDS, MARK_TABLE_KINDS, RESPONSE_KINDS, RULE_KINDS, TABLE_KINDS, TEXT_KINDS};
@@ -81,37 +81,32 @@ impl Engine for Watching {
 
     fn respond(
         &mut self,
+        way: Way,
         table: &Table,
         caller: Caller,
         card: &[u8],
         slip: &[u8],
         outputs: Outputs,
     ) -> Result<usize, Refusal> {
-        meet(&mut self.met, table_kinds(table));
         let (records, editor) = (caller.records.to_vec(), caller.editor);
-        let result = Second.respond(table, caller, card, slip, outputs);
-        meet(&mut self.met, call_kinds(&records, editor, &result, tested(table).is_err()));
-        if result.map_or_else(|why| why.number == 40, |_| true) {
-            meet(&mut self.met, response_kinds(table, card, slip));
-        }
-        result
-    }
-
-    fn respond_by_marks(
-        &mut self,
-        table: &Table,
-        caller: Caller,
-        card: &[u8],
-        slip: &[u8],
-        outputs: Outputs,
-    ) -> Result<usize, Refusal> {
-        meet(&mut self.met, mark_table_kinds(table));
-        let (records, editor) = (caller.records.to_vec(), caller.editor);
-        let result = Second.respond_by_marks(table, caller, card, slip, outputs);
-        meet(&mut self.met, call_kinds(&records, editor, &result, tested_for_marks(table).is_err()));
-        if result.map_or_else(|why| why.number == 41 || why.number == 42, |_| true) {
-            meet(&mut self.met, mark_kinds(table, card, slip));
-        }
+        let result = Second.respond(way, table, caller, card, slip, outputs);
+        let is_31 = match way {
+            Way::Strata => {
+                meet(&mut self.met, table_kinds(table));
+                if result.map_or_else(|why| why.number == 40, |_| true) {
+                    meet(&mut self.met, response_kinds(table, card, slip));
+                }
+                tested(table).is_err()
+            }
+            Way::Marks => {
+                meet(&mut self.met, mark_table_kinds(table));
+                if result.map_or_else(|why| why.number == 41 || why.number == 42, |_| true) {
+                    meet(&mut self.met, mark_kinds(table, card, slip));
+                }
+                tested_for_marks(table).is_err()
+            }
+        };
+        meet(&mut self.met, call_kinds(&records, editor, &result, is_31));
         result
     }
 

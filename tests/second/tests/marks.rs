@@ -176,7 +176,7 @@ fn response(rules: &[&str], tally: (u32, u32), card: &[u8], rooms: [usize; 3]) -
     records[39] = Tally { answered: tally.0, refused: tally.1 };
     let table = read_unlayered(&text(rules)).unwrap();
     let caller = Caller { records: &mut records, editor: 40 };
-    let result = Second.respond_by_marks(&table, caller, card, &X_TO_1, outputs);
+    let result = Second.respond(Way::Marks, &table, caller, card, &X_TO_1, outputs);
     let kept = [new, changes, fired].concat().iter().all(|byte| *byte == 7);
     assert_eq!(kept, result.is_err());
     ((records[39].answered, records[39].refused), result)

@@ -1,7 +1,7 @@
 //! The test 31, names shown, the order of a response's refusals, what is counted, and what generated tables show.
 
 use second::editors::{fresh, Caller, Tally};
-use second::engine::{Engine, Second};
+use second::engine::{Engine, Second, Way};
 use second::fault::Fault;
 use second::program_cases::{A, B, C, D, E, SLOTS};
 use second::read::read;
@@ -113,7 +113,8 @@ fn response(table: &Table, tally: (u32, u32), slip: &[u8], rooms: [usize; 3]) ->
     let outputs = Outputs { card: &mut card, changes: &mut changes, fired: &mut fired };
     let mut records = fresh();
     records[4] = Tally { answered: tally.0, refused: tally.1 };
-    let result = Second.respond(table, Caller { records: &mut records, editor: 5 }, &[0x08, 0x44], slip, outputs);
+    let result =
+        Second.respond(Way::Strata, table, Caller { records: &mut records, editor: 5 }, &[0x08, 0x44], slip, outputs);
     ((records[4].answered, records[4].refused), result)
 }
 

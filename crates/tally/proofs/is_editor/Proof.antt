@@ -1,7 +1,6 @@
 -- `tally::is_editor` meets its contract.
 -- Assumes nothing.
 use mathlib.Core.Path.{sym}
-use borrow.Author.Needs.{needs}
 use Rattle.tally.proofs.EditorLaws.{editor-0, editor-above-0}
 use Rattle.tally.proofs.is_editor.Statement.{statement}
 use Rattle.tally.proofs.is_editor.Tie as tie

@@ -3,7 +3,7 @@
 use std::fmt::Write;
 
 use second::editors::{Caller, Tally};
-use second::engine::Engine;
+use second::engine::{Engine, Way};
 use second::raw::{self, given, Card, Change, RlName, RlRead, RlResponse, Slip};
 use second::response::{fired_count, Outputs};
 use second::table::{program_in, Literal, Name, Pair, Program, Rule, Table, SLOTS};
@@ -163,6 +163,7 @@ impl Engine for Proved {
 
     fn respond(
         &mut self,
+        way: Way,
         table: &Table,
         caller: Caller,
         card: &[u8],
@@ -171,23 +172,11 @@ impl Engine for Proved {
     ) -> Result<usize, Refusal> {
         let Outputs { card: renewed, changes, fired } = outputs;
         let Caller { records, editor } = caller;
-        let responded =
-            lend(records, |records| raw::respond(table, records, editor, card, slip, renewed, changes, fired));
-        self.response(table, responded)
-    }
-
-    fn respond_by_marks(
-        &mut self,
-        table: &Table,
-        caller: Caller,
-        card: &[u8],
-        slip: &[u8],
-        outputs: Outputs,
-    ) -> Result<usize, Refusal> {
-        let Outputs { card: renewed, changes, fired } = outputs;
-        let Caller { records, editor } = caller;
-        let responded =
-            lend(records, |records| raw::respond_by_marks(table, records, editor, card, slip, renewed, changes, fired));
+        let respond = match way {
+            Way::Strata => raw::respond,
+            Way::Marks => raw::respond_by_marks,
+        };
+        let responded = lend(records, |records| respond(table, records, editor, card, slip, renewed, changes, fired));
         self.response(table, responded)
     }
 
