@@ -18,10 +18,10 @@ use Rattle.table.specs.inner.Flat.{pair-places, pair-at, place-of, set-of}
 use Rattle.table.proofs.Flat.{set-in}
 use Rattle.rows.specs.inner.Rows.{pair-in, literal-in}
 use Rattle.testing.proofs.Filling.{had-here, not-there, Begun, begun-next}
-use Rattle.marks.specs.Truths.{Truth₃, True, False, Unknown, NOT₃}
-use Rattle.marks.specs.inner.Number.{number}
+use Rattle.truths.specs.declared.Truth3.the-variants.{True, False, Unknown}
+use Rattle.truths.specs.Truths.{NOT₃, number}
 use Rattle.marks.specs.Marks.{Marks, truth-had, truth-turns, truth-test, truth-literal}
-use Rattle.marks.proofs.Truths.{number-not, number-top}
+use Rattle.truths.proofs.Laws.{number-top}
 use Rattle.judging.specs.inner.Known.{Known, known, marks-of, Truths, Three}
 
 -- A pair that the card has: `|=` is True and `*=` is False.
@@ -108,20 +108,14 @@ module _ (S : List ℕ) (Z : Marks) where
   unfolding truth-test
   test-had l e = rw e
 
-  -- A literal under NOT, and a plain one.
-  pub literal-not : (l : Literal) (x : ℕ) → l .negated ≡ true → x ≡ number (truth-test S Z l) → 2 - x ≡ number (truth-literal S Z l)
+  -- A literal under NOT, and a plain one, by its test.
+  pub literal-not : (l : Literal) → l .negated ≡ true → NOT₃ (truth-test S Z l) ≡ truth-literal S Z l
   unfolding truth-literal
-  literal-not l x e q = go (l .negated) (truth-test S Z l) e q
-    where
-      go : (n : Bool) (t : Truth₃) → n ≡ true → x ≡ number t → 2 - x ≡ number (cond n (NOT₃ t) t)
-      go n t e q = rw (e, q) (sym (number-not t))
+  literal-not l e = rw e
 
-  pub literal-plain : (l : Literal) (x : ℕ) → l .negated ≡ false → x ≡ number (truth-test S Z l) → x ≡ number (truth-literal S Z l)
+  pub literal-plain : (l : Literal) → l .negated ≡ false → truth-test S Z l ≡ truth-literal S Z l
   unfolding truth-literal
-  literal-plain l x e q = go (l .negated) (truth-test S Z l) e q
-    where
-      go : (n : Bool) (t : Truth₃) → n ≡ false → x ≡ number t → x ≡ number (cond n (NOT₃ t) t)
-      go n t e q = rw e q
+  literal-plain l e = rw e
 
   -- The number of a trigger is that of a plain `*=`.
   pub trigger-literal : (x : ℕ) → x / pair-places ≡ 1 → truth-literal S Z (literal-of (literal-in x)) ≡ truth-turns S Z (pair-in x)

@@ -1,4 +1,4 @@
-// True, False and Unknown by number: the tests of a card and its marks looked up, and what literals and rules come to.
+// What tests, literals and rules come to, True, False or Unknown: the tests of a card and its marks looked up by number, NOT and AND by their cases.
 ghost use mathlib.Core.Path.{_≡_};
 ghost use mathlib.Core.List.{List};
 ghost use Prim.Native.Nat.{ℕ, _<_};
@@ -6,7 +6,6 @@ ghost use lib.ListN.{getD};
 ghost use Rattle.laws.specs.Limits.{slot-limit, row};
 ghost use Rattle.table.specs.Link.{literal-of, rule-of};
 ghost use Rattle.rows.specs.inner.Rows.{tests, literal-in, rule-in, RowFits};
-ghost use Rattle.marks.specs.inner.Number as truths;
 ghost use Rattle.marks.specs.Marks.{truth-literal, truth-rule};
 ghost use Rattle.judging.specs.inner.Known.{Known, known, marks-of, Truths, Three};
 use rows::NUMBERS;
@@ -16,13 +15,13 @@ use table::PAIRS;
 use table::ROW;
 use table::SLOTS;
 use testing::truth::WITHOUT_NOT;
-
-// The three by number.
-pub const FALSE: u8 = 0;
-
-pub const UNKNOWN: u8 = 1;
-
-pub const TRUE: u8 = 2;
+use truths::FALSE;
+use truths::TRUE;
+use truths::Truth3;
+use truths::UNKNOWN;
+use truths::and;
+use truths::not;
+use truths::numbered;
 
 // What each test without NOT comes to at a card and its marks: `|=` for each pair, then `*=` for each.
 pub fn truth_of(
@@ -58,39 +57,36 @@ pub fn truth_of(
 }
 
 // What a literal comes to, by the number of its test.
-pub fn literal_truth(number: u16, truth: &[u8; WITHOUT_NOT]) -> u8
+pub fn literal_truth(number: u16, truth: &[u8; WITHOUT_NOT]) -> Truth3
     requires { ⌜ (number < tests) × Three (now truth) ⌝ }
-    ensures { λ r. ⌜ ((S : List ℕ) (k : Known) → Truths S k → now (truth .entry) ≡ k .truth → r ≡ truths.number (truth-literal S (marks-of k) (literal-of (literal-in number)))) ⌝ }
+    ensures { λ r. ⌜ ((S : List ℕ) (k : Known) → Truths S k → now (truth .entry) ≡ k .truth → r ≡ truth-literal S (marks-of k) (literal-of (literal-in number))) ⌝ }
 {
     let at = wide(number % UNDER_NOT);
-    let test = truth[at];
+    let test = numbered(truth[at]);
     if number / UNDER_NOT == 1 {
-        TRUE - test
+        not(test)
     } else {
         test
     }
 }
 
-// What a rule comes to: the least of its trigger and its literals; nothing is below False.
-pub fn rule_truth(row: &[u16; NUMBERS], truth: &[u8; WITHOUT_NOT]) -> u8
+// What a rule comes to: its trigger and its literals joined by AND, as far as the first False, which decides.
+pub fn rule_truth(row: &[u16; NUMBERS], truth: &[u8; WITHOUT_NOT]) -> Truth3
     requires { ⌜ RowFits (now row) × Three (now truth) ⌝ }
-    ensures { λ r. ⌜ ((S : List ℕ) (k : Known) → Truths S k → now (truth .entry) ≡ k .truth → r ≡ truths.number (truth-rule S (marks-of k) (rule-of (rule-in (now (row .entry)))))) ⌝ }
+    ensures { λ r. ⌜ ((S : List ℕ) (k : Known) → Truths S k → now (truth .entry) ≡ k .truth → r ≡ truth-rule S (marks-of k) (rule-of (rule-in (now (row .entry))))) ⌝ }
 {
     let trigger = rows::trigger(row);
-    let mut least = literal_truth(trigger, truth);
+    let mut joined = literal_truth(trigger, truth);
     let m = rows::tested(row);
     let mut j: usize = 0;
     'literals: while j < m {
-        if least == FALSE {
-            return FALSE;
+        if let Truth3::False = joined {
+            return Truth3::False;
         }
         let number = rows::literal(row, j);
         let x = literal_truth(number, truth);
+        joined = and(joined, x);
         j += 1;
-        if least <= x {
-            continue 'literals;
-        }
-        least = x;
     }
-    least
+    joined
 }

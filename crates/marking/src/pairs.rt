@@ -16,14 +16,14 @@ ghost use Rattle.marking.specs.inner.Waking.{Chained};
 ghost use Rattle.marking.specs.inner.Marked.{ruled-out, marked, assigned, clashes, unassigned-out, FirstNegative, AllMarked, NotMarked};
 use crate::waking::TESTS;
 use crate::waking::wake;
-use judging::truth::FALSE;
-use judging::truth::TRUE;
 use rows::NUMBERS;
 use table::PAIRS;
 use table::ROW;
 use table::RULES;
 use table::SLOTS;
 use testing::truth::WITHOUT_NOT;
+use truths::FALSE;
+use truths::TRUE;
 
 // A pair is ruled out: it becomes negative, its test False, and the rules that test it are woken; how many are woken then.
 fn rule_out(

@@ -11,7 +11,7 @@ use Rattle.model.specs.Strata.{strict, weak}
 use Rattle.model.specs.Circles.{circle-of}
 use Rattle.model.specs.Result.{pair, conflict-slot}
 use Rattle.model.proofs.CaseRules.{computes, x, y, z, v0, v1, had, not-turns, rule, rule-a, rule-c, rule-d, rule-e, rule-h, all-0, no-values}
-use Rattle.marks.specs.Truths.{NOT₃, _AND₃_, is-true, is-false}
+use Rattle.truths.specs.Truths.{NOT₃, _AND₃_, is-true, is-false}
 use Rattle.marks.specs.Marks.{slot-pairs, declared-from, declared-pairs, is-unknown, is-both, rivals, no-marks, update, rule-out, truth-had, truth-turns, truth-test, truth-literal, truth-condition, truth-rule}
 use Rattle.marks.specs.Selection.{fires, drops, fired, order-fired, marks-after, no-clash, all-known, never, applies, selects, ends, whole-selection, selection-refusal, try, try-pairs, try-rules, sweeps, selection}
 

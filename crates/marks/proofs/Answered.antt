@@ -19,11 +19,11 @@ use Rattle.model.specs.Result.{pair}
 use Rattle.model.specs.Paper.{SlotConsistent, firing-of}
 use Rattle.model.proofs.Changes.{names-reverse, changes-same, from-slip, from-rule, cause}
 use Rattle.model.proofs.Orders.{Ready, fire-none, fire-last, Complete, Consistent, complete-same, consistent-same, all-fired, WholeOrder, whole-e, whole-i, rules-of}
-use Rattle.marks.specs.Truths.{is-true}
+use Rattle.truths.specs.Truths.{is-true}
 use Rattle.marks.specs.Marks.{truth-rule}
 use Rattle.marks.specs.Selection.{Move, fires, drops, fired, order-fired, marks-after, no-clash, all-known, selects, whole-selection, selection-refusal}
 use Rattle.marks.specs.inner.Declared.{Declared}
-use Rattle.marks.proofs.Truths.{Stays}
+use Rattle.truths.proofs.Laws.{Stays}
 use Rattle.marks.proofs.Known.{Kept, rule-stays, exact, exact-true, enabled-true, exact-false}
 use Rattle.marks.proofs.Updates.{rivals-e}
 use Rattle.marks.proofs.Selections.{positive-changes, rivalled, no-clash-i, all-known-e, fires-e, Ends, ends-e, last-move, before-last, not-both-ever, fired-True}

@@ -13,11 +13,11 @@ use Rattle.model.specs.Rules.{Pair, Rule, among}
 use Rattle.model.specs.Orders.{rule-at, names}
 use Rattle.model.proofs.Pairs.{same-eq}
 use Rattle.model.proofs.Changes.{names-e, names-none}
-use Rattle.marks.specs.Truths.{is-true, is-false}
+use Rattle.truths.specs.Truths.{is-true, is-false}
 use Rattle.marks.specs.Marks.{Marks, rivals, no-marks, update, rule-out, truth-rule}
 use Rattle.marks.specs.Selection.{Move, fires, drops, fired, marks-after, no-clash, selects}
 use Rattle.marks.specs.inner.Declared.{Declared}
-use Rattle.marks.proofs.Truths.{Stays, true-not-false}
+use Rattle.truths.proofs.Laws.{Stays, true-not-false}
 use Rattle.marks.proofs.Known.{rule-stays}
 use Rattle.marks.proofs.Selections.{slip-positive, slip-rival, fired-positive, fired-rival, fires-e, drops-e, Ends, last-move, before-last, positive-cause, not-both-ever, fired-rule, fired-True}
 

@@ -11,9 +11,11 @@ use Rattle.laws.proofs.Truth.{and-l, and-r, and-i, or-l, or-r, or-e, not-e}
 use Rattle.model.specs.Rules.{Pair, Pairs, Literal, Rule, among, was, became, test, holds, all-hold, enabled}
 use Rattle.model.specs.Strata.{is-becomes, pairs-where, tested}
 use Rattle.model.proofs.Pairs.{same-refl, where-here, where-later}
-use Rattle.marks.specs.Truths.{Truth₃, True, False, Unknown, NOT₃, _AND₃_, is-true, is-false}
+use Rattle.truths.specs.declared.Truth3.{Truth3}
+use Rattle.truths.specs.declared.Truth3.the-variants.{True, False, Unknown}
+use Rattle.truths.specs.Truths.{NOT₃, _AND₃_, is-true, is-false}
 use Rattle.marks.specs.Marks.{Marks, truth-had, truth-turns, truth-test, truth-literal, truth-condition, truth-rule}
-use Rattle.marks.proofs.Truths.{Stays, stays-same, not-stays, and-stays}
+use Rattle.truths.proofs.Laws.{Stays, stays-same, not-stays, and-stays}
 
 -- A pair keeps its mark from Z to Z′, and does not clash there.
 pub record Kept (Z Z′ : Marks) (p : Pair) : Type 0 where
@@ -46,8 +48,8 @@ cases-stay a b a′ b′ f g h = record { stays-true = λ t. true-i a′ b′ (f
     false-i false false n t = t
 
 -- A relation of truth values that each has to itself and that NOT and AND keep.
-module _ (R : Truth₃ → Truth₃ → Type 0) (itself : (p : Truth₃) → R p p) (nots : (p q : Truth₃) → R p q → R (NOT₃ p) (NOT₃ q))
-    (ands : (p p′ q q′ : Truth₃) → R p p′ → R q q′ → R (p AND₃ q) (p′ AND₃ q′)) (S : List ℕ) (Y Z : Marks) where
+module _ (R : Truth3 → Truth3 → Type 0) (itself : (p : Truth3) → R p p) (nots : (p q : Truth3) → R p q → R (NOT₃ p) (NOT₃ q))
+    (ands : (p p′ q q′ : Truth3) → R p p′ → R q q′ → R (p AND₃ q) (p′ AND₃ q′)) (S : List ℕ) (Y Z : Marks) where
   literal-related : (l : Literal) → (T (is-becomes l) → R (truth-turns S Y (l .pair)) (truth-turns S Z (l .pair))) → R (truth-literal S Y l) (truth-literal S Z l)
   unfolding truth-literal truth-test truth-had is-becomes
   literal-related l = go (l .becomes) (l .negated) (l .pair)
@@ -86,7 +88,7 @@ module _ (S : List ℕ) (Z Z′ : Marks) where
   rule-stays r k = rule-related Stays stays-same not-stays and-stays S Z Z′ r (λ p t. turns-stays p (k p t))
 
 -- A test as a truth value.
-unfoldable pub of-test : Bool → Truth₃
+unfoldable pub of-test : Bool → Truth3
 of-test true = True
 of-test false = False
 

@@ -1,5 +1,4 @@
 pub mod AfterMoves
-pub mod Truths
 pub mod Known
 pub mod Updates
 pub mod Pairs
@@ -12,3 +11,4 @@ pub mod Correct
 pub mod CorrectExample
 pub mod Strict
 pub mod Loop
+pub mod AnyOrder

@@ -17,11 +17,11 @@ use Rattle.laws.proofs.Numbers.{is-false}
 use Rattle.model.specs.Rules.{Pair, Rule, among}
 use Rattle.model.specs.Orders.{rule-at, names}
 use Rattle.model.proofs.Changes.{names-reverse}
-use Rattle.marks.specs.Truths as truths
+use Rattle.truths.specs.Truths as truths
 use Rattle.marks.specs.Marks.{Marks, is-unknown, is-both, no-marks, update, rule-out, truth-rule}
 use Rattle.marks.specs.Selection.{Move, fires, drops, fired, order-fired, marks-after, no-clash, all-known, selects, whole-selection, selection-refusal, selection, EndAlike}
 use Rattle.marks.specs.inner.Declared.{Declared}
-use Rattle.marks.proofs.Truths.{Stays}
+use Rattle.truths.proofs.Laws.{Stays}
 use Rattle.marks.proofs.Known.{rule-stays}
 use Rattle.marks.proofs.Updates.{SameAt, same-at-trans, update-same, rule-out-same, rule-same}
 use Rattle.marks.proofs.Selections.{all-pairs-e, all-pairs-i, fired-positive, rivalled, no-clash-e, fires-i, drops-i, Ends, ends-i}

@@ -16,11 +16,11 @@ use Rattle.model.specs.Rules.{Pair, Rule, among}
 use Rattle.model.specs.Orders.{rule-at, names, changes}
 use Rattle.model.proofs.Pairs.{same-refl, same-eq}
 use Rattle.model.proofs.Changes.{names-e, names-none, Cause, from-slip, from-rule, cause}
-use Rattle.marks.specs.Truths.{is-true, is-false}
+use Rattle.truths.specs.Truths.{is-true, is-false}
 use Rattle.marks.specs.Marks.{is-unknown, is-both, rivals, no-marks, update, rule-out, truth-rule}
 use Rattle.marks.specs.Selection.{Move, fires, drops, fired, marks-after, no-clash, all-known, never, applies, selects, ends}
 use Rattle.marks.specs.inner.Declared.{Declared}
-use Rattle.marks.proofs.Truths.{Stays}
+use Rattle.truths.proofs.Laws.{Stays}
 use Rattle.marks.proofs.Known.{rule-stays}
 use Rattle.marks.proofs.Updates.{rivals-i}
 

@@ -22,8 +22,9 @@ use Rattle.model.proofs.Orders.{whole-e}
 use Rattle.model.proofs.Gradings.{depends-i}
 use Rattle.model.proofs.Strata.{least-strata}
 use Rattle.model.proofs.Demand3.{response-is-whole}
-use Rattle.marks.specs.Truths.{Truth₃, is-false}
-use Rattle.marks.specs.Truths as truths
+use Rattle.truths.specs.declared.Truth3.{Truth3}
+use Rattle.truths.specs.Truths.{is-false}
+use Rattle.truths.specs.Truths as truths
 use Rattle.marks.specs.Marks.{is-unknown, truth-rule}
 use Rattle.marks.specs.Selection.{Move, fired, marks-after, no-clash, all-known, selects, whole-selection, selection-refusal}
 use Rattle.marks.specs.inner.Declared.{Declared}
@@ -33,7 +34,7 @@ use Rattle.marks.proofs.Answered.{known-rule, order-no-clash}
 use Rattle.marks.proofs.Correct.{strata-equal}
 
 -- A truth value is True or False.
-Decided : Truth₃ → Type 0
+Decided : Truth3 → Type 0
 Decided t = T (truths.is-true t) ⊎ T (is-false t)
 
 test-decided : (b : Bool) → Decided (of-test b)

@@ -13,7 +13,7 @@ use Rattle.laws.proofs.Equations.{from-true, or-swap}
 use Rattle.model.specs.Rules.{Pair, Rule, same, among}
 use Rattle.model.specs.Strata.{tested}
 use Rattle.model.proofs.Pairs.{same-refl, same-eq, append-l, append-r, append-e}
-use Rattle.marks.specs.Truths.{NOT₃, _AND₃_}
+use Rattle.truths.specs.Truths.{NOT₃, _AND₃_}
 use Rattle.marks.specs.Marks.{Marks, rivals, update, rule-out, truth-turns, truth-rule}
 use Rattle.marks.proofs.Known.{rule-related}
 

@@ -1,4 +1,4 @@
-pub mod Truths
 pub mod Marks
 pub mod Selection
+pub mod AnyOrder
 pub mod inner

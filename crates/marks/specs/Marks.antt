@@ -6,7 +6,9 @@ use lib.Dec.{eqb}
 use Rattle.laws.specs.Truth.{_∧ᵇ_, _∨ᵇ_, notᵇ}
 use Rattle.model.specs.Rules.{Pair, Pairs, Literal, Rule, same, among, was}
 use Rattle.model.specs.Result.{pair}
-use Rattle.marks.specs.Truths.{Truth₃, True, False, Unknown, NOT₃, _AND₃_}
+use Rattle.truths.specs.declared.Truth3.{Truth3}
+use Rattle.truths.specs.declared.Truth3.the-variants.{True, False, Unknown}
+use Rattle.truths.specs.Truths.{NOT₃, _AND₃_}
 
 -- The pairs of a slot with the values 1 to k.
 unfoldable pub slot-pairs : ℕ → ℕ → List Pair
@@ -38,28 +40,28 @@ is-both Z p = Z .positive p ∧ᵇ Z .negative p
 -- The evaluation at (S, Z).
 module _ (S : List ℕ) (Z : Marks) where
   -- [x |= v] is True if S has v in x; False if S has not v in x.
-  unfoldable pub truth-had : Pair → Truth₃
+  unfoldable pub truth-had : Pair → Truth3
   truth-had p = cond (was S p) True False
 
   -- [x *= v] is True if (x, v) is positive and S has not v in x; False if (x, v) is negative or S has v in x; Unknown otherwise.
-  unfoldable pub truth-turns : Pair → Truth₃
+  unfoldable pub truth-turns : Pair → Truth3
   truth-turns p = cond (Z .positive p ∧ᵇ notᵇ (was S p)) True (cond (Z .negative p ∨ᵇ was S p) False Unknown)
 
   -- The test of a literal, without its NOT.
-  unfoldable pub truth-test : Literal → Truth₃
+  unfoldable pub truth-test : Literal → Truth3
   truth-test l = cond (l .becomes) (truth-turns (l .pair)) (truth-had (l .pair))
 
   -- A literal.
-  unfoldable pub truth-literal : Literal → Truth₃
+  unfoldable pub truth-literal : Literal → Truth3
   truth-literal l = cond (l .negated) (NOT₃ (truth-test l)) (truth-test l)
 
   -- A condition: its literals joined by AND. TRUE is the condition with none.
-  unfoldable pub truth-condition : List Literal → Truth₃
+  unfoldable pub truth-condition : List Literal → Truth3
   truth-condition [] = True
   truth-condition (l ∷ ls) = truth-literal l AND₃ truth-condition ls
 
   -- A rule: its trigger and its condition. It is 3-enabled where this is True, and 3-non-enabled where it is False.
-  unfoldable pub truth-rule : Rule → Truth₃
+  unfoldable pub truth-rule : Rule → Truth3
   truth-rule r = truth-turns (r .trigger) AND₃ truth-condition (r .literals)
 
 -- Every pair is unknown.

@@ -12,7 +12,7 @@ use Rattle.laws.specs.Numbers.{some-of}
 use Rattle.laws.specs.Listed.{all-of}
 use Rattle.model.specs.Rules.{Pair, Rule, among}
 use Rattle.model.specs.Orders.{rule-at, names}
-use Rattle.marks.specs.Truths.{is-true, is-false}
+use Rattle.truths.specs.Truths.{is-true, is-false}
 use Rattle.marks.specs.Marks.{Marks, is-unknown, is-both, no-marks, update, rule-out, truth-rule}
 
 -- One move: a rule is fired, or a pair is ruled out.

@@ -1,2 +1,1 @@
 pub mod Declared
-pub mod Number

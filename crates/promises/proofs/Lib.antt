@@ -37,3 +37,4 @@ pub mod ByMarksRead
 pub mod ByMarksMoved
 pub mod ByMarksTables
 pub mod ByMarks
+pub mod TruthValues

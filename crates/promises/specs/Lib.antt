@@ -12,4 +12,5 @@ pub mod HouseStyle
 pub mod CalledPrint
 pub mod Selections
 pub mod ByMarks
+pub mod TruthValues
 pub mod Program

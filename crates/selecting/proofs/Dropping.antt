@@ -13,7 +13,7 @@ use Rattle.laws.proofs.Truth.{bool-ext, and-l, and-r, and-i, or-l, or-r, or-e, 
 use Rattle.model.specs.Rules.{Pair, Pairs, Rule, same, among}
 use Rattle.model.specs.Orders.{rule-at}
 use Rattle.model.proofs.Pairs.{same-refl, same-eq}
-use Rattle.marks.specs.Truths.{is-false}
+use Rattle.truths.specs.Truths.{is-false}
 use Rattle.marks.specs.Marks.{Marks, rule-out, truth-rule}
 use Rattle.marks.specs.inner.Declared.{Declared}
 use Rattle.marks.proofs.Updates.{SameAt, same-at-trans}

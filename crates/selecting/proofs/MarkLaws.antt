@@ -21,8 +21,8 @@ use Rattle.model.specs.Result.{pair}
 use Rattle.model.proofs.Pairs.{same-refl, same-eq}
 use Rattle.table.specs.inner.Flat.{Placed, pair-places, place-of, pair-at, set-of}
 use Rattle.table.proofs.Flat.{placed-inside, set-in, set-more, at-place}
-use Rattle.marks.specs.Truths.{True, False, Unknown}
-use Rattle.marks.specs.inner.Number.{number}
+use Rattle.truths.specs.declared.Truth3.the-variants.{True, False, Unknown}
+use Rattle.truths.specs.Truths.{number}
 use Rattle.marks.specs.Marks.{Marks, update, rivals, truth-had, truth-turns}
 use Rattle.marks.proofs.Updates.{SameAt, rivals-i, rivals-e}
 use Rattle.judging.specs.inner.Known.{Known, known, marks-of, Truths}

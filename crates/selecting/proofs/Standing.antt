@@ -26,12 +26,13 @@ use Rattle.model.specs.Result.{pair, value-in, is-changed}
 use Rattle.model.proofs.Results.{value-in-right, is-changed-i}
 use Rattle.table.specs.inner.Flat.{Placed, pair-places, place-of, set-of}
 use Rattle.table.proofs.Flat.{placed-inside, set-in}
-use Rattle.marks.specs.Truths.{Truth₃, True, False, Unknown, is-true}
-use Rattle.marks.specs.Truths as three
-use Rattle.marks.specs.inner.Number.{number}
+use Rattle.truths.specs.declared.Truth3.{Truth3}
+use Rattle.truths.specs.declared.Truth3.the-variants.{True, False, Unknown}
+use Rattle.truths.specs.Truths.{is-true}
+use Rattle.truths.specs.Truths as three
 use Rattle.marks.specs.Marks.{Marks, declared-pairs, is-unknown, rivals, no-marks, update, truth-rule}
 use Rattle.marks.specs.Selection.{order-fired, marks-after, selection-refusal, selection}
-use Rattle.marks.proofs.Truths.{true-not-false}
+use Rattle.truths.proofs.Laws.{true-not-false}
 use Rattle.marks.proofs.Updates.{SameAt, same-at-refl, rivals-i, rivals-e}
 use Rattle.marks.proofs.Selections.{all-pairs-i, all-pairs-e}
 use Rattle.marks.proofs.Correct.{selection-positive-declared}
@@ -65,25 +66,18 @@ pub record Standing (rows : List (List ℕ)) (n : ℕ) (ks : List ℕ) (S : List
   pub dead-False : (i : ℕ) → i < n → T (getD dead i false) → T (three.is-false (truth-rule S (marks-of k) (rule-at (rules-in rows n) (suc i))))
   pub supported : (p : Pair) → T (among p (declared-pairs ks)) → (¬ T (set-of (k .positive) p)) → (¬ T (set-of (k .negative) p)) → 0 < getD live (place-of p) 0
 
--- 2 is True and 0 is False.
-number-True : (x : Truth₃) → number x ≡ 2 → T (is-true x)
-unfolding number is-true
-number-True True e = tt
-number-True False e = absurd (omega arith)
-number-True Unknown e = absurd (omega arith)
+-- The tests of a rule that comes to True, to False, and to Unknown.
+comes-true : (x : Truth3) → x ≡ True → T (is-true x)
+unfolding is-true
+comes-true x e = rw e tt
 
-number-False : (x : Truth₃) → number x ≡ 0 → T (three.is-false x)
-unfolding number three.is-false
-number-False True e = absurd (omega arith)
-number-False False e = tt
-number-False Unknown e = absurd (omega arith)
+comes-false : (x : Truth3) → x ≡ False → T (three.is-false x)
+unfolding three.is-false
+comes-false x e = rw e tt
 
--- 1 is neither.
-number-Unknown : (x : Truth₃) → number x ≡ 1 → (¬ T (is-true x)) × (¬ T (three.is-false x))
-unfolding number is-true three.is-false
-number-Unknown True e = absurd (omega arith)
-number-Unknown False e = absurd (omega arith)
-number-Unknown Unknown e = (λ t. t, λ t. t)
+comes-unknown : (x : Truth3) → x ≡ Unknown → (¬ T (is-true x)) × (¬ T (three.is-false x))
+unfolding is-true three.is-false
+comes-unknown x e = rw e (λ t. t, λ t. t)
 
 -- One rule more has fired.
 fired-more : (fired : List Bool) (i : ℕ) → i < length fired → (m : ℕ) → fired-at (set fired i true) m ≡ (eqb m (suc i) ∨ᵇ fired-at fired m)
@@ -110,7 +104,7 @@ module _ (rows : List (List ℕ)) (n : ℕ) (ks : List ℕ) (width : ℕ) (count
 
   -- A rule that is True is fired, and nothing that it assigns is negative.
   pub fire : (k : Known) (live : List ℕ) (dead fired : List Bool) (i : ℕ) → Standing rows n ks S I k live dead fired → i < n → getD fired i false ≡ false
-      → number (truth-rule S (marks-of k) (rule-at (rules-in rows n) (suc i))) ≡ 2 → clashes counts (assigned-at rows i) k ≡ false → length fired ≡ rule-limit
+      → truth-rule S (marks-of k) (rule-at (rules-in rows n) (suc i)) ≡ True → clashes counts (assigned-at rows i) k ≡ false → length fired ≡ rule-limit
       → Standing rows n ks S I (assigned counts (assigned-at rows i) k) live dead (set fired i true)
   unfolding update
   fire k live dead fired i X h u t c l =
@@ -124,7 +118,7 @@ module _ (rows : List (List ℕ)) (n : ℕ) (ks : List ℕ) (width : ℕ) (count
         positive-size = A .0 .whole .positive-size;
         negative-size = A .0 .whole .negative-size;
         selecting = fire-one ps rs S I (G .all-declared) (marks-of k) (fired-at fired) (X .selecting) (marks-of k′) (fired-at (set fired i true)) (suc i) (X .clear)
-            (row-number rows n ks width counts I G i h) (λ x. subst T u x) (number-True _ t) (λ p o. rw (rule-at-row rows n i h) (A .1 p o))
+            (row-number rows n ks width counts I G i h) (λ x. subst T u x) (comes-true _ t) (λ p o. rw (rule-at-row rows n i h) (A .1 p o))
             (λ m j. fired-more fired i (omega (arith, h, l, G .rows-fit .few)) m);
         clear = A .0 .clear;
         truths = A .0 .whole .truths;
@@ -137,7 +131,7 @@ module _ (rows : List (List ℕ)) (n : ℕ) (ks : List ℕ) (width : ℕ) (count
 
   -- A rule that is True is fired, and something that it assigns is negative: the selection ends in 41.
   pub clash : (k : Known) (live : List ℕ) (dead fired : List Bool) (i : ℕ) → Standing rows n ks S I k live dead fired → i < n → getD fired i false ≡ false
-      → number (truth-rule S (marks-of k) (rule-at (rules-in rows n) (suc i))) ≡ 2 → clashes counts (assigned-at rows i) k ≡ true
+      → truth-rule S (marks-of k) (rule-at (rules-in rows n) (suc i)) ≡ True → clashes counts (assigned-at rows i) k ≡ true
       → selection-refusal (declared-pairs ks) (rules-in rows n) S I (selection (declared-pairs ks) (rules-in rows n) S I) ≡ 41
   clash k live dead fired i X h u t c =
       let ps = declared-pairs ks in
@@ -146,7 +140,7 @@ module _ (rows : List (List ℕ)) (n : ℕ) (ks : List ℕ) (width : ℕ) (count
       let F : ℕ → Bool = λ m. eqb m (suc i) ∨ᵇ fired-at fired m in
       let w = clash-both rows n ks width counts I G S (assigned-at rows i) k (tidy-of k live dead fired X) (λ q a. assigns-declared rows n ks width counts I G i q h a) c in
       let Y : Selecting ps rs S I Z F = fire-one ps rs S I (G .all-declared) (marks-of k) (fired-at fired) (X .selecting) Z F (suc i) (X .clear) (row-number rows n ks width counts I G i h)
-      (λ x. subst T u x) (number-True _ t) (λ p o. rw (rule-at-row rows n i h) (same-at-refl Z p)) (λ m j. refl) in
+      (λ x. subst T u x) (comes-true _ t) (λ p o. rw (rule-at-row rows n i h) (same-at-refl Z p)) (λ m j. refl) in
       loop-clash ps rs S I (G .all-declared) Z F Y (w .0) (w .1) (w .2) (w .3)
 
   -- Of the pairs that are not positive those without an assignment left are ruled out.
@@ -255,7 +249,7 @@ module _ (rows : List (List ℕ)) (n : ℕ) (ks : List ℕ) (width : ℕ) (count
 
   -- A rule is False: its assignments are left no more, and the pairs that have none left are ruled out.
   pub kill : (k : Known) (live live′ : List ℕ) (dead fired : List Bool) (i : ℕ) → Standing rows n ks S I k live dead fired → i < n → getD dead i false ≡ false
-      → number (truth-rule S (marks-of k) (rule-at (rules-in rows n) (suc i))) ≡ 0 → ((q : ℕ) → q < pair-places → getD live′ q 0 + times q (assigned-at rows i) ≡ getD live q 0)
+      → truth-rule S (marks-of k) (rule-at (rules-in rows n) (suc i)) ≡ False → ((q : ℕ) → q < pair-places → getD live′ q 0 + times q (assigned-at rows i) ≡ getD live q 0)
       → length dead ≡ rule-limit → Standing rows n ks S I (unassigned-out live′ (assigned-at rows i) k) live′ (set dead i true) fired
   unfolding without unassigned
   kill k live live′ dead fired i X h u t r l =
@@ -263,7 +257,7 @@ module _ (rows : List (List ℕ)) (n : ℕ) (ks : List ℕ) (width : ℕ) (count
       let O = unassigned-outs S live′ (assigned-at rows i) k (λ q a. placed q (assigns-declared rows n ks width counts I G i q h a)) (tidy-of k live dead fired X .whole) in
       settled (unassigned-out live′ (assigned-at rows i) k) live′ (set dead i true) fired (marks-of k) (X .selecting) (X .clear)
       (live-released rows dead n i live live′ (X .counted) h (omega (arith, h, l, G .rows-fit .few)) u r)
-      (λ j b x. ⊎-elim (λ (z : j ≡ i). rw z (number-False _ t)) (λ y. X .dead-False j b y) (flag-from dead i j x))
+      (λ j b x. ⊎-elim (λ (z : j ≡ i). rw z (comes-false _ t)) (λ y. X .dead-False j b y) (flag-from dead i j x))
       (O .whole .positive-size) (O .whole .negative-size) (O .whole .truths) (λ p x. X .inside p (rw (O .positive-same) at x))
       (λ p o. record {
         same-positive = ap (λ (bs : List Bool). set-of bs p) (O .positive-same);
@@ -284,7 +278,7 @@ module _ (rows : List (List ℕ)) (n : ℕ) (ks : List ℕ) (width : ℕ) (count
 
   -- The end: every rule that has neither fired nor been found False is Unknown.
   pub end : (k : Known) (live : List ℕ) (dead fired : List Bool) → Standing rows n ks S I k live dead fired
-      → ((i : ℕ) → i < n → getD fired i false ≡ false → getD dead i false ≡ false → number (truth-rule S (marks-of k) (rule-at (rules-in rows n) (suc i))) ≡ 1)
+      → ((i : ℕ) → i < n → getD fired i false ≡ false → getD dead i false ≡ false → truth-rule S (marks-of k) (rule-at (rules-in rows n) (suc i)) ≡ Unknown)
       → (AllMarked width counts (k .positive) (k .negative) → Selected (declared-pairs ks) (rules-in rows n) S I 0 (k .positive) fired)
       × (NotMarked width counts (k .positive) (k .negative) → Selected (declared-pairs ks) (rules-in rows n) S I 42 (k .positive) fired)
   unfolding AllMarked is-unknown Live
@@ -311,7 +305,7 @@ module _ (rows : List (List ℕ)) (n : ℕ) (ks : List ℕ) (width : ℕ) (count
       none-True m j t =
           let w = number-row rows n ks width counts I G m j in
           let u = rw (w .2) at t in
-          rw (w .2) (stable (getD fired (w .0) false) (λ x. number-Unknown _
+          rw (w .2) (stable (getD fired (w .0) false) (λ x. comes-unknown _
           (quiet (w .0) (w .1) (is-false _ x) (is-false _ (λ y. true-not-false _ u (X .dead-False (w .0) (w .1) y)))) .0 u))
 
       none-out : (q : Pair) → T (among q ps) → (¬ T (set-of (k .positive) q)) → (¬ T (set-of (k .negative) q))
@@ -323,7 +317,7 @@ module _ (rows : List (List ℕ)) (n : ℕ) (ks : List ℕ) (width : ℕ) (count
           let g : T (among q (rule-at rs (suc i) .assignments)) = rw (rule-at-row rows n i (w .1))
           (among-times q (assigned-at rows i) (h .in-row) (λ p c. declared-placed rows n ks width counts I G p (assigns-declared rows n ks width counts I G i p (w .1) c) .in-row) (w .3)) in
           let j = row-number rows n ks width counts I G i (w .1) in
-          number-Unknown _ (quiet i (w .1) (is-false _ (λ f. a (fired-marks ps rs S I (marks-of k) (fired-at fired) (X .selecting) (suc i) q j f g l))) (w .2)) .1 (all (suc i) j g)
+          comes-unknown _ (quiet i (w .1) (is-false _ (λ f. a (fired-marks ps rs S I (marks-of k) (fired-at fired) (X .selecting) (suc i) q j f g l))) (w .2)) .1 (all (suc i) j g)
 
       is-known : Pair → Bool
       is-known p = notᵇ (is-unknown (marks-of k) p)

@@ -14,7 +14,7 @@ use Rattle.table.specs.Link.{rule-of}
 use Rattle.table.specs.inner.Flat.{pair-places, place-of}
 use Rattle.rows.specs.inner.Rows.{rule-in}
 use Rattle.testing.proofs.Lists.{set-low}
-use Rattle.marks.specs.inner.Number.{number}
+use Rattle.truths.specs.declared.Truth3.the-variants.{Unknown}
 use Rattle.marks.specs.Marks.{truth-rule}
 use Rattle.judging.specs.inner.Known.{Known, marks-of, Truths, Three}
 use Rattle.marking.specs.inner.Marked.{ruled-out, made-positive, rival-out, rivals-out, marked, assigned-one, assigned, unassigned-one, unassigned-out}
@@ -31,7 +31,7 @@ pub record Held (rows : List (List ℕ)) (n : ℕ) (heads nexts live truth : Lis
 -- Of the first j rules those that are not done are Unknown.
 unfoldable pub Seen : List (List ℕ) → Known → List Bool → List Bool → ℕ → Type 0
 Seen rows k fired dead j =
-    (i : ℕ) → i < j → getD fired i false ≡ false → getD dead i false ≡ false → (S : List ℕ) → Truths S k → number (truth-rule S (marks-of k) (rule-of (rule-in (getD rows i [])))) ≡ 1
+    (i : ℕ) → i < j → getD fired i false ≡ false → getD dead i false ≡ false → (S : List ℕ) → Truths S k → truth-rule S (marks-of k) (rule-of (rule-in (getD rows i []))) ≡ Unknown
 
 three-set : (xs : List ℕ) (i x : ℕ) → x ≤ 2 → Three xs → Three (set xs i x)
 unfolding Three

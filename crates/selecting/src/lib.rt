@@ -15,8 +15,6 @@ ghost use Rattle.marks.specs.inner.Declared.{Declared};
 ghost use Rattle.selecting.specs.inner.Selected.{Counts, CardIs, SlipIs, OneValue, Selected};
 use judging::counting::count_assigned;
 use judging::counting::release;
-use judging::truth::FALSE;
-use judging::truth::UNKNOWN;
 use judging::truth::rule_truth;
 use judging::truth::truth_of;
 use marking::pairs::all_known;
@@ -30,6 +28,7 @@ use rows::NUMBERS;
 use table::PAIRS;
 use table::RULES;
 use table::SLOTS;
+use truths::Truth3;
 
 // Selects until nothing more applies: an unfired rule that is True is fired, a pair that only False rules assign is ruled out.
 // 0 with the positive pairs and the fired rules, 41 where a pair would be both positive and negative, else 42 where a pair stays unknown.
@@ -81,46 +80,52 @@ pub fn select(
             }
             queued[i] = false;
             let x = rule_truth(&rows[i], &truth);
-            if x == UNKNOWN {
-                continue 'rules;
+            match x {
+                Truth3::True => {
+                    moved = true;
+                    fired[i] = true;
+                    let marked = assign(
+                        &rows[i],
+                        n,
+                        counts,
+                        positive,
+                        &mut negative,
+                        &mut truth,
+                        &heads,
+                        &nexts,
+                        &mut queued,
+                        &mut woken,
+                        left,
+                    );
+                    if marked.clash {
+                        return 41;
+                    }
+                    left = marked.left;
+                    continue 'rules;
+                }
+                Truth3::False => {
+                    moved = true;
+                    dead[i] = true;
+                    release(&rows[i], &mut live);
+                    left = rule_out_unassigned(
+                        &rows[i],
+                        n,
+                        &live,
+                        positive,
+                        &mut negative,
+                        &mut truth,
+                        &heads,
+                        &nexts,
+                        &mut queued,
+                        &mut woken,
+                        left,
+                    );
+                    continue 'rules;
+                }
+                Truth3::Unknown => {
+                    continue 'rules;
+                }
             }
-            moved = true;
-            if x == FALSE {
-                dead[i] = true;
-                release(&rows[i], &mut live);
-                left = rule_out_unassigned(
-                    &rows[i],
-                    n,
-                    &live,
-                    positive,
-                    &mut negative,
-                    &mut truth,
-                    &heads,
-                    &nexts,
-                    &mut queued,
-                    &mut woken,
-                    left,
-                );
-                continue 'rules;
-            }
-            fired[i] = true;
-            let marked = assign(
-                &rows[i],
-                n,
-                counts,
-                positive,
-                &mut negative,
-                &mut truth,
-                &heads,
-                &nexts,
-                &mut queued,
-                &mut woken,
-                left,
-            );
-            if marked.clash {
-                return 41;
-            }
-            left = marked.left;
         }
     }
     if all_known(width, counts, positive, &negative) {

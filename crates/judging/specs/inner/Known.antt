@@ -5,7 +5,7 @@ use mathlib.Core.List.{List}
 use Prim.Native.Nat.{ℕ, _+_, _*_, _≤_, _<_}
 use lib.ListN.{length, getD}
 use Rattle.table.specs.inner.Flat.{pair-places, pair-at, set-of}
-use Rattle.marks.specs.inner.Number.{number}
+use Rattle.truths.specs.Truths.{number}
 use Rattle.marks.specs.Marks.{Marks, truth-had, truth-turns}
 
 -- The positive and the negative pairs, and what each test without NOT comes to: `|=` for each pair, then `*=` for each.

@@ -13,8 +13,6 @@ use Rattle.testing.proofs.Lists.{woken-none}
 use Rattle.model.specs.Rules.{Pair}
 use Rattle.table.specs.Link.{rules-of}
 use Rattle.rows.specs.inner.Rows.{table-in}
-use Rattle.marks.specs.Truths.{Truth₃, True, False, Unknown}
-use Rattle.marks.specs.inner.Number.{number}
 use Rattle.marks.specs.Marks.{declared-pairs}
 use Rattle.judging.specs.inner.Known.{Known, known}
 use Rattle.judging.proofs.Tests.{truths-three}
@@ -175,14 +173,71 @@ rule-truth-requires :
     tie.Need-rule-truth-requires Inv-enter μ-enter Inv-rules μ-rules Inv-sweeps μ-sweeps
 rule-truth-requires c κs = let d = looking (c .before .before) in (row-fits d, going d .rules .inv .3 .three)
 
+enum-told : tie.Need-enum-told Inv-enter μ-enter Inv-rules μ-rules Inv-sweeps μ-sweeps
+enum-told c = search needs
+
+element-write-fired :
+    tie.Need-element-write-fired Inv-enter μ-enter Inv-rules μ-rules Inv-sweeps μ-sweeps
+element-write-fired c = rule-inside (looking (opened (c .before .before)))
+
+mul-assign : tie.Need-mul-assign Inv-enter μ-enter Inv-rules μ-rules Inv-sweeps μ-sweeps
+mul-assign c = let h = rule-inside (looking (opened (c .before .before))) in search needs
+
+index-1-assign : tie.Need-index-1-assign Inv-enter μ-enter Inv-rules μ-rules Inv-sweeps μ-sweeps
+index-1-assign c = rule-inside (looking (opened (c .before .before)))
+
+assign-requires : tie.Need-assign-requires Inv-enter μ-enter Inv-rules μ-rules Inv-sweeps μ-sweeps
+assign-requires c κs =
+    let t = c .before .before .before .before .before .before .before .before in
+    let d = looking (opened (t .before .before)) in
+    let s = start (sweep (going d)) in
+    (row-fits d, λ p a. s .pre .2 (p .slot) (s .pre .3 (rule d) p (is-rule d) a), s .pre .0 .few, going d .rules .inv .3 .chained, still-woken d)
+
+returns : tie.Need-returns Inv-enter μ-enter Inv-rules μ-rules Inv-sweeps μ-sweeps
+returns c ks S I d x y o D =
+    let a = c .before in
+    let t = a .before .before .before .before .before .before .before .before .before in
+    let j = t .before .before in
+    let q = looking (opened j) in
+    let u = going q in
+    let p = sweep u in
+    let G = given (start p) ks I d D in
+    let w = u .rules .inv .4 ks S I G (p .sweeps .inv .4 ks S I G x y o) in
+    let n = comes-to j S (w .truths) in
+    record {
+      number = sym (standing.clash _ _ ks _ _ S I G (knows u) _ (u .rules .dead) (u .rules .fired) (rule q) w (is-rule q) (not-fired (opened j)) (sym n ∙ t .enum-told .given .1) (sym (a .assign .ensures .0) ∙ c .if3 .taken));
+      same-positive = λ z. absurd (let e : _≡_ {A = ℕ} 41 0 = z in omega arith);
+      same-fired = λ z. absurd (let e : _≡_ {A = ℕ} 41 0 = z in omega arith);
+    }
+
 rules-less-3 : tie.Need-rules-less-3 Inv-enter μ-enter Inv-rules μ-rules Inv-sweeps μ-sweeps
-rules-less-3 c = less (looking (opened (c .before)))
+rules-less-3 c =
+    let a = c .before in
+    let o = opened (a .before .before .before .before .before .before .before .before .before .before .before) in
+    let d = looking o in
+    let u = going d in
+    turn-fire (u .rules .woken) (u .rules .fired) (u .rules .dead) _ (u .rules .k) (u .rules .left) (d .next-rule .result) (d .next-rule .ensures) (d .before .before .rules-test .taken) _ (rule d) (rule-inside d) (u .rules .inv .2 .fired-size) (u .rules .inv .2 .dead-size) (a .assign .ensures .2 .few) (not-fired o)
 
 rules-again-3 : tie.Need-rules-again-3 Inv-enter μ-enter Inv-rules μ-rules Inv-sweeps μ-sweeps
 rules-again-3 c =
-    let d = looking (opened (c .before)) in
+    let a = c .before in
+    let t = a .before .before .before .before .before .before .before .before .before in
+    let j = t .before .before in
+    let o = opened j in
+    let d = looking o in
     let u = going d in
-    (place-inside d, still-woken d, u .rules .inv .2, u .rules .inv .3, u .rules .inv .4, over d (λ un o S t. sym (c .before .rule-truth .ensures S (knows u) t refl) ∙ c .if3 .taken))
+    let h = u .rules .inv .3 in
+    let e = a .assign .ensures .1 (c .if3 .left) in (
+      place-inside d,
+      a .assign .ensures .2,
+      kept-fire _ _ (u .rules .fired) (u .rules .dead) (u .rules .moved) (rule d) (rule-inside d) (u .rules .inv .2) (not-fired o),
+      record { chained = h .chained; three = rw (ap (λ (k : Known). k .truth) e) (three-assigned _ _ _ (h .three)); live-size = h .live-size; counted = h .counted },
+      λ ks S I G st. let w = u .rules .inv .4 ks S I G st in let n = comes-to j S (w .truths) in rw e (standing.fire _ _ ks _ _ S I G (knows u) _ (u .rules .dead) (u .rules .fired) (rule d) w (is-rule d) (not-fired o) (sym n ∙ t .enum-told .given .1) (sym (a .assign .ensures .0) ∙ c .if3 .left) (u .rules .inv .2 .fired-size)),
+      λ m. absurd (true≢false m),
+    )
+
+enum-told-2 : tie.Need-enum-told-2 Inv-enter μ-enter Inv-rules μ-rules Inv-sweeps μ-sweeps
+enum-told-2 c = search needs
 
 array-write-dead :
     tie.Need-array-write-dead Inv-enter μ-enter Inv-rules μ-rules Inv-sweeps μ-sweeps
@@ -244,76 +299,21 @@ rules-again-4 c =
         live-size = r .release .ensures .0;
         counted = live-released _ (u .rules .dead) _ (rule d) _ _ (h .counted) (is-rule d) (rw (u .rules .inv .2 .dead-size) (rule-inside d)) (not-dead o) (r .release .ensures .1);
       },
-      λ ks S I G st. let w = u .rules .inv .4 ks S I G st in rw e (standing.kill _ _ ks _ _ S I G (knows u) _ _ (u .rules .dead) (u .rules .fired) (rule d) w (is-rule d) (not-dead o) (sym (comes-to j S (w .truths)) ∙ r .before .before .before .if4 .taken) (r .release .ensures .1) (u .rules .inv .2 .dead-size)),
+      λ ks S I G st. let w = u .rules .inv .4 ks S I G st in rw e (standing.kill _ _ ks _ _ S I G (knows u) _ _ (u .rules .dead) (u .rules .fired) (rule d) w (is-rule d) (not-dead o) (sym (comes-to j S (w .truths)) ∙ r .before .before .before .enum-told2 .given .1) (r .release .ensures .1) (u .rules .inv .2 .dead-size)),
       λ m. absurd (true≢false m),
     )
 
-element-write-fired :
-    tie.Need-element-write-fired Inv-enter μ-enter Inv-rules μ-rules Inv-sweeps μ-sweeps
-element-write-fired c = rule-inside (looking (opened (c .before .before)))
-
-mul-assign : tie.Need-mul-assign Inv-enter μ-enter Inv-rules μ-rules Inv-sweeps μ-sweeps
-mul-assign c = let h = rule-inside (looking (opened (c .before .before))) in search needs
-
-index-1-assign : tie.Need-index-1-assign Inv-enter μ-enter Inv-rules μ-rules Inv-sweeps μ-sweeps
-index-1-assign c = rule-inside (looking (opened (c .before .before)))
-
-assign-requires : tie.Need-assign-requires Inv-enter μ-enter Inv-rules μ-rules Inv-sweeps μ-sweeps
-assign-requires c κs =
-    let t = c .before .before .before .before .before .before .before .before in
-    let d = looking (opened (t .before .before)) in
-    let s = start (sweep (going d)) in
-    (row-fits d, λ p a. s .pre .2 (p .slot) (s .pre .3 (rule d) p (is-rule d) a), s .pre .0 .few, going d .rules .inv .3 .chained, still-woken d)
-
--- A rule that is neither Unknown nor False is True.
-two : (t : Truth₃) → (¬ (number t ≡ 1)) → (¬ (number t ≡ 0)) → number t ≡ 2
-unfolding number
-two True a b = refl
-two False a b = absurd (b refl)
-two Unknown a b = absurd (a refl)
-
-returns : tie.Need-returns Inv-enter μ-enter Inv-rules μ-rules Inv-sweeps μ-sweeps
-returns c ks S I d x y o D =
-    let a = c .before in
-    let t = a .before .before .before .before .before .before .before .before .before in
-    let j = t .before .before in
-    let q = looking (opened j) in
-    let u = going q in
-    let p = sweep u in
-    let G = given (start p) ks I d D in
-    let w = u .rules .inv .4 ks S I G (p .sweeps .inv .4 ks S I G x y o) in
-    let n = comes-to j S (w .truths) in
-    record {
-      number = sym (standing.clash _ _ ks _ _ S I G (knows u) _ (u .rules .dead) (u .rules .fired) (rule q) w (is-rule q) (not-fired (opened j)) (two _ (λ z. t .before .if3 .left (n ∙ z)) (λ z. t .if4 .left (n ∙ z))) (sym (a .assign .ensures .0) ∙ c .if5 .taken));
-      same-positive = λ z. absurd (let e : _≡_ {A = ℕ} 41 0 = z in omega arith);
-      same-fired = λ z. absurd (let e : _≡_ {A = ℕ} 41 0 = z in omega arith);
-    }
+enum-told-3 : tie.Need-enum-told-3 Inv-enter μ-enter Inv-rules μ-rules Inv-sweeps μ-sweeps
+enum-told-3 c = search needs
 
 rules-less-5 : tie.Need-rules-less-5 Inv-enter μ-enter Inv-rules μ-rules Inv-sweeps μ-sweeps
-rules-less-5 c =
-    let a = c .before in
-    let o = opened (a .before .before .before .before .before .before .before .before .before .before .before) in
-    let d = looking o in
-    let u = going d in
-    turn-fire (u .rules .woken) (u .rules .fired) (u .rules .dead) _ (u .rules .k) (u .rules .left) (d .next-rule .result) (d .next-rule .ensures) (d .before .before .rules-test .taken) _ (rule d) (rule-inside d) (u .rules .inv .2 .fired-size) (u .rules .inv .2 .dead-size) (a .assign .ensures .2 .few) (not-fired o)
+rules-less-5 c = less (looking (opened (c .before .before)))
 
 rules-again-5 : tie.Need-rules-again-5 Inv-enter μ-enter Inv-rules μ-rules Inv-sweeps μ-sweeps
 rules-again-5 c =
-    let a = c .before in
-    let t = a .before .before .before .before .before .before .before .before .before in
-    let j = t .before .before in
-    let o = opened j in
-    let d = looking o in
+    let d = looking (opened (c .before .before)) in
     let u = going d in
-    let h = u .rules .inv .3 in
-    let e = a .assign .ensures .1 (c .if5 .left) in (
-      place-inside d,
-      a .assign .ensures .2,
-      kept-fire _ _ (u .rules .fired) (u .rules .dead) (u .rules .moved) (rule d) (rule-inside d) (u .rules .inv .2) (not-fired o),
-      record { chained = h .chained; three = rw (ap (λ (k : Known). k .truth) e) (three-assigned _ _ _ (h .three)); live-size = h .live-size; counted = h .counted },
-      λ ks S I G st. let w = u .rules .inv .4 ks S I G st in let n = comes-to j S (w .truths) in rw e (standing.fire _ _ ks _ _ S I G (knows u) _ (u .rules .dead) (u .rules .fired) (rule d) w (is-rule d) (not-fired o) (two _ (λ z. t .before .if3 .left (n ∙ z)) (λ z. t .if4 .left (n ∙ z))) (sym (a .assign .ensures .0) ∙ c .if5 .left) (u .rules .inv .2 .fired-size)),
-      λ m. absurd (true≢false m),
-    )
+    (place-inside d, still-woken d, u .rules .inv .2, u .rules .inv .3, u .rules .inv .4, over d (λ un o S t. sym (c .before .before .rule-truth .ensures S (knows u) t refl) ∙ c .enum-told3 .given .1))
 
 all-known-requires :
     tie.Need-all-known-requires Inv-enter μ-enter Inv-rules μ-rules Inv-sweeps μ-sweeps
@@ -337,12 +337,12 @@ ended k ks S I G x y o =
 returns-2 : tie.Need-returns-2 Inv-enter μ-enter Inv-rules μ-rules Inv-sweeps μ-sweeps
 returns-2 c ks S I d x y o D =
     let k = c .before in
-    ended k ks S I (given (start (k .before .before .before .before)) ks I d D) x y o .0 (k .all-known .ensures .0 (c .if6 .taken))
+    ended k ks S I (given (start (k .before .before .before .before)) ks I d D) x y o .0 (k .all-known .ensures .0 (c .if4 .taken))
 
 returns-3 : tie.Need-returns-3 Inv-enter μ-enter Inv-rules μ-rules Inv-sweeps μ-sweeps
 returns-3 c ks S I d x y o D =
     let k = c .before in
-    ended k ks S I (given (start (k .before .before .before .before)) ks I d D) x y o .1 (k .all-known .ensures .1 (c .if6 .left))
+    ended k ks S I (given (start (k .before .before .before .before)) ks I d D) x y o .1 (k .all-known .ensures .1 (c .if4 .left))
 
 pub select-spec : {M : Type 1} → statement M
 select-spec =
@@ -382,8 +382,15 @@ select-spec =
     mul-rule-truth
     index-1-rule-truth
     rule-truth-requires
+    enum-told
+    element-write-fired
+    mul-assign
+    index-1-assign
+    assign-requires
+    returns
     rules-less-3
     rules-again-3
+    enum-told-2
     array-write-dead
     mul-release
     index-1-release
@@ -393,11 +400,7 @@ select-spec =
     rule-out-unassigned-requires
     rules-less-4
     rules-again-4
-    element-write-fired
-    mul-assign
-    index-1-assign
-    assign-requires
-    returns
+    enum-told-3
     rules-less-5
     rules-again-5
     all-known-requires

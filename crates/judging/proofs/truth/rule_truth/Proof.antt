@@ -1,25 +1,24 @@
 -- `judging::truth::rule_truth` meets its contract.
 -- Assumes nothing.
-use mathlib.Core.Path.{_≡_, ap, _∙_}
+use mathlib.Core.Path.{_≡_, _∙_}
 use mathlib.Core.List.{List}
 use Prim.Native.Nat.{ℕ, _-_, _≤_, _<_}
 use lib.ListN.{getD}
 use Rattle.rows.specs.inner.Rows.{rule-in}
 use Rattle.rows.proofs.Laws.{number-fits}
-use Rattle.marks.specs.inner.Number.{number}
 use Rattle.judging.specs.inner.Known.{Known, marks-of, Truths}
 use Rattle.judging.proofs.Tests.{trigger-literal}
-use Rattle.judging.proofs.Joining.{Joined, joined-start, joined-false, joined-kept, joined-lower, joined-end}
+use Rattle.judging.proofs.Joining.{Joined, joined-start, joined-false, joined-next, joined-end}
 use native.Mathlib.Omega.{arith}
 use borrow.Author.Needs.{needs}
 use Rattle.judging.proofs.truth.rule_truth.Statement.{statement}
 use Rattle.judging.proofs.truth.rule_truth.Tie as tie
 
 abbrev Inv-literals : tie.InvT-literals
-Inv-literals row truth trigger least₀ m j₀ least j = (j ≤ m) × ((S : List ℕ) (k : Known) → Truths S k → truth ≡ k .truth → Joined S (marks-of k) (rule-in row) j least)
+Inv-literals row truth trigger joined₀ m j₀ joined j = (j ≤ m) × ((S : List ℕ) (k : Known) → Truths S k → truth ≡ k .truth → Joined S (marks-of k) (rule-in row) j joined)
 
 abbrev μ-literals : tie.MeasureT-literals
-μ-literals row truth trigger least₀ m j₀ least j = m - j
+μ-literals row truth trigger joined₀ m j₀ joined j = m - j
 
 -- There is a literal at the place at hand.
 used : (c : tie.In-literals Inv-literals μ-literals) → c .before .literals .j < rule-in (c .before .before .before .before .before .args .row .now) .tested
@@ -41,14 +40,17 @@ literals-holds c =
       search needs,
       λ S k t e.
           let x = rw (c .before .before .trigger .ensures) at (c .before .literal-truth .ensures S k t e) in
-          joined-start S (marks-of k) (rule-in row) (c .before .literal-truth .result) (x ∙ ap number (trigger-literal S (marks-of k) (getD row 0 0) (s .pre .0 .trigger-becomes))),
+          rw (x ∙ trigger-literal S (marks-of k) (getD row 0 0) (s .pre .0 .trigger-becomes)) (joined-start S (marks-of k) (rule-in row)),
     )
+
+enum-told : tie.Need-enum-told Inv-literals μ-literals
+enum-told c = search needs
 
 returns : tie.Need-returns Inv-literals μ-literals
 returns c =
-    let a = c .before .before in
+    let a = c .before .before .before in
     let s = a .before .before .before .before in
-    λ S k t e. joined-false S (marks-of k) (rule-in (s .args .row .now)) (a .literals .j) (rw (c .if1 .taken) at (a .literals .inv .1 S k t e))
+    λ S k t e. joined-false S (marks-of k) (rule-in (s .args .row .now)) (a .literals .j) (rw (c .enum-told .given .1) at (a .literals .inv .1 S k t e))
 
 literal-requires : tie.Need-literal-requires Inv-literals μ-literals
 literal-requires c κs = search needs
@@ -58,6 +60,9 @@ literal-truth-requires-2 c κs =
     let i = c .before .before in
     let s = i .before .before .before .before .before in
     (number-fits (s .args .row .now) (s .pre .0) (i .before .literals .j) (c .literal .result) (used i) (c .literal .ensures), s .pre .1)
+
+and-requires : tie.Need-and-requires Inv-literals μ-literals
+and-requires c κs = search needs
 
 add-j : tie.Need-add-j Inv-literals μ-literals
 add-j c = search needs
@@ -72,27 +77,14 @@ literals-again c =
     let a = i .before in
     let s = a .before .before .before .before in (
       search needs,
-      λ S k t e. joined-kept S (marks-of k) (s .args .row .now) (s .pre .0) (a .literals .j) (l .literal .result) (used i) (l .literal .ensures) (c .before .literal-truth2 .result) (a .literals .least) (c .before .literal-truth2 .ensures S k t e) (c .if2 .taken) (a .literals .inv .1 S k t e),
-    )
-
-literals-less-2 : tie.Need-literals-less-2 Inv-literals μ-literals
-literals-less-2 c = search needs
-
-literals-again-2 : tie.Need-literals-again-2 Inv-literals μ-literals
-literals-again-2 c =
-    let l = c .before .before in
-    let i = l .before .before in
-    let a = i .before in
-    let s = a .before .before .before .before in (
-      search needs,
-      λ S k t e. joined-lower S (marks-of k) (s .args .row .now) (s .pre .0) (a .literals .j) (l .literal .result) (used i) (l .literal .ensures) (c .before .literal-truth2 .result) (a .literals .least) (c .before .literal-truth2 .ensures S k t e) (omega (arith, c .if2 .left)) (a .literals .inv .1 S k t e),
+      λ S k t e. rw (c .and .ensures .0, c .before .literal-truth2 .ensures S k t e) (joined-next S (marks-of k) (s .args .row .now) (s .pre .0) (a .literals .j) (l .literal .result) (used i) (l .literal .ensures) (a .literals .joined) (a .literals .inv .1 S k t e)),
     )
 
 returns-2 : tie.Need-returns-2 Inv-literals μ-literals
 returns-2 c =
     let a = c .before in
     let s = a .before .before .before .before in
-    λ S k t e. joined-end S (marks-of k) (rule-in (s .args .row .now)) (a .literals .j) (a .literals .least) (omega (arith, a .before .tested .ensures, c .literals-test .left)) (a .literals .inv .1 S k t e)
+    λ S k t e. joined-end S (marks-of k) (rule-in (s .args .row .now)) (a .literals .j) (a .literals .joined) (omega (arith, a .before .tested .ensures, c .literals-test .left)) (a .literals .inv .1 S k t e)
 
 pub rule-truth-spec : {M : Type 1} → statement M
 rule-truth-spec =
@@ -104,12 +96,12 @@ rule-truth-spec =
     literal-truth-requires
     tested-requires
     literals-holds
+    enum-told
     returns
     literal-requires
     literal-truth-requires-2
+    and-requires
     add-j
     literals-less
     literals-again
-    literals-less-2
-    literals-again-2
     returns-2)

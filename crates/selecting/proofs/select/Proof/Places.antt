@@ -13,7 +13,7 @@ use Rattle.table.specs.Link.{rules-of, rule-of}
 use Rattle.table.specs.inner.Flat.{pair-places}
 use Rattle.rows.specs.inner.Rows.{rule-in, table-in, RowFits}
 use Rattle.testing.specs.inner.Waiting.{Woken}
-use Rattle.marks.specs.inner.Number.{number}
+use Rattle.truths.specs.declared.Truth3.the-variants.{Unknown}
 use Rattle.marks.specs.Marks.{truth-rule, declared-pairs}
 use Rattle.marks.specs.inner.Declared.{Declared}
 use Rattle.judging.specs.inner.Known.{Known, known, marks-of, Truths}
@@ -131,13 +131,13 @@ less d = let u = going d in turn-over (u .rules .woken) (u .rules .fired) (u .ru
 
 -- and is done or Unknown.
 pub over : (d : Looking) → let u = going d in
-    (getD (u .rules .fired) (rule d) false ≡ false → getD (u .rules .dead) (rule d) false ≡ false → (S : List ℕ) → Truths S (knows u) → number (truth-rule S (marks-of (knows u)) (rule-of (rule-in (row-at d)))) ≡ 1)
+    (getD (u .rules .fired) (rule d) false ≡ false → getD (u .rules .dead) (rule d) false ≡ false → (S : List ℕ) → Truths S (knows u) → truth-rule S (marks-of (knows u)) (rule-of (rule-in (row-at d))) ≡ Unknown)
     → u .rules .moved ≡ false → Seen (start (sweep u) .args .rows .now) (knows u) (u .rules .fired) (u .rules .dead) (d .next-rule .result .place)
 unfolding Seen
 over d h m =
     let u = going d in
     turn-seen (u .rules .k) (u .rules .woken) (u .rules .left) (d .next-rule .result) (d .next-rule .ensures)
-    (λ i. getD (u .rules .fired) i false ≡ false → getD (u .rules .dead) i false ≡ false → (S : List ℕ) → Truths S (knows u) → number (truth-rule S (marks-of (knows u)) (rule-of (rule-in (getD (start (sweep u) .args .rows .now) i [])))) ≡ 1)
+    (λ i. getD (u .rules .fired) i false ≡ false → getD (u .rules .dead) i false ≡ false → (S : List ℕ) → Truths S (knows u) → truth-rule S (marks-of (knows u)) (rule-of (rule-in (getD (start (sweep u) .args .rows .now) i []))) ≡ Unknown)
     (u .rules .inv .5 m) h
 
 -- A rule that is not done has neither fired nor been found False.
@@ -150,7 +150,7 @@ not-dead o = o .if2 .left
 -- What a rule comes to.
 pub comes-to : (c : Judged) (S : List ℕ) → Truths S (knows (going (looking (opened c)))) →
     let d = looking (opened c) in
-    c .rule-truth .result ≡ number (truth-rule S (marks-of (knows (going d))) (rule-at (rules-of (table-in (start (sweep (going d)) .args .rows .now) (start (sweep (going d)) .args .n))) (suc (rule d))))
+    c .rule-truth .result ≡ truth-rule S (marks-of (knows (going d))) (rule-at (rules-of (table-in (start (sweep (going d)) .args .rows .now) (start (sweep (going d)) .args .n))) (suc (rule d)))
 comes-to c S t =
     let d = looking (opened c) in
     let s = start (sweep (going d)) in

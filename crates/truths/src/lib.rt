@@ -1,0 +1,68 @@
+// The three truth values of the RL paper, section 6.1: the cases of NOT and AND in the section's order, for a reviewer to tick off, and the three by number.
+ghost use mathlib.Core.Path.{_≡_};
+ghost use Prim.Native.Nat.{_-_, _≤_, min};
+ghost use Rattle.truths.specs.Truths.{NOT₃, _AND₃_, number};
+
+// What the evaluation of a test, a literal, a condition or a rule gives.
+pub enum Truth3 {
+    True,
+    False,
+    Unknown,
+}
+
+// [NOT p] is True if p is False.
+// [NOT p] is False if p is True.
+// It is Unknown otherwise.
+pub fn not(p: Truth3) -> Truth3
+    ensures { λ r. ⌜ (r ≡ NOT₃ p) × (number r ≡ 2 - number p) ⌝ }
+{
+    match p {
+        Truth3::False => Truth3::True,
+        Truth3::True => Truth3::False,
+        Truth3::Unknown => Truth3::Unknown,
+    }
+}
+
+// [p AND q] is True if both are True.
+// [p AND q] is False if one of them is False.
+// It is Unknown otherwise.
+pub fn and(p: Truth3, q: Truth3) -> Truth3
+    ensures { λ r. ⌜ (r ≡ p AND₃ q) × (number r ≡ min (number p) (number q)) ⌝ }
+{
+    match p {
+        Truth3::True => match q {
+            Truth3::True => Truth3::True,
+            Truth3::False => Truth3::False,
+            Truth3::Unknown => Truth3::Unknown,
+        },
+        Truth3::False => match q {
+            Truth3::True => Truth3::False,
+            Truth3::False => Truth3::False,
+            Truth3::Unknown => Truth3::False,
+        },
+        Truth3::Unknown => match q {
+            Truth3::True => Truth3::Unknown,
+            Truth3::False => Truth3::False,
+            Truth3::Unknown => Truth3::Unknown,
+        },
+    }
+}
+
+// The three by number, as arrays have them.
+pub const FALSE: u8 = 0;
+
+pub const UNKNOWN: u8 = 1;
+
+pub const TRUE: u8 = 2;
+
+// The truth value that a number stands for.
+pub fn numbered(x: u8) -> Truth3
+    requires { ⌜ x ≤ 2 ⌝ }
+    ensures { λ r. ⌜ x ≡ number r ⌝ }
+{
+    match x {
+        TRUE => Truth3::True,
+        FALSE => Truth3::False,
+        _ => Truth3::Unknown,
+    }
+}
