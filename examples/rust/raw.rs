@@ -195,17 +195,17 @@ pub struct RlResponse {
 }
 
 extern "C" {
-    fn rl_read(text: *const u8, length: usize) -> RlRead;
-    fn rl_read_unlayered(text: *const u8, length: usize) -> RlRead;
-    fn rl_print(text: *const u8, text_length: usize, out: *mut u8, out_length: usize) -> RlPrinted;
-    fn rl_is_sound(table: Table) -> bool;
+    pub fn rl_read(text: *const u8, length: usize) -> RlRead;
+    pub fn rl_read_unlayered(text: *const u8, length: usize) -> RlRead;
+    pub fn rl_print(text: *const u8, text_length: usize, out: *mut u8, out_length: usize) -> RlPrinted;
+    pub fn rl_is_sound(table: Table) -> bool;
     fn rl_slot_name(text: *const u8, length: usize, table: Table, slot: usize) -> RlName;
     fn rl_value_name(text: *const u8, length: usize, table: Table, slot: usize, value: usize) -> RlName;
     fn rl_unpack_card(table: Table, bytes: *const u8, length: usize) -> RlCard;
     fn rl_unpack_slip(table: Table, bytes: *const u8, length: usize) -> RlSlip;
     fn rl_pack_card(table: Table, card: Card, out: *mut u8, length: usize) -> RlPacked;
     fn rl_pack_slip(table: Table, slip: Slip, out: *mut u8, length: usize) -> RlPacked;
-    fn rl_respond(
+    pub fn rl_respond(
         table: Table,
         records: *mut Tally,
         records_length: usize,
@@ -221,7 +221,7 @@ extern "C" {
         fired: *mut u8,
         fired_length: usize,
     ) -> RlResponse;
-    fn rl_respond_by_marks(
+    pub fn rl_respond_by_marks(
         table: Table,
         records: *mut Tally,
         records_length: usize,
@@ -302,7 +302,7 @@ pub fn pack_slip(table: &Table, slip: Slip, out: &mut [u8]) -> RlPacked {
 }
 
 /// A function of the library that responds: by strata, or by marks.
-type Responds = unsafe extern "C" fn(
+pub type Responds = unsafe extern "C" fn(
     Table,
     *mut Tally,
     usize,
@@ -321,7 +321,7 @@ type Responds = unsafe extern "C" fn(
 
 /// The packed card and the packed slip as the first two slices, then the three outputs.
 #[inline]
-fn respond_with(
+pub fn respond_with(
     responds: Responds,
     table: &Table,
     records: &mut [Tally],

@@ -4,15 +4,11 @@ use native::draw::{svg, Line, Panel};
 use native::engine::{Engine, Native};
 use native::input::Input;
 use native::inputs::inputs;
-use native::mark_inputs::mark_inputs;
 use native::mark_tables;
-use native::measure::{result, table_times, text_times};
+use native::measure::{result, table_times, text_times, ROUNDS};
 use native::proved::Proved;
 use native::table::Table;
 use native::Refusal;
-
-/// How often all inputs are measured, one after the other, so that a busy machine does not slow one of them only.
-const ROUNDS: usize = 8;
 
 /// What was measured on an input: its work, and the times of the proved library and of the native engine; the test 31 and a response only where the text is accepted.
 struct Row {
@@ -175,22 +171,6 @@ fn measure_again(proved: &mut dyn Engine, native: &mut dyn Engine, input: &Input
     }
 }
 
-/// Measures the response by marks on its inputs, and on others, which do not stand in its line of growing sizes; None for an input where results differ.
-fn mark_rows(proved: &mut dyn Engine, native: &mut dyn Engine, others: Vec<Input>) -> Vec<Option<mark_tables::Row>> {
-    let others = others.into_iter().map(|input| Input { grows: false, ..input });
-    let inputs: Vec<Input> = mark_inputs().into_iter().chain(others).collect();
-    let mut rows: Vec<Option<mark_tables::Row>> =
-        inputs.iter().map(|input| mark_tables::row(proved, native, input)).collect();
-    for _ in 1..ROUNDS {
-        for (input, row) in inputs.iter().zip(&mut rows) {
-            if let (Some(row), Some(again)) = (row, mark_tables::row(proved, native, input)) {
-                row.lower(again);
-            }
-        }
-    }
-    rows
-}
-
 fn main() {
     let (mut proved, mut native) = (Proved::new(), Native::new());
     let inputs = inputs();
@@ -206,7 +186,7 @@ fn main() {
     print_soundness(&rows);
     print_printing(&rows);
     print_growth(&rows);
-    let mark_rows = mark_rows(&mut proved, &mut native, inputs);
+    let mark_rows = mark_tables::measured(&mut proved, &mut native, inputs);
     let same = same && mark_rows.iter().all(Option::is_some);
     let mark_rows: Vec<mark_tables::Row> = mark_rows.into_iter().flatten().collect();
     mark_tables::print_rows(&mark_rows);

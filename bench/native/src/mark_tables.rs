@@ -2,7 +2,8 @@
 
 use crate::engine::Engine;
 use crate::input::Input;
-use crate::measure::{mark_result, mark_times, Outcome};
+use crate::mark_inputs::mark_inputs;
+use crate::measure::{mark_result, mark_times, Outcome, ROUNDS};
 use crate::table::Table;
 
 /// What was measured on an input: its work, the outcomes by strata and by marks, and the times of the proved library and of the native engine; the strata response only where the text is accepted.
@@ -32,7 +33,7 @@ fn words(outcome: Outcome) -> String {
 }
 
 /// Measures an input; None where the results differ, which are then printed.
-pub fn row(proved: &mut dyn Engine, native: &mut dyn Engine, input: &Input) -> Option<Row> {
+fn row(proved: &mut dyn Engine, native: &mut dyn Engine, input: &Input) -> Option<Row> {
     let (theirs, ours) = (mark_result(proved, input), mark_result(native, input));
     if theirs != ours {
         println!("DIFFERENT by marks on {}", input.name);
@@ -64,7 +65,7 @@ fn lower(times: &mut [f64; 2], others: [f64; 2]) {
 
 impl Row {
     /// Keeps the better times of two measurements of the same input.
-    pub fn lower(&mut self, other: Row) {
+    fn lower(&mut self, other: Row) {
         self.readings.iter_mut().zip(other.readings).for_each(|(times, others)| lower(times, others));
         lower(&mut self.by_marks, other.by_marks);
         if let (Some(times), Some(others)) = (&mut self.by_strata, other.by_strata) {
@@ -83,9 +84,36 @@ impl Row {
     }
 }
 
+/// Measures the response by marks on its inputs, and on others, which do not stand in its line of growing sizes; None for an input where results differ.
+pub fn measured(proved: &mut dyn Engine, native: &mut dyn Engine, others: Vec<Input>) -> Vec<Option<Row>> {
+    let others = others.into_iter().map(|input| Input { grows: false, ..input });
+    let inputs: Vec<Input> = mark_inputs().into_iter().chain(others).collect();
+    let mut rows: Vec<Option<Row>> = inputs.iter().map(|input| row(proved, native, input)).collect();
+    for _ in 1..ROUNDS {
+        for (input, kept) in inputs.iter().zip(&mut rows) {
+            if let (Some(kept), Some(again)) = (kept, row(proved, native, input)) {
+                kept.lower(again);
+            }
+        }
+    }
+    rows
+}
+
 /// Two times and their ratio as columns of a table.
 fn columns([proved, native]: [f64; 2]) -> String {
     format!("{proved:>9.2} | {native:>9.2} | {:>5.1}", proved / native)
+}
+
+/// Prints the times of two versions of the library on all rows, the earlier one first.
+pub fn print_versions(rows: &[Row]) {
+    println!("\nTwo versions of the proved library in turn; times in microseconds, results are equal on every line.\n");
+    println!("| input | strata, before | strata, after | ratio | marks, before | marks, after | ratio | reading, before | reading, after | ratio |");
+    println!("|---|---|---|---|---|---|---|---|---|---|");
+    let columns = |[before, after]: [f64; 2]| format!("{before:>9.2} | {after:>9.2} | {:>5.2}", after / before);
+    for row in rows {
+        let by_strata = row.by_strata.map_or(format!("{:>9} | {:>9} | {:>5}", "", "", ""), columns);
+        println!("| {:<52} | {by_strata} | {} | {} |", row.name, columns(row.by_marks), columns(row.readings[0]));
+    }
 }
 
 /// Prints the times of all rows.

@@ -15,6 +15,9 @@ use crate::Refusal;
 const REPETITION: Duration = Duration::from_millis(1);
 const REPETITIONS: usize = 20;
 
+/// How often all inputs are measured, one after the other, so that a busy machine does not slow one of them only.
+pub const ROUNDS: usize = 8;
+
 /// The editor who calls.
 pub const EDITOR: u8 = 23;
 

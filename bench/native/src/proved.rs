@@ -1,20 +1,85 @@
-//! The proved library by its C interface.
+//! The proved library by its C interface: the one that is linked, or another that is loaded, so that two can be measured in one run.
+
+use std::ffi::{c_char, c_int, c_void, CString};
+use std::mem::transmute;
 
 use crate::engine::Engine;
-use crate::raw::{self, given, RlRead, RlResponse};
+use crate::raw::{self, given, respond_with, Responds, RlPrinted, RlRead, RlResponse};
 use crate::response::{Answer, Caller, Outputs};
 use crate::table::Table;
 use crate::Refusal;
 
-/// The proved library, with the last reading.
+/// The entry points of a library that are measured.
+struct Entries {
+    read: unsafe extern "C" fn(*const u8, usize) -> RlRead,
+    read_unlayered: unsafe extern "C" fn(*const u8, usize) -> RlRead,
+    print: unsafe extern "C" fn(*const u8, usize, *mut u8, usize) -> RlPrinted,
+    is_sound: unsafe extern "C" fn(Table) -> bool,
+    respond: Responds,
+    respond_by_marks: Responds,
+}
+
+/// A proved library, with the last reading.
 pub struct Proved {
+    entries: Entries,
     read: Box<RlRead>,
 }
 
+extern "C" {
+    fn dlopen(file: *const c_char, flags: c_int) -> *mut c_void;
+    fn dlsym(library: *mut c_void, name: *const c_char) -> *mut c_void;
+}
+
+/// All that a shared library needs is bound as it is loaded.
+const RTLD_NOW: c_int = 2;
+
+/// The address of an entry point in a library that was loaded.
+fn entry(library: *mut c_void, name: &str) -> *mut c_void {
+    let word = CString::new(name).expect("a name without byte 0");
+    let address = unsafe { dlsym(library, word.as_ptr()) };
+    assert!(!address.is_null(), "the library lacks {name}");
+    address
+}
+
 impl Proved {
-    /// The proved library before any reading.
+    /// A library before any reading.
+    fn with(entries: Entries) -> Proved {
+        Proved { entries, read: Box::new(RlRead { number: 0, second: 0, table: *Table::empty() }) }
+    }
+
+    /// The library that is linked.
     pub fn new() -> Proved {
-        Proved { read: Box::new(RlRead { number: 0, second: 0, table: *Table::empty() }) }
+        Proved::with(Entries {
+            read: raw::rl_read,
+            read_unlayered: raw::rl_read_unlayered,
+            print: raw::rl_print,
+            is_sound: raw::rl_is_sound,
+            respond: raw::rl_respond,
+            respond_by_marks: raw::rl_respond_by_marks,
+        })
+    }
+
+    /// The library in a shared object.
+    pub fn loaded(path: &str) -> Proved {
+        let file = CString::new(path).expect("a path without byte 0");
+        let library = unsafe { dlopen(file.as_ptr(), RTLD_NOW) };
+        assert!(!library.is_null(), "{path} cannot be loaded");
+        unsafe {
+            Proved::with(Entries {
+                read: transmute(entry(library, "rl_read")),
+                read_unlayered: transmute(entry(library, "rl_read_unlayered")),
+                print: transmute(entry(library, "rl_print")),
+                is_sound: transmute(entry(library, "rl_is_sound")),
+                respond: transmute(entry(library, "rl_respond")),
+                respond_by_marks: transmute(entry(library, "rl_respond_by_marks")),
+            })
+        }
+    }
+
+    /// Keeps what a reading gave, and says whether it was refused.
+    fn keep(&mut self, read: RlRead) -> Result<(), Refusal> {
+        *self.read = read;
+        given(self.read.number, self.read.second, ())
     }
 }
 
@@ -32,13 +97,11 @@ fn told(response: RlResponse) -> Result<Answer, Refusal> {
 
 impl Engine for Proved {
     fn read(&mut self, text: &[u8]) -> Result<(), Refusal> {
-        *self.read = raw::read(text);
-        given(self.read.number, self.read.second, ())
+        self.keep(unsafe { (self.entries.read)(text.as_ptr(), text.len()) })
     }
 
     fn read_unlayered(&mut self, text: &[u8]) -> Result<(), Refusal> {
-        *self.read = raw::read_unlayered(text);
-        given(self.read.number, self.read.second, ())
+        self.keep(unsafe { (self.entries.read_unlayered)(text.as_ptr(), text.len()) })
     }
 
     fn table(&self) -> &Table {
@@ -46,12 +109,12 @@ impl Engine for Proved {
     }
 
     fn print(&mut self, text: &[u8], out: &mut [u8]) -> Result<usize, Refusal> {
-        let printed = raw::print(text, out);
+        let printed = unsafe { (self.entries.print)(text.as_ptr(), text.len(), out.as_mut_ptr(), out.len()) };
         given(printed.number, printed.second, printed.length)
     }
 
     fn is_sound(&mut self, table: &Table) -> bool {
-        raw::is_sound(table)
+        unsafe { (self.entries.is_sound)(*table) }
     }
 
     fn respond(
@@ -63,7 +126,8 @@ impl Engine for Proved {
         outputs: Outputs,
     ) -> Result<Answer, Refusal> {
         let Outputs { card: new_card, changes, fired } = outputs;
-        told(raw::respond(table, caller.records, caller.editor, card, slip, new_card, changes, fired))
+        let Caller { records, editor } = caller;
+        told(respond_with(self.entries.respond, table, records, editor, [card, slip], [new_card, changes, fired]))
     }
 
     fn respond_by_marks(
@@ -75,6 +139,8 @@ impl Engine for Proved {
         outputs: Outputs,
     ) -> Result<Answer, Refusal> {
         let Outputs { card: new_card, changes, fired } = outputs;
-        told(raw::respond_by_marks(table, caller.records, caller.editor, card, slip, new_card, changes, fired))
+        let Caller { records, editor } = caller;
+        let responds = self.entries.respond_by_marks;
+        told(respond_with(responds, table, records, editor, [card, slip], [new_card, changes, fired]))
     }
 }

@@ -8,7 +8,7 @@ use Prim.Native.Nat.{ℕ, _+_, _-_, _*_, _/_, _%_, _≤_, _<_}
 use native.Mathlib.Omega.{arith}
 use lib.Dec.{eqb}
 use lib.ListN.{length, getD, set, List·getD-eq-default}
-use borrow.Author.Tests.{eqb-true, eqb-false}
+use borrow.Author.Tests.{eq-eqb, eqb-true, eqb-false}
 use Rattle.laws.specs.Truth.{_∧ᵇ_, _∨ᵇ_, notᵇ}
 use Rattle.laws.specs.Limits.{slot-limit, row}
 use Rattle.laws.proofs.Truth.{le-or-lt}
@@ -117,13 +117,9 @@ module _ (S : List ℕ) (Z : Marks) where
   unfolding truth-literal
   literal-plain l e = rw e
 
-  -- The number of a trigger is that of a plain `*=`.
-  pub trigger-literal : (x : ℕ) → x / pair-places ≡ 1 → truth-literal S Z (literal-of (literal-in x)) ≡ truth-turns S Z (pair-in x)
-  unfolding truth-literal truth-test
-  trigger-literal x e =
-      let a : x / (2 * pair-places) ≡ 0 = omega arith in
-      let b : x / pair-places % 2 ≡ 1 = omega arith in
-      rw (a, b)
+  -- The number of a trigger is that of a `*=`.
+  pub trigger-test : (x : ℕ) → x / pair-places ≡ 1 → truth-test S Z (literal-of (literal-in x)) ≡ truth-turns S Z (pair-in x)
+  trigger-test x e = test-turns (literal-of (literal-in x)) (let h : x / pair-places % 2 ≡ 1 = omega arith in eq-eqb (x / pair-places % 2) 1 h)
 
 -- The test of a literal, without its NOT, stands at the rest of its number.
 pub test-at : (S : List ℕ) (k : Known) (x : ℕ) → Truths S k → getD (k .truth) (x % (2 * pair-places)) 0 ≡ number (truth-test S (marks-of k) (literal-of (literal-in x)))

@@ -1,12 +1,13 @@
 // What tests, literals and rules come to, True, False or Unknown: the tests of a card and its marks looked up by number, NOT and AND by their cases.
 ghost use mathlib.Core.Path.{_≡_};
 ghost use mathlib.Core.List.{List};
-ghost use Prim.Native.Nat.{ℕ, _<_};
+ghost use Prim.Native.Nat.{ℕ, _*_, _%_, _<_};
 ghost use lib.ListN.{getD};
 ghost use Rattle.laws.specs.Limits.{slot-limit, row};
 ghost use Rattle.table.specs.Link.{literal-of, rule-of};
+ghost use Rattle.table.specs.inner.Flat.{pair-places};
 ghost use Rattle.rows.specs.inner.Rows.{tests, literal-in, rule-in, RowFits};
-ghost use Rattle.marks.specs.Marks.{truth-literal, truth-rule};
+ghost use Rattle.marks.specs.Marks.{truth-test, truth-literal, truth-rule};
 ghost use Rattle.judging.specs.inner.Known.{Known, known, marks-of, Truths, Three};
 use rows::NUMBERS;
 use rows::UNDER_NOT;
@@ -56,35 +57,42 @@ pub fn truth_of(
     truth
 }
 
+// What a test comes to, by its number without what it has more under NOT.
+fn test_truth(number: u16, truth: &[u8; WITHOUT_NOT]) -> Truth3
+    requires { ⌜ (number < 2 * pair-places) × Three (now truth) ⌝ }
+    ensures { λ r. ⌜ ((S : List ℕ) (k : Known) (x : ℕ) → Truths S k → now (truth .entry) ≡ k .truth → x % (2 * pair-places) ≡ number → r ≡ truth-test S (marks-of k) (literal-of (literal-in x))) ⌝ }
+{
+    let at = wide(number);
+    numbered(truth[at])
+}
+
 // What a literal comes to, by the number of its test.
-pub fn literal_truth(number: u16, truth: &[u8; WITHOUT_NOT]) -> Truth3
+fn literal_truth(number: u16, truth: &[u8; WITHOUT_NOT]) -> Truth3
     requires { ⌜ (number < tests) × Three (now truth) ⌝ }
     ensures { λ r. ⌜ ((S : List ℕ) (k : Known) → Truths S k → now (truth .entry) ≡ k .truth → r ≡ truth-literal S (marks-of k) (literal-of (literal-in number))) ⌝ }
 {
-    let at = wide(number % UNDER_NOT);
-    let test = numbered(truth[at]);
-    if number / UNDER_NOT == 1 {
-        not(test)
-    } else {
-        test
-    }
+    let test = test_truth(number % UNDER_NOT, truth);
+    if UNDER_NOT <= number { not(test) } else { test }
 }
 
-// What a rule comes to: its trigger and its literals joined by AND, as far as the first False, which decides.
+// What a rule comes to: its trigger and its literals joined by AND; the first False decides.
 pub fn rule_truth(row: &[u16; NUMBERS], truth: &[u8; WITHOUT_NOT]) -> Truth3
     requires { ⌜ RowFits (now row) × Three (now truth) ⌝ }
     ensures { λ r. ⌜ ((S : List ℕ) (k : Known) → Truths S k → now (truth .entry) ≡ k .truth → r ≡ truth-rule S (marks-of k) (rule-of (rule-in (now (row .entry))))) ⌝ }
 {
     let trigger = rows::trigger(row);
-    let mut joined = literal_truth(trigger, truth);
+    let mut joined = test_truth(trigger, truth);
+    if let Truth3::False = joined {
+        return Truth3::False;
+    }
     let m = rows::tested(row);
     let mut j: usize = 0;
     'literals: while j < m {
-        if let Truth3::False = joined {
-            return Truth3::False;
-        }
         let number = rows::literal(row, j);
         let x = literal_truth(number, truth);
+        if let Truth3::False = x {
+            return Truth3::False;
+        }
         joined = and(joined, x);
         j += 1;
     }

@@ -5,9 +5,9 @@ ghost use Rattle.truths.specs.Truths.{NOT₃, _AND₃_, number};
 
 // What the evaluation of a test, a literal, a condition or a rule gives.
 pub enum Truth3 {
-    True,
     False,
     Unknown,
+    True,
 }
 
 // [NOT p] is True if p is False.

@@ -1,62 +1,38 @@
 -- `judging::truth::literal_truth` meets its contract.
 -- Assumes nothing.
-use mathlib.Core.Path.{_≡_, sym, ap, _∙_}
-use mathlib.Core.List.{List}
-use Prim.Native.Nat.{ℕ}
-use lib.ListN.{getD}
+use mathlib.Core.Path.{_≡_, refl, ap, _∙_}
+use Prim.Native.Nat.{_*_, _/_}
 use borrow.Author.Tests.{eq-eqb, ne-eqb}
-use Rattle.truths.specs.Truths.{NOT₃, number}
-use Rattle.truths.proofs.Laws.{number-one}
+use Rattle.truths.specs.Truths.{NOT₃}
 use Rattle.table.specs.Link.{literal-of}
+use Rattle.table.specs.inner.Flat.{pair-places}
 use Rattle.rows.specs.inner.Rows.{literal-in}
-use Rattle.marks.specs.Marks.{truth-test}
-use Rattle.judging.specs.inner.Known.{Known, marks-of, Truths, Three}
-use Rattle.judging.proofs.Tests.{literal-not, literal-plain, test-at}
+use Rattle.judging.specs.inner.Known.{marks-of}
+use Rattle.judging.proofs.Tests.{literal-not, literal-plain}
+use native.Mathlib.Omega.{arith}
 use borrow.Author.Needs.{needs}
 use Rattle.judging.proofs.truth.literal_truth.Statement.{statement}
 use Rattle.judging.proofs.truth.literal_truth.Tie as tie
 
--- What is read is the test of the literal, without its NOT.
-test-is : (c : tie.After-numbered) (S : List ℕ) (k : Known) → Truths S k → c .before .before .before .args .truth .now ≡ k .truth
-    → c .numbered .result ≡ truth-test S (marks-of k) (literal-of (literal-in (c .before .before .before .args .number)))
-test-is c S k t e =
-    let w = c .before .before .wide in
-    let x = c .before .before .before .args .number in
-    let read : getD (c .before .before .before .args .truth .now) (w .result) 0 ≡ number (truth-test S (marks-of k) (literal-of (literal-in x))) = rw (w .ensures, e) (test-at S k x t) in
-    number-one (c .numbered .result) (truth-test S (marks-of k) (literal-of (literal-in x))) (sym (c .numbered .ensures) ∙ read)
-
-wide-requires : tie.Need-wide-requires
-wide-requires c κs = search needs
-
-element-copy-out-numbered : tie.Need-element-copy-out-numbered
-element-copy-out-numbered c = search needs
-
-numbered-requires : tie.Need-numbered-requires
-unfolding Three
-numbered-requires c κs = c .before .before .pre .1 (c .before .wide .result)
+test-truth-requires : tie.Need-test-truth-requires
+test-truth-requires c κs = search needs
 
 not-requires : tie.Need-not-requires
 not-requires c κs = search needs
 
 returns : tie.Need-returns
 returns c =
-    let n = c .before .before in
-    let l = literal-of (literal-in (n .before .before .before .args .number)) in
-    λ S k t e. c .not .ensures .0 ∙ ap NOT₃ (test-is n S k t e) ∙ literal-not S (marks-of k) l (eq-eqb _ _ (c .before .if1 .taken))
+    let t = c .before .before in
+    let x = t .before .args .number in
+    let under : x / (2 * pair-places) ≡ 1 = omega (arith, t .before .pre .0, c .before .if1 .taken) in
+    λ S k h e. c .not .ensures .0 ∙ ap NOT₃ (t .test-truth .ensures S k x h e refl) ∙ literal-not S (marks-of k) (literal-of (literal-in x)) (eq-eqb (x / (2 * pair-places)) 1 under)
 
 returns-2 : tie.Need-returns-2
 returns-2 c =
-    let n = c .before in
-    let l = literal-of (literal-in (n .before .before .before .args .number)) in
-    λ S k t e. test-is n S k t e ∙ literal-plain S (marks-of k) l (ne-eqb _ _ (c .if1 .left))
+    let t = c .before in
+    let x = t .before .args .number in
+    λ S k h e. t .test-truth .ensures S k x h e refl ∙ literal-plain S (marks-of k) (literal-of (literal-in x)) (ne-eqb (x / (2 * pair-places)) 1 (λ (z : x / (2 * pair-places) ≡ 1). omega (arith, z, c .if1 .left)))
 
 pub literal-truth-spec : {M : Type 1} → statement M
 literal-truth-spec =
-    tie.close
-    (tie.spec
-    wide-requires
-    element-copy-out-numbered
-    numbered-requires
-    not-requires
-    returns
-    returns-2)
+    tie.close (tie.spec test-truth-requires not-requires returns returns-2)
