@@ -93,7 +93,7 @@ pub fn rule_truth(row: &[u16; NUMBERS], truth: &[u8; WITHOUT_NOT]) -> Truth3
         if let Truth3::False = x {
             return Truth3::False;
         }
-        joined = and(joined, x);
+        joined = and(x, joined);
         j += 1;
     }
     joined

@@ -236,10 +236,10 @@ pub fn all_known(
         'values: while v < count {
             v += 1;
             let at = first + v;
-            if positive[at] {
+            if negative[at] {
                 continue 'values;
             }
-            if negative[at] {
+            if positive[at] {
                 continue 'values;
             }
             return false;

@@ -60,7 +60,7 @@ pub fn select(
     let mut negative = first_negative(width, counts, &live, positive);
     let mut truth = truth_of(card, positive, &negative);
     let mut dead: [bool; RULES] = [false; RULES];
-    let mut queued: [bool; RULES] = [true; RULES];
+    let mut queued: [bool; RULES] = [false; RULES];
     let mut woken: [u16; RULES] = [0; RULES];
     let mut moved = true;
     'sweeps: while moved {

@@ -92,7 +92,7 @@ and-false False = refl
 and-false Unknown = refl
 
 -- AND looks neither at the order of two
-pub and-comm : (p q : Truth3) → p AND₃ q ≡ q AND₃ p
+and-comm : (p q : Truth3) → p AND₃ q ≡ q AND₃ p
 unfolding by-cases
 and-comm True True = refl
 and-comm True False = refl

@@ -77,7 +77,7 @@ values-again c =
     let q = s .args .negative .now in
     let x = i .before .slots .s in
     let at = x * row + (a .values .v + 1) in
-    (search needs, up-to-value (s .args .counts .now) (IsMarked p q) x (a .values .v) (is-true _ (or-l (getD p at false) (getD q at false) (from-true _ (c .if1 .taken)))) (a .values .inv .1))
+    (search needs, up-to-value (s .args .counts .now) (IsMarked p q) x (a .values .v) (is-true _ (or-r (getD p at false) (getD q at false) (from-true _ (c .if1 .taken)))) (a .values .inv .1))
 
 element-copy-out-if2 : tie.Need-element-copy-out-if2 Inv-values μ-values Inv-slots μ-slots
 element-copy-out-if2 c = let h = inside (c .before .before) in omega (arith, h .0, h .1)
@@ -94,7 +94,7 @@ values-again-2 c =
     let q = s .args .negative .now in
     let x = i .before .slots .s in
     let at = x * row + (a .values .v + 1) in
-    (search needs, up-to-value (s .args .counts .now) (IsMarked p q) x (a .values .v) (is-true _ (or-r (getD p at false) (getD q at false) (from-true _ (c .if2 .taken)))) (a .values .inv .1))
+    (search needs, up-to-value (s .args .counts .now) (IsMarked p q) x (a .values .v) (is-true _ (or-l (getD p at false) (getD q at false) (from-true _ (c .if2 .taken)))) (a .values .inv .1))
 
 returns : tie.Need-returns Inv-values μ-values Inv-slots μ-slots
 unfolding _∨ᵇ_
@@ -109,7 +109,7 @@ returns c =
         in-width = i .slots-test .taken;
         from-one = omega arith;
         in-count = omega (arith, n .values-test .taken);
-        neither = rw (c .before .before .if1 .left) (c .if2 .left);
+        neither = rw (c .if2 .left) (c .before .before .if1 .left);
       },
     )
 
