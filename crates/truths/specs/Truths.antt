@@ -6,16 +6,16 @@ use Rattle.truths.specs.declared.Truth3.the-variants.{True, False, Unkno
 
 -- [NOT p] is True if p is False.
 -- [NOT p] is False if p is True.
--- It is Unknown otherwise.
+-- [NOT p] is Unknown otherwise.
 unfoldable pub NOT₃ : Truth3 → Truth3
 NOT₃ False = True
 NOT₃ True = False
 NOT₃ Unknown = Unknown
 
 infixl 35 _AND₃_
--- [p AND q] is True if both are True.
+-- [p AND q] is True if both of them are True.
 -- [p AND q] is False if one of them is False.
--- It is Unknown otherwise.
+-- [p AND q] is Unknown otherwise.
 unfoldable pub _AND₃_ : Truth3 → Truth3 → Truth3
 True AND₃ True = True
 True AND₃ False = False

@@ -1,9 +1,9 @@
-// The three truth values of the RL paper, section 6.1: the cases of NOT and AND in the section's order, for a reviewer to tick off, and the three by number.
+// The three truth values of the RL paper, section 6.1: the cases of NOT and AND, for a reviewer to tick off, and the three by number.
 ghost use mathlib.Core.Path.{_≡_};
 ghost use Prim.Native.Nat.{_-_, _≤_, min};
 ghost use Rattle.truths.specs.Truths.{NOT₃, _AND₃_, number};
 
-// What the evaluation of a test, a literal, a condition or a rule gives.
+// What the evaluation of a test, a literal, a condition or a rule gives; they stand in the order of their numbers.
 pub enum Truth3 {
     False,
     Unknown,
@@ -12,38 +12,38 @@ pub enum Truth3 {
 
 // [NOT p] is True if p is False.
 // [NOT p] is False if p is True.
-// It is Unknown otherwise.
+// [NOT p] is Unknown otherwise.
 pub fn not(p: Truth3) -> Truth3
     ensures { λ r. ⌜ (r ≡ NOT₃ p) × (number r ≡ 2 - number p) ⌝ }
 {
     match p {
-        Truth3::False => Truth3::True,
-        Truth3::True => Truth3::False,
-        Truth3::Unknown => Truth3::Unknown,
+        Truth3::False => Truth3::True, // NOT False
+        Truth3::True => Truth3::False, // NOT True
+        Truth3::Unknown => Truth3::Unknown, // NOT Unknown
     }
 }
 
-// [p AND q] is True if both are True.
+// [p AND q] is True if both of them are True.
 // [p AND q] is False if one of them is False.
-// It is Unknown otherwise.
+// [p AND q] is Unknown otherwise.
 pub fn and(p: Truth3, q: Truth3) -> Truth3
     ensures { λ r. ⌜ (r ≡ p AND₃ q) × (number r ≡ min (number p) (number q)) ⌝ }
 {
     match p {
         Truth3::True => match q {
-            Truth3::True => Truth3::True,
-            Truth3::False => Truth3::False,
-            Truth3::Unknown => Truth3::Unknown,
+            Truth3::True => Truth3::True, // True AND True
+            Truth3::False => Truth3::False, // True AND False
+            Truth3::Unknown => Truth3::Unknown, // True AND Unknown
         },
         Truth3::False => match q {
-            Truth3::True => Truth3::False,
-            Truth3::False => Truth3::False,
-            Truth3::Unknown => Truth3::False,
+            Truth3::True => Truth3::False, // False AND True
+            Truth3::False => Truth3::False, // False AND False
+            Truth3::Unknown => Truth3::False, // False AND Unknown
         },
         Truth3::Unknown => match q {
-            Truth3::True => Truth3::Unknown,
-            Truth3::False => Truth3::False,
-            Truth3::Unknown => Truth3::Unknown,
+            Truth3::True => Truth3::Unknown, // Unknown AND True
+            Truth3::False => Truth3::False, // Unknown AND False
+            Truth3::Unknown => Truth3::Unknown, // Unknown AND Unknown
         },
     }
 }
