@@ -2,7 +2,7 @@
 
 use crate::editors::Tally;
 use crate::fault::Fault;
-use crate::marks::{self, had, not, Mark, Marks, Moment, Truth};
+use crate::marks::{self, and, had, not, Mark, Marks, Moment, Truth};
 use crate::read::{read, read_unlayered};
 use crate::response::{self, answered, counted, enabled, fire, outcome, Answer, Firing, Outputs};
 use crate::strata::strata;
@@ -64,6 +64,16 @@ fn truths(fault: Fault, card: &[u8], marks: &Marks, rule: &Rule) -> Vec<Truth> {
     std::iter::once(becomes(fault, card, marks, rule.trigger)).chain(literals).collect()
 }
 
+/// What truths come to by the fault, joined two by two from the front.
+fn joined(fault: Fault, truths: &[Truth]) -> Truth {
+    truths.iter().fold(Truth::True, |before, truth| match (fault, before, *truth) {
+        (Fault::UnknownAndFalse, Truth::Unknown, Truth::False) => Truth::Unknown,
+        (Fault::FalseAndUnknown, Truth::False, Truth::Unknown) => Truth::Unknown,
+        (Fault::TrueAndUnknown, Truth::True, Truth::Unknown) => Truth::True,
+        (_, before, truth) => and([before, truth]),
+    })
+}
+
 /// Whether an unknown pair may be ruled out by the fault.
 fn may_rule_out(fault: Fault, rules: &[Rule], card: &[u8], moment: &Moment, pair: Pair) -> bool {
     let mut assigning: Vec<&Rule> = rules.iter().filter(|rule| rule.assignments.contains(&pair)).collect();
@@ -74,7 +84,7 @@ fn may_rule_out(fault: Fault, rules: &[Rule], card: &[u8], moment: &Moment, pair
         _ => {}
     }
     let unseen = usize::from(fault == Fault::TriggerUnseen);
-    let is_false = |rule: &Rule| truths(fault, card, &moment.marks, rule)[unseen..].contains(&Truth::False);
+    let is_false = |rule: &Rule| joined(fault, &truths(fault, card, &moment.marks, rule)[unseen..]) == Truth::False;
     assigning.into_iter().all(is_false)
 }
 
@@ -139,8 +149,8 @@ fn selection(fault: Fault, program: &Program, card: &[u8], slip: &[Pair]) -> Mom
         let may_fire = |at: &usize| {
             let mut brought = rules[*at].assignments.iter();
             let idle = fault == Fault::MarkedIdle && brought.all(|pair| moment.marks.of(*pair) == Mark::Positive);
-            let mut truths = truths(fault, card, &moment.marks, &rules[*at]).into_iter();
-            !moment.clash && !moment.fired.contains(at) && !idle && truths.all(|truth| truth == Truth::True)
+            let is_true = joined(fault, &truths(fault, card, &moment.marks, &rules[*at])) == Truth::True;
+            !moment.clash && !moment.fired.contains(at) && !idle && is_true
         };
         match (0..rules.len()).find(may_fire) {
             Some(at) => {

@@ -253,6 +253,12 @@ faults! {
     UnknownLiteralFalse,
     /// A literal on an unknown pair is true under NOT.
     UnknownNotTrue,
+    /// An unknown test with a false one after it is unknown.
+    UnknownAndFalse,
+    /// A false test with an unknown one after it is unknown.
+    FalseAndUnknown,
+    /// True tests with an unknown one after them are true.
+    TrueAndUnknown,
     /// By marks, `s *= v` goes by the mark alone where the card has v.
     HadByMark,
     /// A pair is ruled out though the last rule that assigns it is not false.

@@ -1,4 +1,4 @@
-//! Section 3 of document 02 by experiment: all orders of selection end alike and as the response by marks does; firing orders, the strata response and rearranged files agree with its answers.
+//! Sections 3 and 5 of document 02 by experiment: all orders of selection end alike and as the response by marks does; firing orders, the strata response, rearranged files and files with their literals in another order agree with it.
 
 use std::collections::BTreeSet;
 
@@ -7,6 +7,7 @@ use crate::engine::{Engine, Way};
 use crate::firing_checks::{check_rearranged, fired_positions, given, given_by, Given};
 use crate::gen::{card_values, plain_file, slip_changes, File, Rng};
 use crate::gen_marks::small;
+use crate::gen_text::Sketch;
 use crate::marks::{decided, Mark, Moment};
 use crate::orders::{complete_orders, complete_sets, consistent_ends};
 use crate::other_strata::falling;
@@ -54,9 +55,10 @@ pub struct MarkCounts {
     pub unknown_conflicts: usize,
 }
 
-/// A file with what is asked of it: its program, its table as read without test 18, and a card and a slip.
+/// A file with what is asked of it: its sketch, its program, its table as read without test 18, and a card and a slip.
 struct Asked<'a> {
     text: &'a [u8],
+    sketch: &'a Sketch,
     program: &'a Program,
     table: &'a Table,
     card: &'a [u8],
@@ -173,6 +175,24 @@ fn check_strata(engine: &mut dyn Engine, asked: &Asked, ours: &Given, counts: &m
     Ok(())
 }
 
+/// A file with the literals of each condition in another order.
+fn moved_literals(rng: &mut Rng, sketch: &Sketch) -> File {
+    let mut moved = sketch.clone();
+    moved.rules.iter_mut().for_each(|rule| rng.shuffle(&mut rule.literals));
+    plain_file(rng, moved)
+}
+
+/// Checks that the file with its literals in another order gives the same.
+fn check_moved(engine: &mut dyn Engine, asked: &Asked, given: &Given, rng: &mut Rng) -> Result<(), String> {
+    let moved = moved_literals(rng, asked.sketch);
+    let (refused, table) = engine.read_unlayered(&moved.text);
+    let (card, slip) = asked.packed();
+    let other = given_by(engine, Way::Marks, &table, &card, &slip);
+    let same = refused.is_none() && other == *given;
+    let text = String::from_utf8_lossy(&moved.text);
+    demand(same, || format!("with literals in another order {refused:?} {other:?}, not {given:?}\n{text}"))
+}
+
 /// Checks one card and slip of a file; what fails is said.
 fn check(engine: &mut dyn Engine, asked: &Asked, rng: &mut Rng, counts: &mut MarkCounts) -> Result<(), String> {
     let (card, slip) = asked.packed();
@@ -180,6 +200,7 @@ fn check(engine: &mut dyn Engine, asked: &Asked, rng: &mut Rng, counts: &mut Mar
     check_selections(asked, &given, rng, counts)?;
     check_firing(asked, &given, counts)?;
     check_strata(engine, asked, &given, counts)?;
+    check_moved(engine, asked, &given, rng)?;
     check_rearranged(engine, Way::Marks, asked.text, asked.table, (&card, &slip), rng)
 }
 
@@ -203,7 +224,8 @@ pub fn check_small(engine: &mut dyn Engine, seed: u64, counts: &mut MarkCounts) 
     for _ in 0..4 {
         let card = card_values(&mut rng, &file.sketch);
         let slip = slip_changes(&mut rng, &file.sketch);
-        let asked = Asked { text: &file.text, program: &program, table: &table, card: &card, slip: &slip };
+        let File { text, sketch } = &file;
+        let asked = Asked { text, sketch, program: &program, table: &table, card: &card, slip: &slip };
         let checked = check(engine, &asked, &mut rng, counts);
         checked.map_err(|why| format!("{}\ncard {card:?} slip {slip:?}", said(why)))?;
     }

@@ -108,20 +108,37 @@ pub fn truth(card: &[u8], marks: &Marks, literal: &Literal) -> Truth {
     }
 }
 
-/// The truths of a rule's trigger and literals.
-fn truths<'a>(card: &'a [u8], marks: &'a Marks, rule: &'a Rule) -> impl Iterator<Item = Truth> + 'a {
+/// What truths come to that AND joins: true where all of them are, false where one of them is, and unknown otherwise.
+pub fn and(truths: impl IntoIterator<Item = Truth>) -> Truth {
+    let mut unknown = false;
+    for truth in truths {
+        match truth {
+            Truth::True => {}
+            Truth::False => return Truth::False,
+            Truth::Unknown => unknown = true,
+        }
+    }
+    if unknown {
+        Truth::Unknown
+    } else {
+        Truth::True
+    }
+}
+
+/// The truth of a rule: its trigger and its literals joined by AND.
+pub fn rule_truth(card: &[u8], marks: &Marks, rule: &Rule) -> Truth {
     let literals = rule.literals.iter().map(|literal| truth(card, marks, literal));
-    std::iter::once(becomes(card, marks, rule.trigger)).chain(literals)
+    and(std::iter::once(becomes(card, marks, rule.trigger)).chain(literals))
 }
 
-/// Whether a rule is 3-enabled: trigger and all literals are true.
+/// Whether a rule is 3-enabled.
 pub fn is_true(card: &[u8], marks: &Marks, rule: &Rule) -> bool {
-    truths(card, marks, rule).all(|truth| truth == Truth::True)
+    rule_truth(card, marks, rule) == Truth::True
 }
 
-/// Whether a rule is 3-non-enabled: trigger or a literal is false.
+/// Whether a rule is 3-non-enabled.
 pub fn is_false(card: &[u8], marks: &Marks, rule: &Rule) -> bool {
-    truths(card, marks, rule).any(|truth| truth == Truth::False)
+    rule_truth(card, marks, rule) == Truth::False
 }
 
 /// Whether a pair may be ruled out: it is unknown, and no rule assigns it, or every rule that does is false.

@@ -7,6 +7,7 @@ use second::engine::{Engine, Second, Way};
 use second::fault::Fault;
 use second::firing_checks::{given, given_by, Given};
 use second::mark_checks::{check_small, MarkCounts};
+use second::marks::{and, not, Truth};
 use second::program_cases::{A, B, C, D, E, H, SLOTS, X_TO_1, Y_TO_1, ZEROS, Z_TO_1};
 use second::read::{read, read_unlayered};
 use second::response::Outputs;
@@ -196,10 +197,48 @@ fn clash_and_unknown_come_last_and_are_counted() {
     assert_eq!(response(&[A], (4, 5), &ZEROS, rooms), ((5, 5), Ok(3)));
 }
 
+/// False, unknown and true as 0, 1 and 2.
+fn number(truth: Truth) -> u8 {
+    match truth {
+        Truth::False => 0,
+        Truth::Unknown => 1,
+        Truth::True => 2,
+    }
+}
+
+/// All lists of so many truths.
+fn lists(length: usize) -> Vec<Vec<Truth>> {
+    let longer =
+        |list: Vec<Truth>| [Truth::True, Truth::False, Truth::Unknown].map(|truth| [&list[..], &[truth]].concat());
+    (0..length).fold(vec![Vec::new()], |lists, _| lists.into_iter().flat_map(longer).collect())
+}
+
+/// All orders of a list.
+fn orders(list: &[Truth]) -> Vec<Vec<Truth>> {
+    let Some((first, rest)) = list.split_first() else {
+        return vec![Vec::new()];
+    };
+    let placed = |order: Vec<Truth>| {
+        (0..=order.len()).map(move |at| [&order[..at], &[*first], &order[at..]].concat()).collect::<Vec<_>>()
+    };
+    orders(rest).into_iter().flat_map(placed).collect()
+}
+
+#[test]
+fn and_is_the_smaller_in_any_order_and_not_is_two_minus() {
+    for list in (0..6).flat_map(lists) {
+        let least = list.iter().map(|truth| number(*truth)).min().unwrap_or(2);
+        assert!(orders(&list).into_iter().all(|order| number(and(order)) == least), "{list:?}");
+    }
+    assert!([Truth::True, Truth::False, Truth::Unknown]
+        .into_iter()
+        .all(|truth| number(not(truth)) == 2 - number(truth)));
+}
+
 #[test]
 fn orders_of_selection_and_firing_orders_agree_with_the_response() {
     let mut counts = MarkCounts::default();
-    (1..1_500).for_each(|seed| check_small(&mut Second, seed, &mut counts).unwrap());
+    (1..2_500).for_each(|seed| check_small(&mut Second, seed, &mut counts).unwrap());
     println!("{counts:?}");
     for outcomes in [&counts.circled, &counts.layered] {
         assert!(outcomes.answers > 200 && outcomes.clashes > 100 && outcomes.unknowns > 100, "{counts:?}");
@@ -227,6 +266,9 @@ fn broken_responses_are_not_what_the_orders_come_to() {
         Fault::UnknownAsFalse,
         Fault::UnknownLiteralFalse,
         Fault::UnknownNotTrue,
+        Fault::UnknownAndFalse,
+        Fault::FalseAndUnknown,
+        Fault::TrueAndUnknown,
         Fault::HadByMark,
         Fault::AssignerUnseen,
         Fault::TriggerUnseen,
