@@ -1,5 +1,5 @@
 #!/usr/bin/env python3
-"""The stored cases of the response by marks, and what the library should say of them, by a reckoning of its own made from section 3 of document 02 and section 6 of document 002.
+"""The stored cases of the response by marks, and what the library should say of them, by a reckoning of its own made from sections 3 and 5 of document 02 and section 6 of document 002.
 
   tests/mark_cases.py          writes tests/stored/marks/input and expected
   tests/mark_cases.py --check  says whether they are what it would write; exit status 1 where they are not
@@ -200,8 +200,19 @@ def by_chance():
         yield (counts, rules, card, sorted(slip.items()))
 
 
+def listed():
+    """Section 5 of document 02: a rule with each two of a true, a false and an unknown literal, in either order, and with one of them under NOT; the unknown ones ask of what the rule brings itself."""
+    true, false, unknown = (0, 0, 1, 1), (0, 0, 1, 2), (1, 1, 2, 2)
+    for first in (true, false, unknown):
+        for second in (true, false, unknown):
+            yield from files(([(X, [first, second], [Z], 0)], ZEROS, [X]))
+    for becomes, negated, s, v in (true, false, unknown):
+        for other in ([], [true], [false], [unknown]):
+            yield from files(([(X, [(becomes, 1 - negated, s, v)] + other, [Z], 0)], ZEROS, [X]))
+
+
 def cases():
-    for part in (documents, chains, by_chance):
+    for part in (documents, chains, by_chance, listed):
         yield from part()
 
 
