@@ -3,13 +3,13 @@
 use Prim.Native.Nat.{ℕ, zero, suc, _+_, _≤_, _<_}
 use native.Mathlib.Omega.{arith}
 use mathlib.Core.Path.{_≡_, refl, ap, _∙_}
-use mathlib.Core.Bool.{Bool, cond}
+use mathlib.Core.Bool.{cond}
 use mathlib.Core.List.{List, [], _∷_}
 use mathlib.Core.Logic.{⊎-elim}
 use lib.Dec.{leb}
 use lib.ListN.{length, getD, List·getD-eq-default}
 use Rattle.laws.specs.Truth.{_∧ᵇ_, notᵇ}
-use Rattle.laws.specs.Numbers.{Numbered, some-of}
+use Rattle.laws.specs.Numbers.{some-of}
 use Rattle.laws.specs.Listed.{all-of}
 use Rattle.laws.specs.Rearranged.{Perm, p-nil, p-skip, p-swap, p-trans}
 use Rattle.laws.proofs.Truth.{le-or-lt}
@@ -35,7 +35,7 @@ pub rule-any-order : (S : List ℕ) (Z : Marks) (r r′ : Rule) → LiteralsMove
 unfolding truth-rule
 rule-any-order S Z r r′ m = λ i. truth-turns S Z (m .same-trigger i) AND₃ condition-any-order S Z (r .literals) (r′ .literals) (m .moved-literals) i
 
--- No rule is itself.
+-- What stands where there is no rule differs in nothing from itself.
 no-literals : LiteralsMoved no-rule no-rule
 unfolding no-rule
 no-literals = record { same-trigger = refl; moved-literals = p-nil; same-assignments = refl }

@@ -1,6 +1,7 @@
 pub mod Cases
 pub mod CasePrints
 pub mod MarkCases
+pub mod TruthCases
 pub mod Callers
 pub mod Refusals
 pub mod Judged

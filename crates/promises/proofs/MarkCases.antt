@@ -34,16 +34,16 @@ use Rattle.promises.specs.Agreement.{InConflict}
 use Rattle.promises.proofs.Cases.{lists, all-0, no-values, x-to-1, y-to-1, rule-a, rule-c}
 
 -- `unfolding runs-marks` opens all that a response by marks runs.
-unfoldable runs-marks : Unit {0}
+unfoldable pub runs-marks : Unit {0}
 unfolding lists selects-all stratum-0 unless-refused answer-by-marks outcome-of response-in outputs-after
 runs-marks = tt
 
 -- Editor 15 calls, and the records lent are fresh.
-abbrev editor-15 : Editors
+abbrev pub editor-15 : Editors
 editor-15 = lent fresh-records 15
 
 -- The outputs lent: each is one byte longer than it must be, and all its bytes are 255.
-abbrev lent-outputs : Outputs
+abbrev pub lent-outputs : Outputs
 lent-outputs = outputs (replicate 4 255) (replicate 38 255) (replicate 2 255)
 
 -- What a case comes to: the numbers of the reading with test 18 and of that without it, the outcome of the response by marks and the records after it, and the outputs.
@@ -55,7 +55,7 @@ pub record Came : Type 0 where
   pub left : Outputs
 
 -- It is computed by the entry points' definitions.
-abbrev came : List ℕ → List ℕ → List ℕ → Came
+abbrev pub came : List ℕ → List ℕ → List ℕ → Came
 came text card slip = record {
   with-18 = reading-refusal (reading text .outcome) ∷ reading-second (reading text .outcome) ∷ [];
   without-18 = reading-refusal (reading-without-18 text .outcome) ∷ reading-second (reading-without-18 text .outcome) ∷ [];
@@ -65,14 +65,14 @@ came text card slip = record {
 }
 
 -- The records once the fifteenth holds these counts.
-abbrev fifteenth : ℕ → ℕ → List Tally
+abbrev pub fifteenth : ℕ → ℕ → List Tally
 fifteenth a r = replicate 14 fresh ++ record { answered = a; refused = r } ∷ replicate 25 fresh
 
 -- An answer of so many bytes of changes and so many rules fired, where the reading with test 18 gives these numbers; and a refusal, which leaves the outputs. Each is counted in the fifteenth record alone.
-abbrev answers : List ℕ → ℕ → ℕ → Outputs → Came
+abbrev pub answers : List ℕ → ℕ → ℕ → Outputs → Came
 answers numbers n k left = record { with-18 = numbers; without-18 = 0 ∷ 0 ∷ []; outcome = Answered n k; records = fifteenth 1 0; left = left }
 
-abbrev refuses : List ℕ → ℕ → Came
+abbrev pub refuses : List ℕ → ℕ → Came
 refuses numbers k = record { with-18 = numbers; without-18 = 0 ∷ 0 ∷ []; outcome = Refused k 0; records = fifteenth 0 1; left = lent-outputs }
 
 -- A case: a text, a card and a slip, and what it comes to.
@@ -82,7 +82,7 @@ pub record MarkCase : Type 0 where
   pub slip : List ℕ
   pub comes-to : Came
 
-abbrev case : List ℕ → List ℕ → List ℕ → Came → MarkCase
+abbrev pub case : List ℕ → List ℕ → List ℕ → Came → MarkCase
 case text card slip u = record { text = text; card = card; slip = slip; comes-to = u }
 
 -- The slip that sets x to 1 and y to 1, and the card that has 1 in z alone.

@@ -10,7 +10,7 @@ use lib.ListN.{length}
 use Rattle.laws.specs.Truth.{_∧ᵇ_, _∨ᵇ_, notᵇ}
 use Rattle.laws.specs.Numbers.{Numbered}
 use Rattle.laws.proofs.Truth.{bool-ext, and-l, and-r, and-i, or-l, or-r, or-e, not-i, not-e, stable}
-use Rattle.model.specs.Rules.{Pair, Pairs, Rule, same, among}
+use Rattle.model.specs.Rules.{Pair, Pairs, Rule, among}
 use Rattle.model.specs.Orders.{rule-at}
 use Rattle.model.proofs.Pairs.{same-refl, same-eq}
 use Rattle.truths.specs.Truths.{is-false}
