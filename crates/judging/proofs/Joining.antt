@@ -1,6 +1,6 @@
 -- Laws of what a rule comes to, found literal by literal.
 -- Assumes nothing.
-use mathlib.Core.Path.{_≡_, sym, ap, subst, _∙_}
+use mathlib.Core.Path.{_≡_, sym, ap, _∙_}
 use mathlib.Core.List.{List, _∷_}
 use Prim.Native.Nat.{ℕ, _+_, _≤_, _<_}
 use native.Mathlib.Omega.{arith}
@@ -15,7 +15,7 @@ use Rattle.truths.specs.declared.Truth3.{Truth3}
 use Rattle.truths.specs.declared.Truth3.the-variants.{False}
 use Rattle.truths.specs.Truths.{_AND₃_}
 use Rattle.marks.specs.Marks.{Marks, truth-turns, truth-literal, truth-condition, truth-rule}
-use Rattle.truths.proofs.Laws.{and-true, and-false, and-assoc, and-swap}
+use Rattle.truths.proofs.Laws.{and-true, and-false, and-assoc}
 
 -- The next literal of a row by its number.
 row-literals-next : (row : List ℕ) → RowFits row → (j x : ℕ) → j < rule-in row .tested → x ≡ getD row (4 + j) 0 → literals-from (rule-in row) j ≡ literal-of (literal-in x) ∷ literals-from (rule-in row) (j + 1)
@@ -43,15 +43,9 @@ module _ (S : List ℕ) (Z : Marks) (r : Rule) where
   unfolding Joined truth-condition
   joined-end j joined h w = sym (and-true joined) ∙ (rw (literals-end r j h) at w)
 
-module _ (S : List ℕ) (Z : Marks) (row : List ℕ) (fits : RowFits row) (j x : ℕ) (h : j < rule-in row .tested) (e : x ≡ getD row (4 + j) 0) (joined : Truth3) (w : Joined S Z (rule-in row) j joined) where
-  -- The next literal is joined;
-  pub joined-next : Joined S Z (rule-in row) (j + 1) (truth-literal S Z (literal-of (literal-in x)) AND₃ joined)
-  unfolding Joined truth-condition
-  joined-next =
-      let l = truth-literal S Z (literal-of (literal-in x)) in
-      let rest = truth-condition S Z (literals-from (rule-in row) (j + 1)) in
-      sym (and-assoc l joined rest) ∙ and-swap l joined rest ∙ (rw (row-literals-next row fits j x h e) at w)
-
-  -- it decides where it is False.
-  pub literal-decides : truth-literal S Z (literal-of (literal-in x)) ≡ False → False ≡ truth-rule S Z (rule-of (rule-in row))
-  literal-decides f = joined-false S Z (rule-in row) (j + 1) (subst (Joined S Z (rule-in row) (j + 1)) (ap (λ (t : Truth3). t AND₃ joined) f ∙ and-false joined) joined-next)
+-- The next literal is joined.
+pub joined-next : (S : List ℕ) (Z : Marks) (row : List ℕ) → RowFits row → (j x : ℕ) → j < rule-in row .tested → x ≡ getD row (4 + j) 0 → (joined : Truth3) → Joined S Z (rule-in row) j joined
+    → Joined S Z (rule-in row) (j + 1) (joined AND₃ truth-literal S Z (literal-of (literal-in x)))
+unfolding Joined truth-condition
+joined-next S Z row fits j x h e joined w =
+    sym (and-assoc joined (truth-literal S Z (literal-of (literal-in x))) (truth-condition S Z (literals-from (rule-in row) (j + 1)))) ∙ (rw (row-literals-next row fits j x h e) at w)

@@ -1,6 +1,6 @@
 -- Laws of the array of tests: how it is filled, and what it says of a literal.
 -- Assumes nothing.
-use mathlib.Core.Path.{_≡_, refl}
+use mathlib.Core.Path.{_≡_, refl, ap, _∙_}
 use mathlib.Core.Bool.{Bool, true, false, cond}
 use mathlib.Core.List.{List}
 use mathlib.Core.Logic.{⊎-elim}
@@ -117,20 +117,28 @@ module _ (S : List ℕ) (Z : Marks) where
   unfolding truth-literal
   literal-plain l e = rw e
 
+  -- What a test comes to does not go by what its number has more under NOT.
+  pub test-without-not : (x : ℕ) → truth-test S Z (literal-of (literal-in (x % (2 * pair-places)))) ≡ truth-test S Z (literal-of (literal-in x))
+  unfolding truth-test
+  test-without-not x =
+      let becomes : x % (2 * pair-places) / pair-places % 2 ≡ x / pair-places % 2 = omega arith in
+      let place : x % (2 * pair-places) % pair-places ≡ x % pair-places = omega arith in
+      rw (becomes, place)
+
   -- The number of a trigger is that of a `*=`.
   pub trigger-test : (x : ℕ) → x / pair-places ≡ 1 → truth-test S Z (literal-of (literal-in x)) ≡ truth-turns S Z (pair-in x)
   trigger-test x e = test-turns (literal-of (literal-in x)) (let h : x / pair-places % 2 ≡ 1 = omega arith in eq-eqb (x / pair-places % 2) 1 h)
 
--- The test of a literal, without its NOT, stands at the rest of its number.
-pub test-at : (S : List ℕ) (k : Known) (x : ℕ) → Truths S k → getD (k .truth) (x % (2 * pair-places)) 0 ≡ number (truth-test S (marks-of k) (literal-of (literal-in x)))
-test-at S k x t = go (eqb (x / pair-places % 2) 1) refl
+-- A test that is not under NOT stands at its number.
+pub test-at : (S : List ℕ) (k : Known) (x : ℕ) → x < 2 * pair-places → Truths S k → getD (k .truth) x 0 ≡ number (truth-test S (marks-of k) (literal-of (literal-in x)))
+test-at S k x h t = go (eqb (x / pair-places % 2) 1) refl
   where
-    go : (b : Bool) → eqb (x / pair-places % 2) 1 ≡ b → getD (k .truth) (x % (2 * pair-places)) 0 ≡ number (truth-test S (marks-of k) (literal-of (literal-in x)))
+    go : (b : Bool) → eqb (x / pair-places % 2) 1 ≡ b → getD (k .truth) x 0 ≡ number (truth-test S (marks-of k) (literal-of (literal-in x)))
     go true e =
         let y = eqb-true (x / pair-places % 2) 1 e in
-        let z : x % (2 * pair-places) ≡ pair-places + x % pair-places = omega arith in
-        rw (z, test-turns S (marks-of k) (literal-of (literal-in x)) e) (t .turns (x % pair-places) (omega arith))
+        let z : x ≡ pair-places + x % pair-places = omega arith in
+        ap (λ (q : ℕ). getD (k .truth) q 0) z ∙ (rw (test-turns S (marks-of k) (literal-of (literal-in x)) e) (t .turns (x % pair-places) (omega arith)))
     go false e =
         let y = eqb-false (x / pair-places % 2) 1 e in
-        let z : x % (2 * pair-places) ≡ x % pair-places = omega arith in
-        rw (z, test-had S (marks-of k) (literal-of (literal-in x)) e) (t .had (x % pair-places) (omega arith))
+        let z : x ≡ x % pair-places = omega arith in
+        ap (λ (q : ℕ). getD (k .truth) q 0) z ∙ (rw (test-had S (marks-of k) (literal-of (literal-in x)) e) (t .had (x % pair-places) (omega arith)))

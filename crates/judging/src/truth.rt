@@ -1,7 +1,7 @@
 // What tests, literals and rules come to, True, False or Unknown: the tests of a card and its marks looked up by number, NOT and AND by their cases.
 ghost use mathlib.Core.Path.{_≡_};
 ghost use mathlib.Core.List.{List};
-ghost use Prim.Native.Nat.{ℕ, _*_, _%_, _<_};
+ghost use Prim.Native.Nat.{ℕ, _*_, _<_};
 ghost use lib.ListN.{getD};
 ghost use Rattle.laws.specs.Limits.{slot-limit, row};
 ghost use Rattle.table.specs.Link.{literal-of, rule-of};
@@ -57,10 +57,10 @@ pub fn truth_of(
     truth
 }
 
-// What a test comes to, by its number without what it has more under NOT.
+// What a test comes to that is not under NOT, by its number.
 fn test_truth(number: u16, truth: &[u8; WITHOUT_NOT]) -> Truth3
     requires { ⌜ (number < 2 * pair-places) × Three (now truth) ⌝ }
-    ensures { λ r. ⌜ ((S : List ℕ) (k : Known) (x : ℕ) → Truths S k → now (truth .entry) ≡ k .truth → x % (2 * pair-places) ≡ number → r ≡ truth-test S (marks-of k) (literal-of (literal-in x))) ⌝ }
+    ensures { λ r. ⌜ ((S : List ℕ) (k : Known) → Truths S k → now (truth .entry) ≡ k .truth → r ≡ truth-test S (marks-of k) (literal-of (literal-in number))) ⌝ }
 {
     let at = wide(number);
     numbered(truth[at])
@@ -75,7 +75,7 @@ fn literal_truth(number: u16, truth: &[u8; WITHOUT_NOT]) -> Truth3
     if UNDER_NOT <= number { not(test) } else { test }
 }
 
-// What a rule comes to: its trigger and its literals joined by AND; the first False decides.
+// What a rule comes to: its trigger and its literals joined by AND, up to where that comes to False.
 pub fn rule_truth(row: &[u16; NUMBERS], truth: &[u8; WITHOUT_NOT]) -> Truth3
     requires { ⌜ RowFits (now row) × Three (now truth) ⌝ }
     ensures { λ r. ⌜ ((S : List ℕ) (k : Known) → Truths S k → now (truth .entry) ≡ k .truth → r ≡ truth-rule S (marks-of k) (rule-of (rule-in (now (row .entry))))) ⌝ }
@@ -90,10 +90,10 @@ pub fn rule_truth(row: &[u16; NUMBERS], truth: &[u8; WITHOUT_NOT]) -> Truth3
     'literals: while j < m {
         let number = rows::literal(row, j);
         let x = literal_truth(number, truth);
-        if let Truth3::False = x {
+        joined = and(joined, x);
+        if let Truth3::False = joined {
             return Truth3::False;
         }
-        joined = and(x, joined);
         j += 1;
     }
     joined

@@ -1,15 +1,14 @@
 -- `judging::truth::rule_truth` meets its contract.
 -- Assumes nothing.
-use mathlib.Core.Path.{_≡_, sym, _∙_}
+use mathlib.Core.Path.{_≡_, _∙_}
 use mathlib.Core.List.{List}
-use Prim.Native.Nat.{ℕ, _-_, _*_, _%_, _≤_, _<_}
+use Prim.Native.Nat.{ℕ, _+_, _-_, _≤_, _<_}
 use lib.ListN.{getD}
-use Rattle.table.specs.inner.Flat.{pair-places}
 use Rattle.rows.specs.inner.Rows.{rule-in}
 use Rattle.rows.proofs.Laws.{number-fits}
 use Rattle.judging.specs.inner.Known.{Known, marks-of, Truths}
 use Rattle.judging.proofs.Tests.{trigger-test}
-use Rattle.judging.proofs.Joining.{Joined, joined-start, joined-false, joined-next, literal-decides, joined-end}
+use Rattle.judging.proofs.Joining.{Joined, joined-start, joined-false, joined-next, joined-end}
 use native.Mathlib.Omega.{arith}
 use borrow.Author.Needs.{needs}
 use Rattle.judging.proofs.truth.rule_truth.Statement.{statement}
@@ -26,14 +25,26 @@ begins : (c : tie.After-test-truth Inv-literals μ-literals) (S : List ℕ) (k :
     → Joined S (marks-of k) (rule-in (c .before .before .args .row .now)) 0 (c .test-truth .result)
 begins c S k t e =
     let s = c .before .before in
-    let x = getD (s .args .row .now) 0 0 in
-    let one = s .pre .0 .trigger-becomes in
-    let rest : x % (2 * pair-places) ≡ c .before .trigger .result = rw (c .before .trigger .ensures) (omega (arith, one)) in
-    rw (c .test-truth .ensures S k x t e rest ∙ trigger-test S (marks-of k) x one) (joined-start S (marks-of k) (rule-in (s .args .row .now)))
+    let row = s .args .row .now in
+    let x = rw (c .before .trigger .ensures) at (c .test-truth .ensures S k t e) in
+    rw (x ∙ trigger-test S (marks-of k) (getD row 0 0) (s .pre .0 .trigger-becomes)) (joined-start S (marks-of k) (rule-in row))
 
 -- There is a literal at the place at hand.
 used : (c : tie.In-literals Inv-literals μ-literals) → c .before .literals .j < rule-in (c .before .before .before .before .before .before .args .row .now) .tested
 used c = omega (arith, c .before .before .tested .ensures, c .literals-test .taken)
+
+-- It is joined.
+joins : (c : tie.After-and Inv-literals μ-literals) →
+    let a = c .before .before .before .before in
+    let s = a .before .before .before .before .before in
+    (S : List ℕ) (k : Known) → Truths S k → s .args .truth .now ≡ k .truth → Joined S (marks-of k) (rule-in (s .args .row .now)) (a .literals .j + 1) (c .and .result)
+joins c S k t e =
+    let x = c .before in
+    let l = x .before in
+    let a = l .before .before in
+    let s = a .before .before .before .before .before in
+    rw (c .and .ensures .0, x .literal-truth .ensures S k t e)
+    (joined-next S (marks-of k) (s .args .row .now) (s .pre .0) (a .literals .j) (l .literal .result) (used (l .before)) (l .literal .ensures) (a .literals .joined) (a .literals .inv .1 S k t e))
 
 trigger-requires : tie.Need-trigger-requires Inv-literals μ-literals
 trigger-requires c κs = search needs
@@ -64,19 +75,18 @@ literal-truth-requires c κs =
     let s = i .before .before .before .before .before .before in
     (number-fits (s .args .row .now) (s .pre .0) (i .before .literals .j) (c .literal .result) (used i) (c .literal .ensures), s .pre .1)
 
+and-requires : tie.Need-and-requires Inv-literals μ-literals
+and-requires c κs = search needs
+
 enum-told-2 : tie.Need-enum-told-2 Inv-literals μ-literals
 enum-told-2 c = search needs
 
 returns-2 : tie.Need-returns-2 Inv-literals μ-literals
 returns-2 c =
-    let x = c .before .before in
-    let l = x .before in
-    let a = l .before .before in
+    let n = c .before .before in
+    let a = n .before .before .before .before in
     let s = a .before .before .before .before .before in
-    λ S k t e. literal-decides S (marks-of k) (s .args .row .now) (s .pre .0) (a .literals .j) (l .literal .result) (used (l .before)) (l .literal .ensures) (a .literals .joined) (a .literals .inv .1 S k t e) (sym (x .literal-truth .ensures S k t e) ∙ c .enum-told2 .given .1)
-
-and-requires : tie.Need-and-requires Inv-literals μ-literals
-and-requires c κs = search needs
+    λ S k t e. joined-false S (marks-of k) (rule-in (s .args .row .now)) (a .literals .j + 1) (rw (c .enum-told2 .given .1) at (joins n S k t e))
 
 add-j : tie.Need-add-j Inv-literals μ-literals
 add-j c = search needs
@@ -85,14 +95,7 @@ literals-less : tie.Need-literals-less Inv-literals μ-literals
 literals-less c = search needs
 
 literals-again : tie.Need-literals-again Inv-literals μ-literals
-literals-again c =
-    let x = c .before .before in
-    let l = x .before in
-    let a = l .before .before in
-    let s = a .before .before .before .before .before in (
-      search needs,
-      λ S k t e. rw (c .and .ensures .0, x .literal-truth .ensures S k t e) (joined-next S (marks-of k) (s .args .row .now) (s .pre .0) (a .literals .j) (l .literal .result) (used (l .before)) (l .literal .ensures) (a .literals .joined) (a .literals .inv .1 S k t e)),
-    )
+literals-again c = (search needs, joins (c .before))
 
 returns-3 : tie.Need-returns-3 Inv-literals μ-literals
 returns-3 c =
@@ -114,9 +117,9 @@ rule-truth-spec =
     literals-holds
     literal-requires
     literal-truth-requires
+    and-requires
     enum-told-2
     returns-2
-    and-requires
     add-j
     literals-less
     literals-again

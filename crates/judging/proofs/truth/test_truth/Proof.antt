@@ -25,10 +25,11 @@ numbered-requires c κs = c .before .before .pre .1 (c .before .wide .result)
 
 returns : tie.Need-returns
 returns c =
+    let s = c .before .before .before in
     let w = c .before .before .wide in
-    let truth = c .before .before .before .args .truth .now in
-    λ S k x t e n.
-    let read : getD truth (w .result) 0 ≡ number (truth-test S (marks-of k) (literal-of (literal-in x))) = rw (w .ensures, ← n, e) (test-at S k x t) in
+    let x = s .args .number in
+    λ S k t e.
+    let read : getD (s .args .truth .now) (w .result) 0 ≡ number (truth-test S (marks-of k) (literal-of (literal-in x))) = rw (w .ensures, e) (test-at S k x (s .pre .0) t) in
     number-one (c .numbered .result) (truth-test S (marks-of k) (literal-of (literal-in x))) (sym (c .numbered .ensures) ∙ read)
 
 pub test-truth-spec : {M : Type 1} → statement M
