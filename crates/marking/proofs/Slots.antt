@@ -34,10 +34,3 @@ module _ (counts : List ℕ) where
         (eq-or-lt-of-le (let z : x ≤ s = omega arith in z));
     here = λ w a b. absurd (let z = a in let y = b in omega arith);
   }
-
-  -- What follows from it holds there too.
-  pub up-to-map : (P Q : ℕ → ℕ → Type 0) (s v : ℕ) → ((x w : ℕ) → x < s → w ≤ getD counts x 0 → P x w → Q x w) → ((w : ℕ) → w ≤ v → P s w → Q s w) → UpTo P s v → UpTo Q s v
-  up-to-map P Q s v f g u = record {
-    earlier = λ x w l a b. f x w l b (u .earlier x w l a b);
-    here = λ w a b. g w b (u .here w a b);
-  }

@@ -183,35 +183,28 @@ pub fn rule_out_unassigned(
     top
 }
 
-// The negative pairs at first: the other values of the slip's slots, and the pairs that nothing assigns.
-pub fn first_negative(
-    width: usize,
-    counts: &[usize; SLOTS],
-    live: &[u16; PAIRS],
-    positive: &[bool; PAIRS],
-) -> [bool; PAIRS]
-    requires { ⌜ (width ≤ slot-limit) × ((i : ℕ) → i < width → getD (now counts) i 0 ≤ value-limit) ⌝ }
-    ensures { λ r. ⌜ FirstNegative width (now (counts .entry)) (now (live .entry)) (now (positive .entry)) r ⌝ }
+// The negative pairs at first: in a slot that the slip changes the other values, elsewhere the pairs that nothing assigns.
+pub fn first_negative(width: usize, live: &[u16; PAIRS], positive: &[bool; PAIRS]) -> [bool; PAIRS]
+    requires { ⌜ width ≤ slot-limit ⌝ }
+    ensures { λ r. ⌜ FirstNegative width (now (live .entry)) (now (positive .entry)) r ⌝ }
 {
     let mut negative: [bool; PAIRS] = [false; PAIRS];
     let mut s: usize = 0;
     'slots: while s < width {
-        let given = results::ending::changed_value(positive, s);
         let first = s * ROW;
-        let count = counts[s];
         let mut v: usize = 0;
-        'values: while v < count {
-            v += 1;
-            let at = first + v;
-            if positive[at] {
-                continue 'values;
+        if results::ending::is_changed(positive, s) {
+            'others: while v < ROW {
+                let at = first + v;
+                negative[at] = !positive[at];
+                v += 1;
             }
-            if ROW <= given {
-                if 0 < live[at] {
-                    continue 'values;
-                }
+        } else {
+            'unassigned: while v < ROW {
+                let at = first + v;
+                negative[at] = live[at] == 0;
+                v += 1;
             }
-            negative[at] = true;
         }
         s += 1;
     }

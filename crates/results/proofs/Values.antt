@@ -1,25 +1,28 @@
 -- Going through the values of a slot in an array indexed by pair, and through the slots.
 -- Assumes nothing.
 use mathlib.Core.Path.{_≡_, refl, sym}
-use mathlib.Core.Bool.{Bool, true, false, cond}
+use mathlib.Core.Bool.{Bool, true, false, cond, _||_}
 use mathlib.Core.List.{List, [], _∷_, _++_, append-nil}
 use mathlib.Core.Logic.{⊎-elim}
 use Prim.Native.Nat.{ℕ, _+_, _*_, _≤_, _<_}
 use native.Mathlib.Numerals.{add-one}
 use native.Mathlib.Nat.{eq-or-lt-of-le}
 use native.Mathlib.Omega.{arith}
-use lib.Dec.{T, leb→le, le→leb}
+use lib.Dec.{T, leb→le, le→leb, ltb→lt}
 use lib.ListN.{getD, set}
 use borrow.Author.Tests.{lt-ltb, le-ltb}
-use Rattle.laws.specs.Below.{count-below}
+use Rattle.laws.specs.Below.{first-below, count-below}
 use Rattle.laws.specs.Filled.{filled}
 use Rattle.laws.specs.Tabulated.{tabulate}
+use Rattle.laws.proofs.Truth.{bool-ext}
+use Rattle.laws.proofs.Equations.{is-true, from-true}
 use Rattle.laws.proofs.Below.{first-below-is}
 use Rattle.laws.proofs.Tabulated.{tabulate-length}
 use Rattle.laws.proofs.Filled.{filled-snoc}
 use Rattle.laws.proofs.Fronts.{tabulate-next}
 use Rattle.model.specs.Rules.{Pairs}
 use Rattle.model.specs.Result.{pair, value-in, is-changed, in-conflict, new-value, conflict-slot, changes-slip}
+use Rattle.model.proofs.Results.{value-in-right, is-changed-i}
 use Rattle.laws.specs.Limits.{row}
 use Rattle.table.specs.inner.Flat.{set-of}
 use Rattle.table.proofs.Flat.{set-in}
@@ -46,6 +49,29 @@ module _ (bs : List Bool) (s : ℕ) where
   pub value-none : (v : ℕ) → v ≡ row → NoneBelow v → v ≡ value-in row (set-of bs) s
   unfolding NoneBelow value-in
   value-none v e none = sym (first-below-is (λ w. set-of bs (pair s w)) row v (omega arith) (λ l. absurd (omega arith)) none)
+
+  -- A slot without values is not changed.
+  pub changed-start : false ≡ is-changed 0 (set-of bs) s
+  unfolding is-changed value-in first-below
+  changed-start = refl
+
+  -- One value more changes it where it is in the array.
+  pub changed-next : (v : ℕ) (b : Bool) → v < row → b ≡ is-changed v (set-of bs) s → b || getD bs (s * row + v) false ≡ is-changed (v + 1) (set-of bs) s
+  unfolding is-changed
+  changed-next v true h e =
+      let w = value-in v (set-of bs) s in
+      let t = from-true (is-changed v (set-of bs) s) (sym e) in
+      let l : w < v = ltb→lt w v t in
+      sym (is-true _ (is-changed-i (v + 1) (set-of bs) s w (omega arith) (value-in-right v (set-of bs) s t)))
+  changed-next v false h e = rw (← set-in bs (pair s v) h) (bool-ext _ _ (is-changed-i (v + 1) (set-of bs) s v (omega arith)) last)
+    where
+      last : T (is-changed (v + 1) (set-of bs) s) → T (set-of bs (pair s v))
+      last t =
+          let w = value-in (v + 1) (set-of bs) s in
+          let i : T (set-of bs (pair s w)) = value-in-right (v + 1) (set-of bs) s t in
+          let l : w < v + 1 = ltb→lt w (v + 1) t in
+          let le : w ≤ v = omega arith in
+          ⊎-elim (λ (q : w ≡ v). rw q at i) (λ (k : w < v). absurd (rw (← e) at (is-changed-i v (set-of bs) s w k i))) (eq-or-lt-of-le le)
 
   -- How many values of the slot below v are in the array.
   unfoldable pub values-below : ℕ → ℕ

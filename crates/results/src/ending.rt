@@ -1,7 +1,7 @@
-// What is worked out of the changes, indexed by pair: the lowest slot in conflict, a slot's new value, the new card.
+// What is worked out of the changes, indexed by pair: the lowest slot in conflict, whether a slot is changed, its new value, the new card.
 ghost use mathlib.Core.Path.{_≡_};
 ghost use Prim.Native.Nat.{_≤_, _<_};
-ghost use Rattle.model.specs.Result.{value-in, conflict-slot};
+ghost use Rattle.model.specs.Result.{value-in, is-changed, conflict-slot};
 ghost use Rattle.laws.specs.Limits.{slot-limit, row};
 ghost use Rattle.table.specs.inner.Flat.{set-of};
 ghost use Rattle.results.specs.inner.Ending.{new-places};
@@ -31,6 +31,22 @@ pub fn conflict_slot(changes: &[bool; PAIRS], width: usize) -> usize
         s += 1;
     }
     s
+}
+
+// Whether the changes have a value for a slot. All sixteen are looked at together: to stop at the first takes longer.
+pub fn is_changed(changes: &[bool; PAIRS], slot: usize) -> bool
+    requires { ⌜ slot < slot-limit ⌝ }
+    ensures { λ b. ⌜ b ≡ is-changed row (set-of (now (changes .entry))) slot ⌝ }
+{
+    let base = slot * ROW;
+    let mut found = false;
+    let mut v: usize = 0;
+    while v < ROW {
+        let here = changes[base + v];
+        found = found | here;
+        v += 1;
+    }
+    found
 }
 
 // The lowest value that the changes have for a slot; 16 where they have none.

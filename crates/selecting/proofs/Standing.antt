@@ -188,7 +188,7 @@ module _ (rows : List (List ℕ)) (n : ℕ) (ks : List ℕ) (width : ℕ) (count
       clear p o x y = without-clear ps Z (unassigned live (Z .positive)) c open-one p o (subst T (e p o .same-positive) x) (subst T (e p o .same-negative) y)
 
   -- The start: the slip's pairs are positive and their rivals negative; so are the pairs that no rule assigns.
-  pub start : (positive negative : List Bool) (truth live : List ℕ) → SlipIs I positive → OneValue I → FirstNegative width counts live positive negative
+  pub start : (positive negative : List Bool) (truth live : List ℕ) → SlipIs I positive → OneValue I → FirstNegative width live positive negative
       → Truths S (known positive negative truth) → Live rows (replicate rule-limit false) n live → length positive ≡ pair-places
       → Standing rows n ks S I (known positive negative truth) live (replicate rule-limit false) (replicate rule-limit false)
   unfolding update no-marks without unassigned SlipIs OneValue Clear
@@ -220,9 +220,9 @@ module _ (rows : List (List ℕ)) (n : ℕ) (ks : List ℕ) (width : ℕ) (count
       first : (p : Pair) → T (among p ps)
           → getD negative (place-of p) false ≡ (notᵇ (set-of positive p) ∧ᵇ (is-changed row (set-of positive) (p .slot) ∨ᵇ eqb (getD live (place-of p) 0) 0))
       first p o =
-          let w = declared-value rows n ks width counts I G p o in
-          N .at (p .slot) (p .value) (w .0) (w .1) (w .2)
-          ∙ ap (λ (b : Bool). notᵇ b ∧ᵇ (is-changed row (set-of positive) (p .slot) ∨ᵇ eqb (getD live (place-of p) 0) 0)) (sym (set-in positive p (declared-placed rows n ks width counts I G p o .in-row)))
+          let h = declared-placed rows n ks width counts I G p o .in-row in
+          N .at (p .slot) (p .value) (declared-value rows n ks width counts I G p o .0) h
+          ∙ ap (λ (b : Bool). notᵇ b ∧ᵇ (is-changed row (set-of positive) (p .slot) ∨ᵇ eqb (getD live (place-of p) 0) 0)) (sym (set-in positive p h))
 
       there : (p : Pair) → T (among p ps) → T (notᵇ (set-of positive p) ∧ᵇ (is-changed row (set-of positive) (p .slot) ∨ᵇ eqb (getD live (place-of p) 0) 0))
           → T (eqb (getD live (place-of p) 0) 0 ∧ᵇ notᵇ (among p I ∨ᵇ false) ∨ᵇ (rivals p I ∨ᵇ false))

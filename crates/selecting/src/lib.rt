@@ -57,7 +57,7 @@ pub fn select(
         chain(&rows[e], e, &mut heads, &mut nexts);
         e += 1;
     }
-    let mut negative = first_negative(width, counts, &live, positive);
+    let mut negative = first_negative(width, &live, positive);
     let mut truth = truth_of(card, positive, &negative);
     let mut dead: [bool; RULES] = [false; RULES];
     let mut queued: [bool; RULES] = [false; RULES];

@@ -57,10 +57,10 @@ unfoldable pub unassigned-out : List ℕ → List Pair → Known → Known
 unassigned-out live [] k = k
 unassigned-out live (p ∷ ps) k = unassigned-out live ps (unassigned-one live p k)
 
--- The negative pairs at first: of the values that a slot has, those that the slip does not give it, where it gives it another or nothing assigns them.
-pub record FirstNegative (width : ℕ) (counts live : List ℕ) (positive negative : List Bool) : Type 0 where
+-- The negative pairs at first: those that the slip does not give, where it gives their slot another value or nothing assigns them.
+pub record FirstNegative (width : ℕ) (live : List ℕ) (positive negative : List Bool) : Type 0 where
   pub size : length negative ≡ pair-places
-  pub at : (s v : ℕ) → s < width → 1 ≤ v → v ≤ getD counts s 0
+  pub at : (s v : ℕ) → s < width → v < row
       → getD negative (s * row + v) false ≡ (notᵇ (getD positive (s * row + v) false) ∧ᵇ (is-changed row (set-of positive) s ∨ᵇ eqb (getD live (s * row + v) 0) 0))
 
 -- Every value of the first slots is positive or negative.
