@@ -75,26 +75,26 @@ fn literal_truth(number: u16, truth: &[u8; WITHOUT_NOT]) -> Truth3
     if UNDER_NOT <= number { not(test) } else { test }
 }
 
-// What a rule comes to: its trigger and its literals joined by AND, up to where that comes to False.
+// What a rule comes to: its trigger AND its condition, which is True and each literal, from the last to the first, AND what comes after it. What is False stays so.
 pub fn rule_truth(row: &[u16; NUMBERS], truth: &[u8; WITHOUT_NOT]) -> Truth3
     requires { ⌜ RowFits (now row) × Three (now truth) ⌝ }
     ensures { λ r. ⌜ ((S : List ℕ) (k : Known) → Truths S k → now (truth .entry) ≡ k .truth → r ≡ truth-rule S (marks-of k) (rule-of (rule-in (now (row .entry))))) ⌝ }
 {
-    let trigger = rows::trigger(row);
-    let mut joined = test_truth(trigger, truth);
-    if let Truth3::False = joined {
+    let number = rows::trigger(row);
+    let trigger = test_truth(number, truth);
+    if let Truth3::False = trigger {
         return Truth3::False;
     }
-    let m = rows::tested(row);
-    let mut j: usize = 0;
-    'literals: while j < m {
-        let number = rows::literal(row, j);
-        let x = literal_truth(number, truth);
-        joined = and(joined, x);
-        if let Truth3::False = joined {
+    let mut condition = Truth3::True;
+    let mut j = rows::tested(row);
+    'literals: while 0 < j {
+        j -= 1;
+        let next = rows::literal(row, j);
+        let x = literal_truth(next, truth);
+        condition = and(x, condition);
+        if let Truth3::False = condition {
             return Truth3::False;
         }
-        j += 1;
     }
-    joined
+    and(trigger, condition)
 }

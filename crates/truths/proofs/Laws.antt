@@ -78,7 +78,7 @@ number-top False = omega arith
 number-top Unknown = omega arith
 
 -- True joined to anything changes nothing,
-pub and-true : (p : Truth3) → p AND₃ True ≡ p
+and-true : (p : Truth3) → p AND₃ True ≡ p
 unfolding by-cases
 and-true True = refl
 and-true False = refl
@@ -92,7 +92,7 @@ and-false False = refl
 and-false Unknown = refl
 
 -- AND looks neither at the order of two
-and-comm : (p q : Truth3) → p AND₃ q ≡ q AND₃ p
+pub and-comm : (p q : Truth3) → p AND₃ q ≡ q AND₃ p
 unfolding by-cases
 and-comm True True = refl
 and-comm True False = refl
@@ -105,7 +105,7 @@ and-comm Unknown False = refl
 and-comm Unknown Unknown = refl
 
 -- nor at which two of three are joined first,
-pub and-assoc : (p q r : Truth3) → p AND₃ (q AND₃ r) ≡ (p AND₃ q) AND₃ r
+and-assoc : (p q r : Truth3) → p AND₃ (q AND₃ r) ≡ (p AND₃ q) AND₃ r
 unfolding by-cases
 and-assoc True q r = true-and (q AND₃ r) ∙ ap (λ (t : Truth3). t AND₃ r) (sym (true-and q))
   where
