@@ -201,7 +201,7 @@ def by_chance():
 
 
 def listed():
-    """Section 5 of document 02: a rule with each two of a true, a false and an unknown literal, in either order, and with one of them under NOT; the unknown ones ask of what the rule brings itself."""
+    """Section 5 of document 02: a rule with each two of a true, a false and an unknown literal, in either order; and with each of them whose NOT is added or taken away, alone and before another. The unknown ones ask of what the rule brings itself."""
     true, false, unknown = (0, 0, 1, 1), (0, 0, 1, 2), (1, 1, 2, 2)
     for first in (true, false, unknown):
         for second in (true, false, unknown):

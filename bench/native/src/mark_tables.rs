@@ -6,7 +6,7 @@ use crate::mark_inputs::mark_inputs;
 use crate::measure::{mark_result, mark_times, Outcome, ROUNDS};
 use crate::table::Table;
 
-/// What was measured on an input: its work, the outcomes by strata and by marks, and the times of the proved library and of the native engine; the strata response only where the text is accepted.
+/// What was measured on an input: its work, the outcomes by strata and by marks, and the times of the two engines; the strata response only where the text is accepted.
 pub struct Row {
     pub name: String,
     pub grows: bool,
@@ -32,18 +32,18 @@ fn words(outcome: Outcome) -> String {
         .map_or_else(|why| format!("refused {} {}", why.number, why.second), |answer| format!("{} fired", answer.fired))
 }
 
-/// Measures an input; None where the results differ, which are then printed.
-fn row(proved: &mut dyn Engine, native: &mut dyn Engine, input: &Input) -> Option<Row> {
-    let (theirs, ours) = (mark_result(proved, input), mark_result(native, input));
+/// Measures an input with two engines; None where the results differ, which are then printed.
+fn row(first: &mut dyn Engine, second: &mut dyn Engine, input: &Input) -> Option<Row> {
+    let (theirs, ours) = (mark_result(first, input), mark_result(second, input));
     if theirs != ours {
         println!("DIFFERENT by marks on {}", input.name);
-        for (name, result) in [("proved", theirs), ("native", ours)] {
+        for (name, result) in [("first", theirs), ("second", ours)] {
             println!("{name}: {:?} {:?}", result.readings, result.responses);
         }
         return None;
     }
     let (tests, assigned) = work(&ours.table);
-    let [readings @ .., by_strata, by_marks] = mark_times([proved, native], input, &ours.layered, &ours.table);
+    let [readings @ .., by_strata, by_marks] = mark_times([first, second], input, &ours.layered, &ours.table);
     let accepted = ours.readings[0].is_ok();
     Some(Row {
         name: input.name.clone(),
@@ -85,13 +85,13 @@ impl Row {
 }
 
 /// Measures the response by marks on its inputs, and on others, which do not stand in its line of growing sizes; None for an input where results differ.
-pub fn measured(proved: &mut dyn Engine, native: &mut dyn Engine, others: Vec<Input>) -> Vec<Option<Row>> {
+pub fn measured(first: &mut dyn Engine, second: &mut dyn Engine, others: Vec<Input>) -> Vec<Option<Row>> {
     let others = others.into_iter().map(|input| Input { grows: false, ..input });
     let inputs: Vec<Input> = mark_inputs().into_iter().chain(others).collect();
-    let mut rows: Vec<Option<Row>> = inputs.iter().map(|input| row(proved, native, input)).collect();
+    let mut rows: Vec<Option<Row>> = inputs.iter().map(|input| row(first, second, input)).collect();
     for _ in 1..ROUNDS {
         for (input, kept) in inputs.iter().zip(&mut rows) {
-            if let (Some(kept), Some(again)) = (kept, row(proved, native, input)) {
+            if let (Some(kept), Some(again)) = (kept, row(first, second, input)) {
                 kept.lower(again);
             }
         }
@@ -107,12 +107,13 @@ fn columns([proved, native]: [f64; 2]) -> String {
 /// Prints the times of two versions of the library on all rows, the earlier one first.
 pub fn print_versions(rows: &[Row]) {
     println!("\nTwo versions of the proved library in turn; times in microseconds, results are equal on every line.\n");
-    println!("| input | strata, before | strata, after | ratio | marks, before | marks, after | ratio | reading, before | reading, after | ratio |");
-    println!("|---|---|---|---|---|---|---|---|---|---|");
+    println!("| input | strata, before | strata, after | ratio | marks, before | marks, after | ratio | reading, before | reading, after | ratio | without 18, before | without 18, after | ratio |");
+    println!("|---|---|---|---|---|---|---|---|---|---|---|---|---|");
     let columns = |[before, after]: [f64; 2]| format!("{before:>9.2} | {after:>9.2} | {:>5.2}", after / before);
     for row in rows {
         let by_strata = row.by_strata.map_or(format!("{:>9} | {:>9} | {:>5}", "", "", ""), columns);
-        println!("| {:<52} | {by_strata} | {} | {} |", row.name, columns(row.by_marks), columns(row.readings[0]));
+        let [with, without] = row.readings.map(columns);
+        println!("| {:<52} | {by_strata} | {} | {with} | {without} |", row.name, columns(row.by_marks));
     }
 }
 

@@ -35,20 +35,20 @@ pub rule-any-order : (S : List ℕ) (Z : Marks) (r r′ : Rule) → LiteralsMove
 unfolding truth-rule
 rule-any-order S Z r r′ m = λ i. truth-turns S Z (m .same-trigger i) AND₃ condition-any-order S Z (r .literals) (r′ .literals) (m .moved-literals) i
 
--- What stands where there is no rule differs in nothing from itself.
-no-literals : LiteralsMoved no-rule no-rule
+-- The place without a rule differs in nothing from itself.
+no-rule-moved : LiteralsMoved no-rule no-rule
 unfolding no-rule
-no-literals = record { same-trigger = refl; moved-literals = p-nil; same-assignments = refl }
+no-rule-moved = record { same-trigger = refl; moved-literals = p-nil; same-assignments = refl }
 
 module _ (ps : List Pair) (rs rs′ : List Rule) (S : List ℕ) (I : List Pair) (M : EachMoved rs rs′) where
   -- Every number names two rules that differ so, or no rule.
   each : (n : ℕ) → LiteralsMoved (rule-at rs n) (rule-at rs′ n)
   unfolding rule-at
-  each zero = no-literals
+  each zero = no-rule-moved
   each (suc i) = ⊎-elim outside (λ (h : i < length rs). M .each-rule (suc i) (record { first = omega arith; last = h })) (le-or-lt (length rs) i)
     where
       outside : length rs ≤ i → LiteralsMoved (getD rs i no-rule) (getD rs′ i no-rule)
-      outside l = rw (List·getD-eq-default rs no-rule {n = i} l, List·getD-eq-default rs′ no-rule {n = i} (omega (arith, l, M .as-many))) no-literals
+      outside l = rw (List·getD-eq-default rs no-rule {n = i} l, List·getD-eq-default rs′ no-rule {n = i} (omega (arith, l, M .as-many))) no-rule-moved
 
   -- What a rule assigns and what it comes to are the same.
   assigns-same : (n : ℕ) → rule-at rs n .assignments ≡ rule-at rs′ n .assignments

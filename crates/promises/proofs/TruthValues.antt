@@ -1,4 +1,4 @@
--- Document 02, section 5: the lists of NOT and AND, and literals in any order.
+-- Document 02, section 5: the lists of AND and NOT, and literals in any order.
 -- Assumes nothing.
 use Prim.Native.Nat.{ℕ}
 use mathlib.Core.Path.{_≡_, sym, ap, _∙_}
@@ -51,10 +51,10 @@ same-any-order text text′ f f′ h h′ e M y card slip o =
 -- DOCUMENT 02, SECTION 5.
 pub truth-values : TruthValues
 truth-values = record {
-  not-in-words = laws.not-in-words;
   and-in-words = laws.and-in-words;
-  not-two-minus = laws.not-two-minus;
+  not-in-words = laws.not-in-words;
   and-smaller = laws.and-smaller;
+  not-two-minus = laws.not-two-minus;
   condition-any-order = condition-any-order;
   rule-any-order = rule-any-order;
   response-any-order = same-any-order;

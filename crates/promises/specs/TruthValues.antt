@@ -1,5 +1,5 @@
 -- True, False and Unknown as a list: document 02, section 5, 'Show that, with false, unknown and true as 0, 1 and 2, AND is the smaller of two and NOT is two minus the mark; that a condition's mark is the same for its literals
--- in any order; and that no result of §3 changes.' The functions `truths::not` and `truths::and` of the code give what NOT₃ and AND₃ say, by their contracts, which repeat the numbers.
+-- in any order; and that no result of §3 changes.' The functions `truths::and` and `truths::not` of the code give what AND₃ and NOT₃ say, by their contracts, which repeat the numbers.
 use Prim.Native.Nat.{ℕ, _-_, min}
 use mathlib.Core.Path.{_≡_}
 use mathlib.Core.Bool.{cond}
@@ -9,7 +9,7 @@ use Rattle.laws.specs.Rearranged.{Perm}
 use Rattle.model.specs.Rules.{Literal, Rule}
 use Rattle.truths.specs.declared.Truth3.{Truth3}
 use Rattle.truths.specs.declared.Truth3.the-variants.{True, False, Unknown}
-use Rattle.truths.specs.Truths.{NOT₃, _AND₃_, is-true, is-false, number}
+use Rattle.truths.specs.Truths.{_AND₃_, NOT₃, is-true, is-false, number}
 use Rattle.marks.specs.Marks.{Marks, truth-condition, truth-rule}
 use Rattle.marks.specs.AnyOrder.{LiteralsMoved, EachMoved}
 use Rattle.table.specs.declared.Way.the-variants as ways
@@ -21,15 +21,15 @@ use Rattle.response.specs.Respond.{Outputs}
 use Rattle.promises.specs.ByMarks.{SameReturned}
 
 pub record TruthValues : Type 0 where
-  -- The lists say what section 6.1 says in words, by which section 3 of document 02 was answered before there was a list: so no result of section 3 changes.
-  pub not-in-words : (p : Truth3) → NOT₃ p ≡ cond (is-false p) True (cond (is-true p) False Unknown)
+  -- The lists say what section 6.1 of the paper says in words: True where all are, False where one is, Unknown otherwise; and NOT likewise.
   pub and-in-words : (p q : Truth3) → p AND₃ q ≡ cond (is-true p ∧ᵇ is-true q) True (cond (is-false p ∨ᵇ is-false q) False Unknown)
-  -- With False, Unknown and True as 0, 1 and 2, NOT is two minus the number, and AND the smaller of two.
-  pub not-two-minus : (p : Truth3) → number (NOT₃ p) ≡ 2 - number p
+  pub not-in-words : (p : Truth3) → NOT₃ p ≡ cond (is-false p) True (cond (is-true p) False Unknown)
+  -- With False, Unknown and True as 0, 1 and 2, AND is the smaller of two numbers, and NOT is two minus the number.
   pub and-smaller : (p q : Truth3) → number (p AND₃ q) ≡ min (number p) (number q)
+  pub not-two-minus : (p : Truth3) → number (NOT₃ p) ≡ 2 - number p
   -- A condition comes to the same for its literals in any order, at any card and marks; so does a rule.
   pub condition-any-order : (S : List ℕ) (Z : Marks) (ls ls′ : List Literal) → Perm ls ls′ → truth-condition S Z ls ≡ truth-condition S Z ls′
   pub rule-any-order : (S : List ℕ) (Z : Marks) (r r′ : Rule) → LiteralsMoved r r′ → truth-rule S Z r ≡ truth-rule S Z r′
-  -- So two texts whose rules differ in the order of their literals at most, over slots of as many values, get the same response by marks: outcome, records and every byte of the outputs.
+  -- So two texts whose rules differ in the order of their literals at most, over slots of as many values, get the same response by marks by their tables, read without test 18: outcome, records and every byte of the outputs.
   pub response-any-order : (text text′ : List ℕ) (f f′ : File) → Is-file text f → Is-file text′ f′ → slot-counts (f .slots) ≡ slot-counts (f′ .slots) → EachMoved (f .rules) (f′ .rules)
       → (y : Editors) (card slip : List ℕ) (o : Outputs) → SameReturned ways.Marks ways.Marks (reading-without-18 text .table) (reading-without-18 text′ .table) y card slip o

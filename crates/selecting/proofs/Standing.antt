@@ -66,7 +66,7 @@ pub record Standing (rows : List (List ℕ)) (n : ℕ) (ks : List ℕ) (S : List
   pub dead-False : (i : ℕ) → i < n → T (getD dead i false) → T (three.is-false (truth-rule S (marks-of k) (rule-at (rules-in rows n) (suc i))))
   pub supported : (p : Pair) → T (among p (declared-pairs ks)) → (¬ T (set-of (k .positive) p)) → (¬ T (set-of (k .negative) p)) → 0 < getD live (place-of p) 0
 
--- The tests of a rule that comes to True, to False, and to Unknown.
+-- What `is-true` and `is-false` say of True, of False and of Unknown.
 comes-true : (x : Truth3) → x ≡ True → T (is-true x)
 unfolding is-true
 comes-true x e = rw e tt

@@ -41,7 +41,7 @@ impl Outcomes {
     }
 }
 
-/// What was counted over many checks: responses of files that 18 refuses, of files with strata, and of those with strata in which plain tests fall too; how often all orders of selection were tried, and how often some by chance; of the answers those where a firing order comes to a conflict; of those with 41 those that leave a pair unknown; those with 42 where the strata response answers, and where it gives 40.
+/// What was counted over many checks: responses of files that 18 refuses, of files with strata, and of those with strata in which plain tests fall too; how often all orders of selection were tried, and how often some by chance; of the answers those where a firing order comes to a conflict; of those with 41 those that leave a pair unknown; those with 42 where the strata response answers, and where it gives 40; the files whose literals came into another order.
 #[derive(Default, Debug)]
 pub struct MarkCounts {
     pub circled: Outcomes,
@@ -53,6 +53,7 @@ pub struct MarkCounts {
     pub clashes_with_unknown: usize,
     pub unknown_answered: usize,
     pub unknown_conflicts: usize,
+    pub moved: usize,
 }
 
 /// A file with what is asked of it: its sketch, its program, its table as read without test 18, and a card and a slip.
@@ -175,7 +176,7 @@ fn check_strata(engine: &mut dyn Engine, asked: &Asked, ours: &Given, counts: &m
     Ok(())
 }
 
-/// A file with the literals of each condition in another order.
+/// A file with the literals of each condition in an order by chance.
 fn moved_literals(rng: &mut Rng, sketch: &Sketch) -> File {
     let mut moved = sketch.clone();
     moved.rules.iter_mut().for_each(|rule| rng.shuffle(&mut rule.literals));
@@ -183,8 +184,15 @@ fn moved_literals(rng: &mut Rng, sketch: &Sketch) -> File {
 }
 
 /// Checks that the file with its literals in another order gives the same.
-fn check_moved(engine: &mut dyn Engine, asked: &Asked, given: &Given, rng: &mut Rng) -> Result<(), String> {
+fn check_moved(
+    engine: &mut dyn Engine,
+    asked: &Asked,
+    given: &Given,
+    rng: &mut Rng,
+    counts: &mut MarkCounts,
+) -> Result<(), String> {
     let moved = moved_literals(rng, asked.sketch);
+    counts.moved += usize::from(moved.sketch.rules != asked.sketch.rules);
     let (refused, table) = engine.read_unlayered(&moved.text);
     let (card, slip) = asked.packed();
     let other = given_by(engine, Way::Marks, &table, &card, &slip);
@@ -200,7 +208,7 @@ fn check(engine: &mut dyn Engine, asked: &Asked, rng: &mut Rng, counts: &mut Mar
     check_selections(asked, &given, rng, counts)?;
     check_firing(asked, &given, counts)?;
     check_strata(engine, asked, &given, counts)?;
-    check_moved(engine, asked, &given, rng)?;
+    check_moved(engine, asked, &given, rng, counts)?;
     check_rearranged(engine, Way::Marks, asked.text, asked.table, (&card, &slip), rng)
 }
 

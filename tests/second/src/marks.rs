@@ -126,7 +126,7 @@ pub fn and(truths: impl IntoIterator<Item = Truth>) -> Truth {
 }
 
 /// The truth of a rule: its trigger and its literals joined by AND.
-pub fn rule_truth(card: &[u8], marks: &Marks, rule: &Rule) -> Truth {
+fn rule_truth(card: &[u8], marks: &Marks, rule: &Rule) -> Truth {
     let literals = rule.literals.iter().map(|literal| truth(card, marks, literal));
     and(std::iter::once(becomes(card, marks, rule.trigger)).chain(literals))
 }

@@ -252,6 +252,7 @@ fn orders_of_selection_and_firing_orders_agree_with_the_response() {
         counts.by_chance,
     ];
     assert!(seldom.iter().all(|count| *count >= 10) && counts.all_orders > 3_000, "{counts:?}");
+    assert!(counts.moved > 1_000, "{counts:?}");
 }
 
 #[test]

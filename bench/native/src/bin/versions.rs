@@ -1,4 +1,4 @@
-//! Measures two versions of the proved library on the same inputs in one run, call by call in turn: `versions BEFORE AFTER`, each a shared object; fails where their results differ.
+//! Measures two versions of the proved library on the same inputs in one run, in turn, about a millisecond each: `versions BEFORE AFTER`, each a shared object; fails where their results differ.
 
 use native::inputs::inputs;
 use native::mark_tables::{measured, print_versions, Row};
