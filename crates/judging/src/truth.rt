@@ -75,7 +75,7 @@ fn literal_truth(number: u16, truth: &[u8; WITHOUT_NOT]) -> Truth3
     if UNDER_NOT <= number { not(test) } else { test }
 }
 
-// What a rule comes to: its trigger AND its condition, which is True and each literal, from the last to the first, AND what comes after it. What is False stays so.
+// What a rule comes to, as it is defined: a condition without literals is True; each literal, from the last to the first, AND what comes after it; the trigger AND the condition. What has come to False stays False.
 pub fn rule_truth(row: &[u16; NUMBERS], truth: &[u8; WITHOUT_NOT]) -> Truth3
     requires { ⌜ RowFits (now row) × Three (now truth) ⌝ }
     ensures { λ r. ⌜ ((S : List ℕ) (k : Known) → Truths S k → now (truth .entry) ≡ k .truth → r ≡ truth-rule S (marks-of k) (rule-of (rule-in (now (row .entry))))) ⌝ }
