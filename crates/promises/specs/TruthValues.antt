@@ -21,7 +21,7 @@ use Rattle.response.specs.Respond.{Outputs}
 use Rattle.promises.specs.ByMarks.{SameReturned}
 
 pub record TruthValues : Type 0 where
-  -- The lists say what section 6.1 of the paper says in words: True where all are, False where one is, Unknown otherwise; and NOT likewise.
+  -- The lists say what section 6.1 of the paper says in words. AND is True where both are True, False where one is False, Unknown otherwise; NOT is True of False, False of True, Unknown otherwise.
   pub and-in-words : (p q : Truth3) → p AND₃ q ≡ cond (is-true p ∧ᵇ is-true q) True (cond (is-false p ∨ᵇ is-false q) False Unknown)
   pub not-in-words : (p : Truth3) → NOT₃ p ≡ cond (is-false p) True (cond (is-true p) False Unknown)
   -- With False, Unknown and True as 0, 1 and 2, AND is the smaller of two numbers, and NOT is two minus the number.

@@ -1,8 +1,9 @@
--- Laws of NOT and AND: the section's words, their numbers, their order; and truth values that stay as more becomes known.
+-- Laws of AND and NOT: the section's words, their numbers, their order; and truth values that stay as more becomes known.
 -- Assumes nothing.
 use Prim.Native.Nat.{_-_, _≤_, min}
+use native.Mathlib.Nat.{min-comm}
 use native.Mathlib.Omega.{arith}
-use mathlib.Core.Path.{_≡_, refl, sym, ap, _∙_}
+use mathlib.Core.Path.{_≡_, refl, sym, _∙_}
 use mathlib.Core.Bool.{cond}
 use mathlib.Core.Logic.{⊎-elim}
 use lib.Dec.{T}
@@ -17,13 +18,6 @@ unfoldable by-cases : Unit {0}
 unfolding NOT₃ _AND₃_ is-true is-false number _∧ᵇ_ _∨ᵇ_
 by-cases = tt
 
--- The list of NOT in words: True if p is False, False if p is True, Unknown otherwise.
-pub not-in-words : (p : Truth3) → NOT₃ p ≡ cond (is-false p) True (cond (is-true p) False Unknown)
-unfolding by-cases
-not-in-words True = refl
-not-in-words False = refl
-not-in-words Unknown = refl
-
 -- The list of AND in words: True if both are True, False if one of them is False, Unknown otherwise.
 pub and-in-words : (p q : Truth3) → p AND₃ q ≡ cond (is-true p ∧ᵇ is-true q) True (cond (is-false p ∨ᵇ is-false q) False Unknown)
 unfolding by-cases
@@ -37,12 +31,12 @@ and-in-words Unknown True = refl
 and-in-words Unknown False = refl
 and-in-words Unknown Unknown = refl
 
--- NOT is two minus the number.
-pub not-two-minus : (p : Truth3) → number (NOT₃ p) ≡ 2 - number p
+-- The list of NOT in words: True if p is False, False if p is True, Unknown otherwise.
+pub not-in-words : (p : Truth3) → NOT₃ p ≡ cond (is-false p) True (cond (is-true p) False Unknown)
 unfolding by-cases
-not-two-minus True = refl
-not-two-minus False = refl
-not-two-minus Unknown = refl
+not-in-words True = refl
+not-in-words False = refl
+not-in-words Unknown = refl
 
 -- AND is the smaller of two numbers.
 pub and-smaller : (p q : Truth3) → number (p AND₃ q) ≡ min (number p) (number q)
@@ -56,6 +50,13 @@ and-smaller False Unknown = refl
 and-smaller Unknown True = refl
 and-smaller Unknown False = refl
 and-smaller Unknown Unknown = refl
+
+-- NOT is two minus the number.
+pub not-two-minus : (p : Truth3) → number (NOT₃ p) ≡ 2 - number p
+unfolding by-cases
+not-two-minus True = refl
+not-two-minus False = refl
+not-two-minus Unknown = refl
 
 -- A number stands for one truth value.
 pub number-one : (p q : Truth3) → number p ≡ number q → p ≡ q
@@ -77,50 +78,20 @@ number-top True = omega arith
 number-top False = omega arith
 number-top Unknown = omega arith
 
--- True joined to anything changes nothing,
-and-true : (p : Truth3) → p AND₃ True ≡ p
-unfolding by-cases
-and-true True = refl
-and-true False = refl
-and-true Unknown = refl
-
--- and False decides.
+-- False decides.
 pub and-false : (q : Truth3) → False AND₃ q ≡ False
 unfolding by-cases
 and-false True = refl
 and-false False = refl
 and-false Unknown = refl
 
--- AND looks neither at the order of two
+-- AND does not look at the order of two, as the smaller of two numbers does not,
 pub and-comm : (p q : Truth3) → p AND₃ q ≡ q AND₃ p
-unfolding by-cases
-and-comm True True = refl
-and-comm True False = refl
-and-comm True Unknown = refl
-and-comm False True = refl
-and-comm False False = refl
-and-comm False Unknown = refl
-and-comm Unknown True = refl
-and-comm Unknown False = refl
-and-comm Unknown Unknown = refl
+and-comm p q = number-one (p AND₃ q) (q AND₃ p) (and-smaller p q ∙ min-comm (number p) (number q) ∙ sym (and-smaller q p))
 
--- nor at which two of three are joined first,
-and-assoc : (p q r : Truth3) → p AND₃ (q AND₃ r) ≡ (p AND₃ q) AND₃ r
-unfolding by-cases
-and-assoc True q r = true-and (q AND₃ r) ∙ ap (λ (t : Truth3). t AND₃ r) (sym (true-and q))
-  where
-    true-and : (t : Truth3) → True AND₃ t ≡ t
-    true-and t = and-comm True t ∙ and-true t
-and-assoc False q r = and-false (q AND₃ r) ∙ sym (ap (λ (t : Truth3). t AND₃ r) (and-false q) ∙ and-false r)
-and-assoc Unknown True r = ap (λ (t : Truth3). Unknown AND₃ t) (and-comm True r ∙ and-true r)
-and-assoc Unknown False r = ap (λ (t : Truth3). Unknown AND₃ t) (and-false r) ∙ sym (and-false r)
-and-assoc Unknown Unknown True = refl
-and-assoc Unknown Unknown False = refl
-and-assoc Unknown Unknown Unknown = refl
-
--- so that two of a list may be exchanged.
+-- nor at the order of the first two of three.
 pub and-swap : (p q r : Truth3) → p AND₃ (q AND₃ r) ≡ q AND₃ (p AND₃ r)
-and-swap p q r = and-assoc p q r ∙ ap (λ (t : Truth3). t AND₃ r) (and-comm p q) ∙ sym (and-assoc q p r)
+and-swap p q r = number-one (p AND₃ (q AND₃ r)) (q AND₃ (p AND₃ r)) (omega (arith, and-smaller p (q AND₃ r), and-smaller q r, and-smaller q (p AND₃ r), and-smaller p r))
 
 -- (S, Z) ⊢₃: AND is True exactly where both are.
 and-is-true : (p q : Truth3) → is-true (p AND₃ q) ≡ (is-true p ∧ᵇ is-true q)
