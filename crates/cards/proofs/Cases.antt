@@ -3,7 +3,6 @@
 use mathlib.Core.Path.{_≡_, refl}
 use mathlib.Core.List.{List, [], _∷_}
 use Prim.Native.Nat.{ℕ}
-use Rattle.laws.specs.Truth.{_∨ᵇ_}
 use Rattle.laws.specs.Words.{bit}
 use Rattle.laws.specs.Tabulated.{tabulate}
 use Rattle.laws.specs.Packed.{bits, number-of, field-bits, byte-bits, byte-at, pack, pack-fields, field-at}
@@ -49,8 +48,21 @@ unfolding counts read-slip changes-in changes-test after field-at byte-bits bits
 slip-none = refl
 
 pub slip-x : read-slip counts (0x04 ∷ 0x04 ∷ []) ≡ taken (pair 0 2 ∷ [])
-unfolding counts read-slip changes-in changes-test change-fault after field-at byte-bits bits bit number-of tabulate _∨ᵇ_
+unfolding counts read-slip changes-in changes-test change-fault after field-at byte-bits bits bit number-of tabulate
 slip-x = refl
+
+-- Slip 04 00 withdraws x, and is packed to the same bytes; slip 04 06 is 27, for x has two values.
+pub slip-withdraws : read-slip counts (0x04 ∷ 0x00 ∷ []) ≡ taken (pair 0 0 ∷ [])
+unfolding counts read-slip changes-in changes-test change-fault after field-at byte-bits bits bit number-of tabulate
+slip-withdraws = refl
+
+pub withdrawal-packed : slip-bytes (pair 0 0 ∷ []) ≡ 0x04 ∷ 0x00 ∷ []
+unfolding slip-bytes slip-fields change-fields pack-fields field-bits pack byte-at bits bit number-of tabulate
+withdrawal-packed = refl
+
+pub slip-above : read-slip counts (0x04 ∷ 0x06 ∷ []) ≡ refused 27 0
+unfolding counts read-slip changes-in changes-test change-fault after field-at byte-bits bits bit number-of tabulate
+slip-above = refl
 
 -- The changes of case C: x, y and z to 1.
 pub slip-packed : slip-bytes (pair 0 2 ∷ pair 1 2 ∷ pair 2 2 ∷ []) ≡ 0x0C ∷ 0x04 ∷ 0x12 ∷ 0x11 ∷ 0x00 ∷ []

@@ -17,10 +17,9 @@ use Rattle.cards.specs.Forms.{values-test, card-test, change-fault, chan
 use Rattle.cards.proofs.Tested.{change-right, no-fault, no-pair}
 use Rattle.cards.proofs.RoundTrip.{card-accepted, slip-accepted}
 
--- Slots of so many values each have a pair: its slot is one of them, its value one of that slot's.
+-- Slots of so many values each have a pair: its slot is one of them, its value NONE or one of that slot's.
 pub record Has (counts : List ℕ) (p : Pair) : Type 0 where
   pub below : p .slot < length counts
-  pub first : 1 ≤ p .value
   pub last : p .value ≤ getD counts (p .slot) 0
 
 both-passed : (b : Bool) (v : Verdict) (k s : ℕ) → cond b v (fault k s) ≡ passed → (b ≡ true) × (v ≡ passed)
@@ -34,7 +33,7 @@ tested-has counts low at [] e p t = absurd t
 tested-has counts low at (q ∷ qs) e p t =
     let w = both-passed (eqb (change-fault counts low q) 0) (changes-test counts (suc (q .slot)) (suc at) qs) (change-fault counts low q) at e in
     let r = change-right counts low q (eqb-true (change-fault counts low q) 0 (w .0)) in
-    ⊎-elim (λ s. rw (same-eq p q s) (record { below = r .below; first = r .first; last = r .last })) (tested-has counts (suc (q .slot)) (suc at) qs (w .1) p) (or-e (same p q) (among p qs) t)
+    ⊎-elim (λ s. rw (same-eq p q s) (record { below = r .below; last = r .last })) (tested-has counts (suc (q .slot)) (suc at) qs (w .1) p) (or-e (same p q) (among p qs) t)
 
 -- none below the lowest slot allowed,
 tested-above : (counts : List ℕ) (low at : ℕ) (ps : List Pair) → changes-test counts low at ps ≡ passed → (p : Pair) → T (among p ps) → low ≤ p .slot
@@ -73,7 +72,7 @@ unfolding changes-test
 rising-passes counts low at [] has first rise = refl
 rising-passes counts low at (p ∷ ps) has first rise =
     let h = has 0 (omega arith) in
-    let z : change-fault counts low p ≡ 0 = no-fault counts low p (h .below) (first (omega arith)) (λ e. omega (arith, h .first, e)) (h .last) in
+    let z : change-fault counts low p ≡ 0 = no-fault counts low p (h .below) (first (omega arith)) (h .last) in
     rw (eq-eqb (change-fault counts low p) 0 z)
     (rising-passes counts (suc (p .slot)) (suc at) ps (λ i l. has (suc i) (omega arith)) (λ l. rise 0 (omega arith)) (λ i l. rise (suc i) (omega arith)))
 

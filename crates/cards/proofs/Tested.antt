@@ -6,11 +6,10 @@ use mathlib.Core.List.{List}
 use Prim.Native.Nat.{ℕ, _+_, _≤_, _<_}
 use native.Mathlib.Numerals.{add-one}
 use native.Mathlib.Omega.{arith}
-use lib.Dec.{eqb, leb, ltb}
+use lib.Dec.{leb, ltb}
 use lib.ListN.{length, getD, drop, drop-of-length-le}
 use lib.Seq.{drop-cons}
-use borrow.Author.Tests.{lt-ltb, le-ltb, le-leb, lt-leb, eq-eqb, ne-eqb, ltb-false, leb-false, eqb-false}
-use Rattle.laws.specs.Truth.{_∨ᵇ_}
+use borrow.Author.Tests.{lt-ltb, le-ltb, le-leb, lt-leb, eq-eqb, ne-eqb, ltb-false, leb-false}
 use Rattle.laws.proofs.Tabulated.{tabulate-length, tabulate-at}
 use Rattle.model.specs.Rules.{Pair}
 use Rattle.model.specs.Result.{pair}
@@ -71,31 +70,22 @@ pub changes-end : (counts : List ℕ) (ps : List Pair) (low i : ℕ) → length 
 unfolding changes-test
 changes-end counts ps low i h left = sym (rw (drop-of-length-le ps {i = i} h) at left)
 
--- What a change without fault is: a slot below the slot count and not below `low`, a value from 1 to the slot's last.
+-- What a change without fault is: a slot below the slot count and not below `low`, a value up to the slot's last.
 pub record Right (counts : List ℕ) (low : ℕ) (p : Pair) : Type 0 where
   pub below : p .slot < length counts
   pub above : low ≤ p .slot
-  pub first : 1 ≤ p .value
   pub last : p .value ≤ getD counts (p .slot) 0
 
 pub change-right : (counts : List ℕ) (low : ℕ) (p : Pair) → change-fault counts low p ≡ 0 → Right counts low p
-unfolding change-fault _∨ᵇ_
-change-right counts low p e = go (leb (length counts) (p .slot)) (ltb (p .slot) low) (eqb (p .value) 0) (ltb (getD counts (p .slot) 0) (p .value)) refl refl refl refl e
+unfolding change-fault
+change-right counts low p e = go (leb (length counts) (p .slot)) (ltb (p .slot) low) (ltb (getD counts (p .slot) 0) (p .value)) refl refl refl e
   where
-    go : (a b c d : Bool) → leb (length counts) (p .slot) ≡ a → ltb (p .slot) low ≡ b → eqb (p .value) 0 ≡ c → ltb (getD counts (p .slot) 0) (p .value) ≡ d
-        → _≡_ {A = ℕ} (cond a 25 (cond b 26 (cond (c ∨ᵇ d) 27 0))) 0 → Right counts low p
-    go true b c d ea eb ec ed z = absurd (omega arith)
-    go false true c d ea eb ec ed z = absurd (omega arith)
-    go false false true d ea eb ec ed z = absurd (omega arith)
-    go false false false true ea eb ec ed z = absurd (omega arith)
-    go false false false false ea eb ec ed z =
-        let n = eqb-false (p .value) 0 ec in
-        record {
-          below = leb-false (length counts) (p .slot) ea;
-          above = ltb-false (p .slot) low eb;
-          first = omega (arith, n);
-          last = ltb-false (getD counts (p .slot) 0) (p .value) ed;
-        }
+    go : (a b c : Bool) → leb (length counts) (p .slot) ≡ a → ltb (p .slot) low ≡ b → ltb (getD counts (p .slot) 0) (p .value) ≡ c
+        → _≡_ {A = ℕ} (cond a 25 (cond b 26 (cond c 27 0))) 0 → Right counts low p
+    go true b c ea eb ec z = absurd (omega arith)
+    go false true c ea eb ec z = absurd (omega arith)
+    go false false true ea eb ec z = absurd (omega arith)
+    go false false false ea eb ec z = record { below = leb-false (length counts) (p .slot) ea; above = ltb-false (p .slot) low eb; last = ltb-false (getD counts (p .slot) 0) (p .value) ec }
 
 -- The fault of a change, test by test.
 pub fault-25 : (counts : List ℕ) (low : ℕ) (p : Pair) → length counts ≤ p .slot → change-fault counts low p ≡ 25
@@ -107,17 +97,13 @@ module _ (counts : List ℕ) (low : ℕ) (p : Pair) (h : p .slot < length counts
   unfolding change-fault
   fault-26 l = rw (lt-leb (length counts) (p .slot) h, lt-ltb (p .slot) low l)
 
-  pub fault-27 : low ≤ p .slot → p .value ≡ 0 → change-fault counts low p ≡ 27
-  unfolding change-fault _∨ᵇ_
-  fault-27 l e = rw (lt-leb (length counts) (p .slot) h, le-ltb (p .slot) low l, eq-eqb (p .value) 0 e)
+  pub fault-27 : low ≤ p .slot → getD counts (p .slot) 0 < p .value → change-fault counts low p ≡ 27
+  unfolding change-fault
+  fault-27 l g = rw (lt-leb (length counts) (p .slot) h, le-ltb (p .slot) low l, lt-ltb (getD counts (p .slot) 0) (p .value) g)
 
-  pub fault-high : low ≤ p .slot → (p .value ≡ 0 → ⊥) → getD counts (p .slot) 0 < p .value → change-fault counts low p ≡ 27
-  unfolding change-fault _∨ᵇ_
-  fault-high l n g = rw (lt-leb (length counts) (p .slot) h, le-ltb (p .slot) low l, ne-eqb (p .value) 0 n, lt-ltb (getD counts (p .slot) 0) (p .value) g)
-
-  pub no-fault : low ≤ p .slot → (p .value ≡ 0 → ⊥) → p .value ≤ getD counts (p .slot) 0 → change-fault counts low p ≡ 0
-  unfolding change-fault _∨ᵇ_
-  no-fault l n g = rw (lt-leb (length counts) (p .slot) h, le-ltb (p .slot) low l, ne-eqb (p .value) 0 n, le-ltb (getD counts (p .slot) 0) (p .value) g)
+  pub no-fault : low ≤ p .slot → p .value ≤ getD counts (p .slot) 0 → change-fault counts low p ≡ 0
+  unfolding change-fault
+  no-fault l g = rw (lt-leb (length counts) (p .slot) h, le-ltb (p .slot) low l, le-ltb (getD counts (p .slot) 0) (p .value) g)
 
 -- The counts of an array, each at its place.
 pub counts-length : (n : ℕ) (cs : List ℕ) → length (counts-in n cs) ≡ n

@@ -1,11 +1,10 @@
--- Document 01, 'Cards and slips' and refusals 20 to 28: the packed forms, and the tests, by how many values each slot has.
+-- Document 01, 'Cards and slips' and refusals 20 to 28: the packed forms, and the tests, by how many values each slot has. A change to value 0, NONE, withdraws a slot's value (document 02, section 6).
 use Prim.Native.Nat.{ℕ, suc, _+_, _-_, _*_}
 use mathlib.Core.Bool.{cond}
 use mathlib.Core.List.{List, [], _∷_, map}
 use lib.Dec.{eqb, leb, ltb}
 use lib.ListN.{length, getD}
 use Rattle.laws.specs.Limits.{slot-limit}
-use Rattle.laws.specs.Truth.{_∨ᵇ_}
 use Rattle.laws.specs.Tabulated.{tabulate}
 use Rattle.laws.specs.Packed.{Field, field, byte-count, pack-fields, field-at}
 use Rattle.model.specs.Rules.{Pair}
@@ -16,7 +15,7 @@ use Rattle.laws.specs.Answers.{Verdict, passed, fault, OrRefused, taken, refuse
 unfoldable pub card-fields : List ℕ → List Field
 card-fields vs = field 6 (length vs) ∷ map (field 4) vs
 
--- A change: 5 bits slot and 4 bits value.
+-- A change: 5 bits slot and 4 bits value, 0 for NONE.
 unfoldable pub change-fields : List Pair → List Field
 change-fields [] = []
 change-fields (p ∷ ps) = field 5 (p .slot) ∷ field 4 (p .value) ∷ change-fields ps
@@ -65,10 +64,10 @@ values-test at (n ∷ ns) (v ∷ vs) = cond (ltb n v) (fault 22 at) (values-test
 unfoldable pub card-test : List ℕ → List ℕ → Verdict
 card-test counts vs = cond (eqb (length vs) (length counts)) (values-test 0 counts vs) (fault 21 0)
 
--- The fault of a change, or 0: 25 slot not below the slot count; 26 slot below `low`, which is one above the slot before; 27 value 0 or above the slot's last.
+-- The fault of a change, or 0: 25 slot not below the slot count; 26 slot below `low`, which is one above the slot before; 27 value above the slot's last.
 unfoldable pub change-fault : List ℕ → ℕ → Pair → ℕ
 change-fault counts low p =
-    cond (leb (length counts) (p .slot)) 25 (cond (ltb (p .slot) low) 26 (cond (eqb (p .value) 0 ∨ᵇ ltb (getD counts (p .slot) 0) (p .value)) 27 0))
+    cond (leb (length counts) (p .slot)) 25 (cond (ltb (p .slot) low) 26 (cond (ltb (getD counts (p .slot) 0) (p .value)) 27 0))
 
 -- The first faulty change, with its position, counted from `at` on.
 unfoldable pub changes-test : List ℕ → ℕ → ℕ → List Pair → Verdict

@@ -16,7 +16,7 @@ pub struct Card {
     pub count: usize,
 }
 
-// A change of a slot to a value.
+// A change of a slot to a value, 0 for NONE.
 #[repr(C)]
 pub struct Change {
     pub slot: u8,
@@ -70,9 +70,6 @@ pub fn change_fault(
     }
     if slot < low {
         return 26;
-    }
-    if value == 0 {
-        return 27;
     }
     let last = counts[slot];
     if last < value {

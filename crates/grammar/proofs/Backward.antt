@@ -13,10 +13,10 @@ use Rattle.text.specs.Tokens.{Name, Token, word, name, long, bad, SLOT, WHEN, I
 use Rattle.model.specs.Rules.{Pair, Literal, Rule, assigns}
 use Rattle.laws.specs.Limits.{text-limit, slot-limit, value-limit, rule-limit, literal-limit, assignment-limit}
 use Rattle.grammar.specs.Files.{Slot, File, place-in, slot-names, values-of}
-use Rattle.grammar.specs.Grammar.{RuleTree, rule, trigger, ConditionTree, and-literal, one-literal, true-alone, LiteralTree, not-literal, becomes-value, holds-value, AssignTree, one-alone, braces, AssignmentListTree, one-assignment, comma-assignment, AssignmentTree, gets-value, ValueListTree, one-value, comma-value, LineTree, line, FileTree, spell, spell-literal, spell-condition, spell-assignment, spell-assignments, spell-assign, spell-rule, spell-rules, spell-values, spell-line, spell-lines}
+use Rattle.grammar.specs.Grammar.{RuleTree, rule, trigger, ValueTree, ConditionTree, and-literal, one-literal, true-alone, LiteralTree, not-literal, becomes-value, holds-value, AssignTree, one-alone, braces, AssignmentListTree, one-assignment, comma-assignment, AssignmentTree, gets-value, ValueListTree, one-value, comma-value, LineTree, line, FileTree, spell, spell-value, spell-literal, spell-condition, spell-assignment, spell-assignments, spell-assign, spell-rule, spell-rules, spell-values, spell-line, spell-lines}
 use Rattle.grammar.specs.Reading.{Part, took, stop, Parsed, accepted, refused, _then_, expects, a-name, new-name, read-slot, read-value, read-target, plain-literal, read-literal, no-literal, read-literals, read-condition, read-assignment, no-assignment, read-assignments, read-assign, read-rule, no-value, read-values, read-line, go-on, read-rules, read-lines, read-tokens, parse}
 use Rattle.model.specs.Result.{pair}
-use Rattle.grammar.specs.Meaning.{Names, turned, nots, tests-change, tested-slot, tested-value, Means-literal, Means-condition, means-and, means-one, means-true, Means-assignment, means-assignment, Means-assignments, means-first, means-comma, Means-assign, means-alone, means-braces, means-trigger, Means-rule, means-rule, Means-rules, no-rules, more-rules, Means-values, means-value, means-values, Means-line, means-line, Means-lines, no-lines, more-lines, Is-file}
+use Rattle.grammar.specs.Meaning.{Means-slotval, Names, turned, nots, tests-change, tested-slot, tested-value, Means-literal, Means-condition, means-and, means-one, means-true, Means-assignment, means-assignment, Means-assignments, means-first, means-comma, Means-assign, means-alone, means-braces, means-trigger, Means-rule, means-rule, Means-rules, no-rules, more-rules, Means-values, means-value, means-values, Means-line, means-line, Means-lines, no-lines, more-lines, Is-file}
 use Rattle.grammar.proofs.Steps.{never, took-same, put, then-back, by-then, cond-back, expects-back, slot-back, value-back, target-back, new-name-back, fork-back, if-next-back, after-back, list-back}
 
 -- A literal that was read.
@@ -27,19 +27,15 @@ pub record Literal-found (ts : List Token) (slots : List Slot) (neg : Bool) (m :
   pub sign : m .negated ≡ turned (nots tree) neg
   pub names : Names slots (tested-slot tree) (tested-value tree) (m .pair)
 
--- The end of a literal: its mark was read, and a value's name follows.
+-- The end of a literal: its mark was read, and a value follows.
 value-end : (slots : List Slot) (s : ℕ) (b neg : Bool) (more : List Token) (m : Literal) (rest : List Token)
     → (read-value slots s more then λ v left. took (record { becomes = b; negated = neg; pair = pair s v }) left) ≡ took m rest
-    → (n : Name) × (more ≡ name n ∷ rest) × (m ≡ record { becomes = b; negated = neg; pair = pair s (place-in (values-of slots s) n) }) × (1 ≤ place-in (values-of slots s) n)
+    → (v : ValueTree) × (k : ℕ) × (more ≡ spell-value v ∷ rest) × (m ≡ record { becomes = b; negated = neg; pair = pair s k }) × Means-slotval (values-of slots s) v k
 value-end slots s b neg more m rest e =
     let a = then-back (read-value slots s more) _ m rest e in
     let v = value-back slots s more (a .0) (a .1) (a .2) in
-    let t = took-same _ m (a .1) rest (a .3) in (
-      v .0,
-      v .1 ∙ put (name (v .0)) (t .1),
-      sym (t .0) ∙ ap (λ (k : ℕ). record { becomes = b; negated = neg; pair = pair s k }) (sym (v .2)),
-      rw (v .2) (v .3),
-    )
+    let t = took-same _ m (a .1) rest (a .3) in
+    (v .0, a .0, v .1 ∙ put (spell-value (v .0)) (t .1), sym (t .0), v .2)
 
 plain-back : (slots : List Slot) (neg : Bool) (ts : List Token) (m : Literal) (rest : List Token) → plain-literal slots neg ts ≡ took m rest → Literal-found ts slots neg m rest
 unfolding plain-literal
@@ -48,17 +44,17 @@ plain-back slots neg ts m rest e =
     let s = slot-back slots ts (a .0) (a .1) (a .2) in
     ⊎-elim (λ x. let v = value-end slots (a .0) true neg (x .0) m rest (x .2) in record {
       tree = becomes-value (s .0) (v .0);
-      spelled = s .1 ∙ put (name (s .0)) (x .1 ∙ put (word BECOMES) (v .1));
-      mark = ap (λ (l : Literal). l .becomes) (v .2);
-      sign = ap (λ (l : Literal). l .negated) (v .2);
-      names = subst (λ (l : Literal). Names slots (s .0) (v .0) (l .pair)) (sym (v .2)) (record { slot-is = s .2; value-is = refl; value-there = v .3 });
+      spelled = s .1 ∙ put (name (s .0)) (x .1 ∙ put (word BECOMES) (v .2));
+      mark = ap (λ (l : Literal). l .becomes) (v .3);
+      sign = ap (λ (l : Literal). l .negated) (v .3);
+      names = subst (λ (l : Literal). Names slots (s .0) (v .0) (l .pair)) (sym (v .3)) (record { slot-is = s .2; value-is = v .4 });
     })
     (λ x. let v = value-end slots (a .0) false neg (x .0) m rest (x .2) in record {
       tree = holds-value (s .0) (v .0);
-      spelled = s .1 ∙ put (name (s .0)) (x .1 ∙ put (word HAS) (v .1));
-      mark = ap (λ (l : Literal). l .becomes) (v .2);
-      sign = ap (λ (l : Literal). l .negated) (v .2);
-      names = subst (λ (l : Literal). Names slots (s .0) (v .0) (l .pair)) (sym (v .2)) (record { slot-is = s .2; value-is = refl; value-there = v .3 });
+      spelled = s .1 ∙ put (name (s .0)) (x .1 ∙ put (word HAS) (v .2));
+      mark = ap (λ (l : Literal). l .becomes) (v .3);
+      sign = ap (λ (l : Literal). l .negated) (v .3);
+      names = subst (λ (l : Literal). Names slots (s .0) (v .0) (l .pair)) (sym (v .3)) (record { slot-is = s .2; value-is = v .4 });
     })
     (fork-back BECOMES HAS _ _ (a .1) m rest (a .3))
 
@@ -120,8 +116,8 @@ assignment-back slots ps ts p rest e =
     let v = value-back slots (a .0) (c .1) (d .0) (d .1) (d .2) in
     let t = took-same (pair (a .0) (d .0)) p (d .1) rest (d .3) in (
       gets-value (s .0) (v .0),
-      s .1 ∙ put (name (s .0)) (expects-back GETS (a .1) (c .0) (c .1) (c .2) ∙ put (word GETS) (v .1 ∙ put (name (v .0)) (t .1))),
-      subst (λ (q : Pair). Means-assignment slots (gets-value (s .0) (v .0)) q) (t .0) (means-assignment (record { slot-is = s .2; value-is = v .2; value-there = v .3 })),
+      s .1 ∙ put (name (s .0)) (expects-back GETS (a .1) (c .0) (c .1) (c .2) ∙ put (word GETS) (v .1 ∙ put (spell-value (v .0)) (t .1))),
+      subst (λ (q : Pair). Means-assignment slots (gets-value (s .0) (v .0)) q) (t .0) (means-assignment (record { slot-is = s .2; value-is = v .2 })),
       subst (λ (q : Pair). assigns ps (q .slot) ≡ false) (t .0) (s .3),
     )
 
@@ -174,16 +170,16 @@ rule-back slots ts r rest e =
   where
     made : (t1 : List Token) (s : ℕ) (t2 : List Token) (v : ℕ) (t3 t4 t5 : List Token) (ls : List Literal) (t6 : List Token) (ps : List Pair) (t7 t8 : List Token)
         → ts ≡ word WHEN ∷ t1 → ((n : Name) × (t1 ≡ name n ∷ t2) × (place-in (slot-names slots) n ≡ suc s)) → t2 ≡ word BECOMES ∷ t3
-        → ((n : Name) × (t3 ≡ name n ∷ t4) × (place-in (values-of slots s) n ≡ v) × (1 ≤ v)) → t4 ≡ word IF ∷ t5
+        → ((w : ValueTree) × (t3 ≡ spell-value w ∷ t4) × Means-slotval (values-of slots s) w v) → t4 ≡ word IF ∷ t5
         → ((d : ConditionTree) × (t5 ≡ spell-condition d (word THEN ∷ t6)) × Means-condition slots d ls × (length ls ≤ literal-limit))
         → ((d : AssignTree) × (t6 ≡ spell-assign d t7) × Means-assign slots d ps × (length ps ≤ assignment-limit)) → t7 ≡ word SEMICOLON ∷ t8
         → (record { trigger = pair s v; literals = ls; assignments = ps } ≡ r) × (t8 ≡ rest) → (t : RuleTree) × (ts ≡ spell-rule t rest) × Means-rule slots t r
     made t1 s t2 v t3 t4 t5 ls t6 ps t7 t8 e1 n e3 m e5 c a e8 e9 = (
       rule (trigger (n .0) (m .0)) (c .0) (a .0),
-      e1 ∙ put (word WHEN) (n .1 ∙ put (name (n .0)) (e3 ∙ put (word BECOMES) (m .1 ∙ put (name (m .0)) (e5 ∙ put (word IF) (c .1
+      e1 ∙ put (word WHEN) (n .1 ∙ put (name (n .0)) (e3 ∙ put (word BECOMES) (m .1 ∙ put (spell-value (m .0)) (e5 ∙ put (word IF) (c .1
           ∙ ap (λ (y : List Token). spell-condition (c .0) (word THEN ∷ y)) (a .1 ∙ ap (spell-assign (a .0)) (e8 ∙ put (word SEMICOLON) (e9 .1)))))))),
       subst (λ (q : Rule). Means-rule slots (rule (trigger (n .0) (m .0)) (c .0) (a .0)) q) (e9 .0)
-          (means-rule (means-trigger (record { slot-is = n .2; value-is = m .2; value-there = m .3 })) (c .2) (c .3) (a .2) (a .3)),
+          (means-rule (means-trigger (record { slot-is = n .2; value-is = m .2 })) (c .2) (c .3) (a .2) (a .3)),
     )
 
 pub refused-never : {B : Type 0} (k n : ℕ) (f : File) → refused k n ≡ accepted f → B

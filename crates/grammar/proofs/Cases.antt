@@ -11,12 +11,12 @@ use Rattle.text.specs.Tokens.{Name, reserved, mark-of, run-token, run, token-he
 use Rattle.grammar.specs.Files.{Slot}
 use Rattle.laws.specs.Truth.{_∨ᵇ_}
 use Rattle.model.specs.Rules.{assigns}
-use Rattle.grammar.specs.Reading.{accepted, refused, _then_, expects, fork, a-name, if-next, new, new-name, known-slot, known-value, unassigned, read-slot, read-value, read-target, read-list, plain-literal, read-literal, no-literal, read-literals, read-condition, read-assignment, no-assignment, read-assignments, read-assign, read-rule, no-value, read-values, read-line, go-on, read-rules, read-lines, read-tokens, parse}
+use Rattle.grammar.specs.Reading.{accepted, refused, _then_, expects, fork, a-name, if-next, new, new-name, known-slot, known-value, unassigned, read-slot, read-place, read-value, read-target, read-list, plain-literal, read-literal, no-literal, read-literals, read-condition, read-assignment, no-assignment, read-assignments, read-assign, read-rule, no-value, read-values, read-line, go-on, read-rules, read-lines, read-tokens, parse}
 use Rattle.model.specs.Result.{pair}
 
 -- `unfolding reads` opens all that a reading runs.
 unfoldable pub reads : Unit {0}
-unfolding bytes-from bytes class-of reserved mark-of run-token run token-here more-bytes tokens-from tokens _∨ᵇ_ assigns _then_ expects fork a-name if-next new new-name known-slot known-value unassigned read-slot read-value read-target read-list plain-literal read-literal no-literal read-literals read-condition read-assignment no-assignment read-assignments read-assign read-rule no-value read-values read-line go-on read-rules read-lines read-tokens parse
+unfolding bytes-from bytes class-of reserved mark-of run-token run token-here more-bytes tokens-from tokens _∨ᵇ_ assigns _then_ expects fork a-name if-next new new-name known-slot known-value unassigned read-slot read-place read-value read-target read-list plain-literal read-literal no-literal read-literals read-condition read-assignment no-assignment read-assignments read-assign read-rule no-value read-values read-line go-on read-rules read-lines read-tokens parse
 reads = tt
 
 -- The slots of document 01's cases.
@@ -136,3 +136,32 @@ case-completed = (refl, refl)
 pub case-rules-only : parse (bytes "WHEN x *= 1 IF TRUE THEN x := 1;") ≡ refused 16 0
 unfolding reads
 case-rules-only = refl
+
+-- Document 02, section 6: NONE for a value in a trigger, a literal and an assignment, each value 0.
+pub case-none : parse (after-slots "WHEN x *= NONE IF NOT y |= NONE AND z *= NONE THEN {y := NONE, z := 1};")
+    ≡ accepted (record {
+      slots = slots-read;
+      rules = record {
+        trigger = pair 0 0;
+        literals = record { becomes = false; negated = true; pair = pair 1 0 } ∷ record { becomes = true; negated = false; pair = pair 2 0 } ∷ [];
+        assignments = pair 1 0 ∷ pair 2 2 ∷ [];
+      } ∷ [];
+    })
+unfolding reads
+case-none = refl
+
+-- NONE is no slot's name and no declared value: 12 in a slot line, as its name or as a value, and in a rule for the slot of a trigger, a literal or an assignment; 12 too for another word in the place of a value.
+pub case-none-misplaced : (parse (bytes "SLOT NONE {0};") ≡ refused 12 0) × (parse (bytes "SLOT x {NONE};") ≡ refused 12 0) × (parse (bytes "SLOT x {0,NONE};") ≡ refused 12 0)
+    × (parse (after-slots "WHEN NONE *= 1 IF TRUE THEN y := 1;") ≡ refused 12 0) × (parse (after-slots "WHEN x *= 1 IF NOT NONE |= 0 THEN y := 1;") ≡ refused 12 0)
+    × (parse (after-slots "WHEN x *= 1 IF TRUE THEN NONE := 1;") ≡ refused 12 0) × (parse (after-slots "WHEN x *= TRUE IF TRUE THEN y := 1;") ≡ refused 12 0)
+unfolding reads
+case-none-misplaced = (refl, refl, refl, refl, refl, refl, refl)
+
+-- It is reserved in capitals only: `none` is a plain name, of a slot or of a value, and 16 where it is not declared.
+pub case-none-plain : (parse (bytes "SLOT none {None}; WHEN none *= None IF TRUE THEN none := NONE;")
+    ≡ accepted (record {
+      slots = record { name = at 5 "none"; values = at 11 "None" ∷ [] } ∷ [];
+      rules = record { trigger = pair 0 1; literals = []; assignments = pair 0 0 ∷ [] } ∷ [];
+    })) × (parse (after-slots "WHEN x *= none IF TRUE THEN y := 1;") ≡ refused 16 0)
+unfolding reads
+case-none-plain = (refl, refl)

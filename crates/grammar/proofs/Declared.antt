@@ -1,6 +1,6 @@
 -- A file that a tree means keeps to the limits, each of its slots has values, and its rules name only what it declares.
 -- Assumes nothing.
-use Prim.Native.Nat.{ℕ, suc, _-_, _≤_, _<_}
+use Prim.Native.Nat.{ℕ, suc, _≤_, _<_}
 use native.Mathlib.Omega.{arith}
 use mathlib.Core.Path.{_≡_, refl, sym, ap, subst, _∙_}
 use mathlib.Core.Bool.{Bool, true, false}
@@ -12,52 +12,63 @@ use Rattle.laws.specs.Truth.{_∨ᵇ_, notᵇ}
 use Rattle.laws.specs.Listed.{Each}
 use Rattle.laws.proofs.Truth.{and-i, and-l, and-r}
 use Rattle.laws.proofs.Listed.{each-last}
-use Rattle.text.specs.Tokens.{Name, place}
+use Rattle.text.specs.Tokens.{Name, name, place}
+use Rattle.text.specs.Cut.{moved}
 use Rattle.text.proofs.Cut.{place-le}
 use Rattle.text.proofs.Covering.{place-spelled}
 use Rattle.model.specs.Rules.{Pair, Literal, Rule, assigns, each-once}
 use Rattle.laws.specs.Limits.{slot-limit, value-limit, rule-limit, literal-limit, assignment-limit}
-use Rattle.grammar.specs.Files.{Slot, File, spellings, slot-names, no-slot, values-of, slot-named, value-named}
-use Rattle.grammar.specs.Grammar.{RuleTree, ConditionTree, AssignTree, AssignmentListTree, AssignmentTree, ValueListTree, LineTree, FileTree}
-use Rattle.grammar.specs.Meaning.{Names, Means-condition, means-and, means-one, means-true, Means-assignment, means-assignment, Means-assignments, means-first, means-comma, Means-assign, means-alone, means-braces, means-trigger, means-rule, Means-rules, no-rules, more-rules, Means-values, means-value, means-values, means-line, Means-lines, no-lines, more-lines, Means, Is-file}
+use Rattle.grammar.specs.Files.{Slot, File, spellings, place-in, slot-names, no-slot, values-of, slot-named, written-value, value-written}
+use Rattle.grammar.specs.Grammar.{RuleTree, ValueTree, ConditionTree, AssignTree, AssignmentListTree, AssignmentTree, ValueListTree, LineTree, FileTree, spell-value}
+use Rattle.grammar.specs.Meaning.{Means-slotval, means-name, means-none, Names, Means-condition, means-and, means-one, means-true, Means-assignment, means-assignment, Means-assignments, means-first, means-comma, Means-assign, means-alone, means-braces, means-trigger, means-rule, Means-rules, no-rules, more-rules, Means-values, means-value, means-values, means-line, Means-lines, no-lines, more-lines, Means, Is-file}
 
 -- A pair is declared: its slot and its value have names, by which they are found.
 abbrev pub Declared-pair : List Slot → Pair → Type 0
-Declared-pair slots p = Names slots (slot-named slots p) (value-named slots p) p
+Declared-pair slots p = Names slots (slot-named slots p) (value-written slots p) p
 
 -- A name that is found has the letters of the declared name.
-pub names-letters : (slots : List Slot) (s v : Name) (p : Pair) → Names slots s v p → (s .letters ≡ slot-named slots p .letters) × (v .letters ≡ value-named slots p .letters)
-names-letters slots s v p n =
-    let i : p .value ≡ suc (p .value - 1) = let j = n .value-there in omega arith in (
-      found (s .letters) (spellings (slot-names slots)) (p .slot) (n .slot-is)
-          ∙ List·getD-map (λ (m : Name). m .letters) (slot-names slots) (p .slot) (no-slot .name)
-          ∙ ap (λ (m : Name). m .letters) (List·getD-map (λ (x : Slot). x .name) slots (p .slot) no-slot),
-      found (v .letters) (spellings (values-of slots (p .slot))) (p .value - 1) (n .value-is ∙ i)
-          ∙ List·getD-map (λ (m : Name). m .letters) (values-of slots (p .slot)) (p .value - 1) (no-slot .name),
-    )
-  where
-    found : (l : List ℕ) (ls : List (List ℕ)) (k : ℕ) → place l ls ≡ suc k → l ≡ getD ls k []
-    found l ls k e = place-spelled l ls [] k e ∙ ap (λ (ms : List (List ℕ)). getD ms k []) (append-nil ls)
+found-letters : (names : List Name) (n : Name) (k : ℕ) → place-in names n ≡ suc k → n .letters ≡ getD names k (no-slot .name) .letters
+found-letters names n k e =
+    place-spelled (n .letters) (spellings names) [] k e
+    ∙ ap (λ (ms : List (List ℕ)). getD ms k []) (append-nil (spellings names))
+    ∙ List·getD-map (λ (m : Name). m .letters) names k (no-slot .name)
 
-named-declared : (slots : List Slot) (s v : Name) (p : Pair) → Names slots s v p → Declared-pair slots p
-named-declared slots s v p n =
-    let e = names-letters slots s v p n in
-    record {
-      slot-is = ap (λ (l : List ℕ). place l (spellings (slot-names slots))) (sym (e .0)) ∙ n .slot-is;
-      value-is = ap (λ (l : List ℕ). place l (spellings (values-of slots (p .slot)))) (sym (e .1)) ∙ n .value-is;
-      value-there = n .value-there;
-    }
+pub slot-letters : (slots : List Slot) (s : Name) (v : ValueTree) (p : Pair) → Names slots s v p → s .letters ≡ slot-named slots p .letters
+slot-letters slots s v p n = found-letters (slot-names slots) s (p .slot) (n .slot-is) ∙ ap (λ (m : Name). m .letters) (List·getD-map (λ (x : Slot). x .name) slots (p .slot) no-slot)
 
--- A declared pair is of a slot that is there, and of a value that is there.
+-- A value that means a number is written as that number is, but for the place of its name.
+slotval-letters : (names : List Name) (v : ValueTree) (k : ℕ) → Means-slotval names v k → moved (λ i. 0) (spell-value v) ≡ moved (λ i. 0) (spell-value (written-value names k))
+slotval-letters names v k (means-name {n = n} {k = i} e) = ap (λ (l : List ℕ). name (record { start = 0; letters = l })) (found-letters names n i e)
+slotval-letters names v k means-none = refl
+
+pub value-letters : (slots : List Slot) (s : Name) (v : ValueTree) (p : Pair) → Names slots s v p → moved (λ i. 0) (spell-value v) ≡ moved (λ i. 0) (spell-value (value-written slots p))
+value-letters slots s v p n = slotval-letters (values-of slots (p .slot)) v (p .value) (n .value-is)
+
+-- As it is written, a number means itself.
+slotval-written : (names : List Name) (v : ValueTree) (k : ℕ) → Means-slotval names v k → Means-slotval names (written-value names k) k
+slotval-written names v k (means-name {n = n} {k = i} e) = means-name (ap (λ (l : List ℕ). place l (spellings names)) (sym (found-letters names n i e)) ∙ e)
+slotval-written names v k means-none = means-none
+
+named-declared : (slots : List Slot) (s : Name) (v : ValueTree) (p : Pair) → Names slots s v p → Declared-pair slots p
+named-declared slots s v p n = record {
+  slot-is = ap (λ (l : List ℕ). place l (spellings (slot-names slots))) (sym (slot-letters slots s v p n)) ∙ n .slot-is;
+  value-is = slotval-written (values-of slots (p .slot)) v (p .value) (n .value-is);
+}
+
+-- A declared pair is of a slot that is there, and of a value that is there or NONE.
 pub slot-declared : (slots : List Slot) (p : Pair) → Declared-pair slots p → p .slot < length slots
 slot-declared slots p n =
     let l : length (spellings (slot-names slots)) ≡ length slots = rw (length-map, length-map) in
     omega (arith, l, n .slot-is, place-le (slot-named slots p .letters) (spellings (slot-names slots)))
 
 pub value-declared : (slots : List Slot) (p : Pair) → Declared-pair slots p → p .value ≤ length (values-of slots (p .slot))
-value-declared slots p n =
-    let l : length (spellings (values-of slots (p .slot))) ≡ length (values-of slots (p .slot)) = rw length-map in
-    omega (arith, l, n .value-is, place-le (value-named slots p .letters) (spellings (values-of slots (p .slot))))
+value-declared slots p n = slotval-le (values-of slots (p .slot)) (value-written slots p) (p .value) (n .value-is)
+  where
+    slotval-le : (names : List Name) (v : ValueTree) (k : ℕ) → Means-slotval names v k → k ≤ length names
+    slotval-le names v k (means-name {n = m} {k = i} e) =
+        let l : length (spellings names) ≡ length names = rw length-map in
+        omega (arith, l, e, place-le (m .letters) (spellings names))
+    slotval-le names v k means-none = omega arith
 
 -- Neither of two tests holds.
 neither : (a b : Bool) → (a ∨ᵇ b) ≡ false → (a ≡ false) × (b ≡ false)

@@ -4,20 +4,29 @@ use Prim.Native.Nat.{ℕ}
 use native.Mathlib.Omega.{arith}
 use mathlib.Core.Path.{_≡_, refl, sym, ap, subst, _∙_}
 use mathlib.Core.List.{List, [], _∷_, _++_}
-use Rattle.text.specs.Tokens.{Token, word, name, SLOT, WHEN, IF, THEN, AND, NOT, OPEN, CLOSE, COMMA, SEMICOLON, tokens-from}
+use Rattle.text.specs.Tokens.{Token, word, name, SLOT, WHEN, IF, THEN, AND, NOT, OPEN, CLOSE, COMMA, SEMICOLON, BECOMES, HAS, GETS, tokens-from}
 use Rattle.text.specs.Cut.{No-semi, Free, before-semi, past-semi}
 use Rattle.text.proofs.Cut.{tokens-free, before-free, past-free}
-use Rattle.grammar.specs.Grammar.{RuleTree, rule, trigger, ConditionTree, and-literal, one-literal, true-alone, LiteralTree, not-literal, becomes-value, holds-value, AssignTree, one-alone, braces, AssignmentListTree, one-assignment, comma-assignment, AssignmentTree, gets-value, ValueListTree, one-value, comma-value, LineTree, line, spell-literal, spell-condition, spell-assignment, spell-assignments, spell-assign, spell-trigger, spell-rule, spell-values, spell-line}
+use Rattle.grammar.specs.Grammar.{RuleTree, rule, trigger, ValueTree, value-name, value-none, ConditionTree, and-literal, one-literal, true-alone, LiteralTree, not-literal, becomes-value, holds-value, AssignTree, one-alone, braces, AssignmentListTree, one-assignment, comma-assignment, AssignmentTree, gets-value, ValueListTree, one-value, comma-value, LineTree, line, spell-value, spell-literal, spell-condition, spell-assignment, spell-assignments, spell-assign, spell-trigger, spell-rule, spell-values, spell-line}
 
 -- The tokens before the first `;`, followed by `;` and others.
 abbrev pub refit : List Token → List Token → List Token
 refit ts us = before-semi ts ++ word SEMICOLON ∷ us
 
+-- A value is no `;`.
+value-past : (v : ValueTree) (rest : List Token) → past-semi (spell-value v ∷ rest) ≡ past-semi rest
+value-past (value-name n) rest = refl
+value-past value-none rest = refl
+
+value-refit : (v : ValueTree) (rest us : List Token) → refit (spell-value v ∷ rest) us ≡ spell-value v ∷ refit rest us
+value-refit (value-name n) rest us = refl
+value-refit value-none rest us = refl
+
 -- What a statement derives has one `;`, its last token: what follows it is `rest`, and may be anything else.
 literal-past : (l : LiteralTree) (rest : List Token) → past-semi (spell-literal l rest) ≡ past-semi rest
 literal-past (not-literal l) rest = literal-past l rest
-literal-past (becomes-value s v) rest = refl
-literal-past (holds-value s v) rest = refl
+literal-past (becomes-value s v) rest = value-past v rest
+literal-past (holds-value s v) rest = value-past v rest
 
 condition-past : (c : ConditionTree) (rest : List Token) → past-semi (spell-condition c rest) ≡ past-semi rest
 condition-past (and-literal c l) rest = condition-past c (word AND ∷ spell-literal l rest) ∙ literal-past l rest
@@ -25,7 +34,7 @@ condition-past (one-literal l) rest = literal-past l rest
 condition-past true-alone rest = refl
 
 assignment-past : (a : AssignmentTree) (rest : List Token) → past-semi (spell-assignment a rest) ≡ past-semi rest
-assignment-past (gets-value s v) rest = refl
+assignment-past (gets-value s v) rest = value-past v rest
 
 assignments-past : (l : AssignmentListTree) (rest : List Token) → past-semi (spell-assignments l rest) ≡ past-semi rest
 assignments-past (one-assignment a) rest = assignment-past a rest
@@ -36,7 +45,8 @@ assign-past (one-alone a) rest = assignment-past a rest
 assign-past (braces l) rest = assignments-past l (word CLOSE ∷ rest)
 
 pub rule-past : (t : RuleTree) (rest : List Token) → past-semi (spell-rule t rest) ≡ rest
-rule-past (rule (trigger s v) c a) rest = condition-past c (word THEN ∷ spell-assign a (word SEMICOLON ∷ rest)) ∙ assign-past a (word SEMICOLON ∷ rest)
+rule-past (rule (trigger s v) c a) rest =
+    value-past v (word IF ∷ spell-condition c (word THEN ∷ spell-assign a (word SEMICOLON ∷ rest))) ∙ condition-past c (word THEN ∷ spell-assign a (word SEMICOLON ∷ rest)) ∙ assign-past a (word SEMICOLON ∷ rest)
 
 values-past : (l : ValueListTree) (rest : List Token) → past-semi (spell-values l rest) ≡ past-semi rest
 values-past (one-value n) rest = refl
@@ -47,8 +57,8 @@ line-past (line n vs) rest = values-past vs (word CLOSE ∷ word SEMICOLON ∷ r
 
 literal-refit : (l : LiteralTree) (rest us : List Token) → refit (spell-literal l rest) us ≡ spell-literal l (refit rest us)
 literal-refit (not-literal l) rest us = ap (λ (y : List Token). word NOT ∷ y) (literal-refit l rest us)
-literal-refit (becomes-value s v) rest us = refl
-literal-refit (holds-value s v) rest us = refl
+literal-refit (becomes-value s v) rest us = ap (λ (y : List Token). name s ∷ word BECOMES ∷ y) (value-refit v rest us)
+literal-refit (holds-value s v) rest us = ap (λ (y : List Token). name s ∷ word HAS ∷ y) (value-refit v rest us)
 
 condition-refit : (c : ConditionTree) (rest us : List Token) → refit (spell-condition c rest) us ≡ spell-condition c (refit rest us)
 condition-refit (and-literal c l) rest us =
@@ -57,7 +67,7 @@ condition-refit (one-literal l) rest us = literal-refit l rest us
 condition-refit true-alone rest us = refl
 
 assignment-refit : (a : AssignmentTree) (rest us : List Token) → refit (spell-assignment a rest) us ≡ spell-assignment a (refit rest us)
-assignment-refit (gets-value s v) rest us = refl
+assignment-refit (gets-value s v) rest us = ap (λ (y : List Token). name s ∷ word GETS ∷ y) (value-refit v rest us)
 
 assignments-refit : (l : AssignmentListTree) (rest us : List Token) → refit (spell-assignments l rest) us ≡ spell-assignments l (refit rest us)
 assignments-refit (one-assignment a) rest us = assignment-refit a rest us
@@ -70,7 +80,8 @@ assign-refit (braces l) rest us = ap (λ (y : List Token). word OPEN ∷ y) (ass
 
 pub rule-refit : (t : RuleTree) (rest us : List Token) → refit (spell-rule t rest) us ≡ spell-rule t us
 rule-refit (rule (trigger s v) c a) rest us =
-    ap (λ (y : List Token). word WHEN ∷ spell-trigger (trigger s v) (word IF ∷ y))
+    ap (λ (y : List Token). word WHEN ∷ name s ∷ word BECOMES ∷ y) (value-refit v (word IF ∷ spell-condition c (word THEN ∷ spell-assign a (word SEMICOLON ∷ rest))) us)
+    ∙ ap (λ (y : List Token). word WHEN ∷ spell-trigger (trigger s v) (word IF ∷ y))
     (condition-refit c (word THEN ∷ spell-assign a (word SEMICOLON ∷ rest)) us
     ∙ ap (λ (y : List Token). spell-condition c (word THEN ∷ y)) (assign-refit a (word SEMICOLON ∷ rest) us))
 

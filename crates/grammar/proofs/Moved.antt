@@ -4,18 +4,22 @@ use Prim.Native.Nat.{ℕ, suc}
 use mathlib.Core.Path.{_≡_, refl, ap, _∙_}
 use mathlib.Core.List.{List, _∷_, map}
 use mathlib.Core.Bool.{false}
-use Rattle.text.specs.Tokens.{Name, Token, word, WHEN, IF, THEN, AND, NOT, OPEN, CLOSE, COMMA, SEMICOLON}
+use Rattle.text.specs.Tokens.{Name, Token, word, name, WHEN, IF, THEN, AND, NOT, OPEN, CLOSE, COMMA, SEMICOLON, BECOMES, HAS, GETS}
 use Rattle.text.specs.Cut.{moved-name, moved}
 use Rattle.model.specs.Rules.{Pair, Literal, Rule}
 use Rattle.grammar.specs.Files.{Slot}
-use Rattle.grammar.specs.Grammar.{RuleTree, rule, TriggerTree, trigger, ConditionTree, and-literal, one-literal, true-alone, LiteralTree, not-literal, becomes-value, holds-value, AssignTree, one-alone, braces, AssignmentListTree, one-assignment, comma-assignment, AssignmentTree, gets-value, spell-literal, spell-condition, spell-assignment, spell-assignments, spell-assign, spell-trigger, spell-rule}
-use Rattle.grammar.specs.Meaning.{Names, turned, nots, tests-change, tested-slot, tested-value, Means-literal, Means-condition, means-and, means-one, means-true, Means-assignment, means-assignment, Means-assignments, means-first, means-comma, Means-assign, means-alone, means-braces, Means-trigger, means-trigger, Means-rule, means-rule}
+use Rattle.grammar.specs.Grammar.{RuleTree, rule, TriggerTree, trigger, ValueTree, value-name, value-none, ConditionTree, and-literal, one-literal, true-alone, LiteralTree, not-literal, becomes-value, holds-value, AssignTree, one-alone, braces, AssignmentListTree, one-assignment, comma-assignment, AssignmentTree, gets-value, spell-value, spell-literal, spell-condition, spell-assignment, spell-assignments, spell-assign, spell-trigger, spell-rule}
+use Rattle.grammar.specs.Meaning.{Means-slotval, means-name, means-none, Names, turned, nots, tests-change, tested-slot, tested-value, Means-literal, Means-condition, means-and, means-one, means-true, Means-assignment, means-assignment, Means-assignments, means-first, means-comma, Means-assign, means-alone, means-braces, Means-trigger, means-trigger, Means-rule, means-rule}
 
 module _ (f : ℕ → ℕ) where
+  abbrev moved-value : ValueTree → ValueTree
+  moved-value (value-name n) = value-name (moved-name f n)
+  moved-value value-none = value-none
+
   abbrev moved-literal : LiteralTree → LiteralTree
   moved-literal (not-literal l) = not-literal (moved-literal l)
-  moved-literal (becomes-value s v) = becomes-value (moved-name f s) (moved-name f v)
-  moved-literal (holds-value s v) = holds-value (moved-name f s) (moved-name f v)
+  moved-literal (becomes-value s v) = becomes-value (moved-name f s) (moved-value v)
+  moved-literal (holds-value s v) = holds-value (moved-name f s) (moved-value v)
 
   abbrev moved-condition : ConditionTree → ConditionTree
   moved-condition (and-literal c l) = and-literal (moved-condition c) (moved-literal l)
@@ -23,7 +27,7 @@ module _ (f : ℕ → ℕ) where
   moved-condition true-alone = true-alone
 
   abbrev moved-assignment : AssignmentTree → AssignmentTree
-  moved-assignment (gets-value s v) = gets-value (moved-name f s) (moved-name f v)
+  moved-assignment (gets-value s v) = gets-value (moved-name f s) (moved-value v)
 
   abbrev moved-assignments : AssignmentListTree → AssignmentListTree
   moved-assignments (one-assignment a) = one-assignment (moved-assignment a)
@@ -34,7 +38,7 @@ module _ (f : ℕ → ℕ) where
   moved-assign (braces l) = braces (moved-assignments l)
 
   abbrev moved-trigger : TriggerTree → TriggerTree
-  moved-trigger (trigger s v) = trigger (moved-name f s) (moved-name f v)
+  moved-trigger (trigger s v) = trigger (moved-name f s) (moved-value v)
 
   -- A rule with its names elsewhere.
   abbrev pub moved-rule : RuleTree → RuleTree
@@ -43,10 +47,18 @@ module _ (f : ℕ → ℕ) where
   abbrev all-moved : List Token → List Token
   all-moved ts = map (moved f) ts
 
+  value-moved : (v : ValueTree) → moved f (spell-value v) ≡ spell-value (moved-value v)
+  value-moved (value-name n) = refl
+  value-moved value-none = refl
+
+  -- A slot's name, a mark and a value.
+  test-moved : (s : Name) (w : ℕ) (v : ValueTree) (rest : List Token) → all-moved (name s ∷ word w ∷ spell-value v ∷ rest) ≡ name (moved-name f s) ∷ word w ∷ spell-value (moved-value v) ∷ all-moved rest
+  test-moved s w v rest = ap (λ (t : Token). name (moved-name f s) ∷ word w ∷ t ∷ all-moved rest) (value-moved v)
+
   literal-moved : (l : LiteralTree) (rest : List Token) → all-moved (spell-literal l rest) ≡ spell-literal (moved-literal l) (all-moved rest)
   literal-moved (not-literal l) rest = ap (λ (y : List Token). word NOT ∷ y) (literal-moved l rest)
-  literal-moved (becomes-value s v) rest = refl
-  literal-moved (holds-value s v) rest = refl
+  literal-moved (becomes-value s v) rest = test-moved s BECOMES v rest
+  literal-moved (holds-value s v) rest = test-moved s HAS v rest
 
   condition-moved : (c : ConditionTree) (rest : List Token) → all-moved (spell-condition c rest) ≡ spell-condition (moved-condition c) (all-moved rest)
   condition-moved (and-literal c l) rest =
@@ -55,7 +67,7 @@ module _ (f : ℕ → ℕ) where
   condition-moved true-alone rest = refl
 
   assignment-moved : (a : AssignmentTree) (rest : List Token) → all-moved (spell-assignment a rest) ≡ spell-assignment (moved-assignment a) (all-moved rest)
-  assignment-moved (gets-value s v) rest = refl
+  assignment-moved (gets-value s v) rest = test-moved s GETS v rest
 
   assignments-moved : (l : AssignmentListTree) (rest : List Token) → all-moved (spell-assignments l rest) ≡ spell-assignments (moved-assignments l) (all-moved rest)
   assignments-moved (one-assignment a) rest = assignment-moved a rest
@@ -67,7 +79,7 @@ module _ (f : ℕ → ℕ) where
   assign-moved (braces l) rest = ap (λ (y : List Token). word OPEN ∷ y) (assignments-moved l (word CLOSE ∷ rest))
 
   trigger-moved : (t : TriggerTree) (rest : List Token) → all-moved (spell-trigger t rest) ≡ spell-trigger (moved-trigger t) (all-moved rest)
-  trigger-moved (trigger s v) rest = refl
+  trigger-moved (trigger s v) rest = test-moved s BECOMES v rest
 
   -- It derives the moved tokens.
   pub rule-moved : (t : RuleTree) (rest : List Token) → all-moved (spell-rule t rest) ≡ spell-rule (moved-rule t) (all-moved rest)
@@ -78,8 +90,12 @@ module _ (f : ℕ → ℕ) where
       (condition-moved c (word THEN ∷ spell-assign a (word SEMICOLON ∷ rest))
       ∙ ap (λ (y : List Token). spell-condition (moved-condition c) (word THEN ∷ y)) (assign-moved a (word SEMICOLON ∷ rest))))
 
-  names-moved : {slots : List Slot} {s v : Name} {p : Pair} → Names slots s v p → Names slots (moved-name f s) (moved-name f v) p
-  names-moved n = record { slot-is = n .slot-is; value-is = n .value-is; value-there = n .value-there }
+  slotval-moved : {names : List Name} {v : ValueTree} {k : ℕ} → Means-slotval names v k → Means-slotval names (moved-value v) k
+  slotval-moved (means-name e) = means-name e
+  slotval-moved means-none = means-none
+
+  names-moved : {slots : List Slot} {s : Name} {v : ValueTree} {p : Pair} → Names slots s v p → Names slots (moved-name f s) (moved-value v) p
+  names-moved n = record { slot-is = n .slot-is; value-is = slotval-moved (n .value-is) }
 
   literal-names : (slots : List Slot) (l : LiteralTree) (p : Pair) → Names slots (tested-slot l) (tested-value l) p → Names slots (tested-slot (moved-literal l)) (tested-value (moved-literal l)) p
   literal-names slots (not-literal l) p n = literal-names slots l p n

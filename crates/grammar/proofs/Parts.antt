@@ -8,16 +8,16 @@ use mathlib.Core.List.{List, [], _∷_, _++_}
 use mathlib.Core.Logic.{_⊎_, inl, inr}
 use lib.Dec.{eqb}
 use borrow.Author.Tests.{eqb-true}
-use Rattle.text.specs.Tokens.{Name, Token, word, name, long, bad, THEN, AND, NOT, BECOMES, HAS}
+use Rattle.text.specs.Tokens.{Name, Token, word, name, long, bad, THEN, AND, NOT, NONE, BECOMES, HAS}
 use Rattle.model.specs.Rules.{Pair, Literal, assigns}
 use Rattle.grammar.specs.Files.{Slot, place-in, slot-names, values-of}
-use Rattle.grammar.specs.Grammar.{LiteralTree, not-literal, becomes-value, holds-value, spell-literal}
-use Rattle.grammar.specs.Reading.{Part, took, stop, _then_, a-name, begins-with, new, new-name, known-slot, known-value, unassigned, read-slot, read-value, read-target, plain-literal, read-literal, no-literal, read-literals, no-assignment, no-value}
+use Rattle.grammar.specs.Grammar.{ValueTree, value-name, value-none, LiteralTree, not-literal, becomes-value, holds-value, spell-value, spell-literal}
+use Rattle.grammar.specs.Reading.{Part, took, stop, _then_, a-name, begins-with, new, new-name, known-slot, known-value, unassigned, read-slot, read-place, read-value, read-target, plain-literal, read-literal, no-literal, read-literals, no-assignment, no-value}
 use Rattle.model.specs.Result.{pair}
 use Rattle.grammar.proofs.Forward.{literal-read}
 use Rattle.grammar.proofs.Backward.{literal-back, no-literal-back}
 use Rattle.grammar.proofs.Stopping.{Written, Language, Begins, bad-token, wrong-token, the-end, long-name, later-fault, stop-behind, stop-where, nothing-next, Fits, Reader, nothing, reader-took, both, reader-then, Stops-at, stop-here, follows-same, follows-long, a-single-name, Name-reader, reader-name}
-use Rattle.grammar.proofs.Choosing.{either, reader-fork, list-of, reader-list}
+use Rattle.grammar.proofs.Choosing.{reader-along, either, reader-fork, perhaps, reader-next, list-of, reader-list}
 
 -- A reading that stops with a number from 14 on, whatever follows.
 stopped : {A : Type 0} (R : List Token → Part A) (k : ℕ) → ((ts : List Token) → R ts ≡ stop k) → 14 ≤ k → (k : ℕ) × (14 ≤ k) × ((ts : List Token) → R ts ≡ stop k)
@@ -32,9 +32,9 @@ slot-name-read slots = record { at-end = refl; at-word = λ w ts. refl; at-long 
     go zero = inr (stopped (known-slot zero) _ (λ ts. refl) (omega arith))
     go (suc i) = inl (i, λ ts. refl)
 
-pub value-name-read : (slots : List Slot) (s : ℕ) → Name-reader (read-value slots s)
-unfolding read-value a-name _then_ known-value
-value-name-read slots s = record { at-end = refl; at-word = λ w ts. refl; at-long = λ ts. refl; at-bad = λ ts. refl; at-name = λ n. go (place-in (values-of slots s) n) }
+place-name-read : (names : List Name) → Name-reader (read-place names)
+unfolding read-place a-name _then_ known-value
+place-name-read names = record { at-end = refl; at-word = λ w ts. refl; at-long = λ ts. refl; at-bad = λ ts. refl; at-name = λ n. go (place-in names n) }
   where
     go : (i : ℕ) → ((v : ℕ) × ((ts : List Token) → known-value i ts ≡ took v ts)) ⊎ ((k : ℕ) × (14 ≤ k) × ((ts : List Token) → known-value i ts ≡ stop k))
     go zero = inr (stopped (known-value zero) _ (λ ts. refl) (omega arith))
@@ -77,6 +77,42 @@ full-value-read ns = record { at-end = refl; at-word = λ w ts. refl; at-long = 
 abbrev pub x-name : Name
 x-name = record { start = 0; letters = 120 ∷ [] }
 
+-- A value: NONE, or a name.
+pub value-tokens : (v : ValueTree) (rest : List Token) → Written rest → Written (spell-value v ∷ rest)
+value-tokens (value-name n) rest h = h
+value-tokens value-none rest h = h
+
+abbrev pub a-value : Language
+a-value = record { Tree = ValueTree; spells = λ v rest. spell-value v ∷ rest; append = λ v xs ys. refl; written = value-tokens; some-tree = value-name x-name }
+
+abbrev value-parts : Language
+value-parts = perhaps NONE nothing a-single-name
+
+value-from : value-parts .Tree → ValueTree
+value-from (inl u) = value-none
+value-from (inr n) = value-name n
+
+value-from-spelled : (x : value-parts .Tree) (rest : List Token) → value-parts .spells x rest ≡ spell-value (value-from x) ∷ rest
+unfolding value-from
+value-from-spelled (inl u) rest = refl
+value-from-spelled (inr n) rest = refl
+
+value-parts-of : ValueTree → value-parts .Tree
+value-parts-of (value-name n) = inr n
+value-parts-of value-none = inl tt
+
+value-parts-spelled : (v : ValueTree) (rest : List Token) → spell-value v ∷ rest ≡ value-parts .spells (value-parts-of v) rest
+unfolding value-parts-of
+value-parts-spelled (value-name n) rest = refl
+value-parts-spelled value-none rest = refl
+
+pub reader-value : (slots : List Slot) (s : ℕ) → Reader a-value (read-value slots s)
+unfolding read-value
+reader-value slots s =
+    reader-along value-parts a-value (read-value slots s)
+    (reader-next NONE (took 0) (read-place (values-of slots s)) nothing a-single-name (reader-took 0) (reader-name (read-place (values-of slots s)) (place-name-read (values-of slots s))) (λ n rest. refl))
+    value-from value-from-spelled value-parts-of value-parts-spelled
+
 -- Literals.
 pub literal-append : (l : LiteralTree) (xs ys : List Token) → spell-literal l (xs ++ ys) ≡ spell-literal l xs ++ ys
 literal-append (not-literal l) xs ys = ap (λ (y : List Token). word NOT ∷ y) (literal-append l xs ys)
@@ -85,32 +121,32 @@ literal-append (holds-value s v) xs ys = refl
 
 pub literal-written : (l : LiteralTree) (rest : List Token) → Written rest → Written (spell-literal l rest)
 literal-written (not-literal l) rest h = literal-written l rest h
-literal-written (becomes-value s v) rest h = h
-literal-written (holds-value s v) rest h = h
+literal-written (becomes-value s v) rest h = value-tokens v rest h
+literal-written (holds-value s v) rest h = value-tokens v rest h
 
 abbrev pub a-literal : Language
-a-literal = record { Tree = LiteralTree; spells = spell-literal; append = literal-append; written = literal-written; some-tree = holds-value x-name x-name }
+a-literal = record { Tree = LiteralTree; spells = spell-literal; append = literal-append; written = literal-written; some-tree = holds-value x-name (value-name x-name) }
 
 -- A literal without NOT.
 abbrev a-plain-literal : Language
-a-plain-literal = both a-single-name (either BECOMES HAS (both a-single-name nothing) (both a-single-name nothing))
+a-plain-literal = both a-single-name (either BECOMES HAS (both a-value nothing) (both a-value nothing))
 
 abbrev literal-from : a-plain-literal .Tree → LiteralTree
 literal-from x = elim (x .1) as (λ y. LiteralTree) [ inl y ↦ becomes-value (x .0) (y .0) | inr y ↦ holds-value (x .0) (y .0) ]
 
-literal-from-spelled : (n : Name) (y : (Name × Unit {0}) ⊎ (Name × Unit {0})) (rest : List Token) → a-plain-literal .spells (n, y) rest ≡ spell-literal (literal-from (n, y)) rest
+literal-from-spelled : (n : Name) (y : (ValueTree × Unit {0}) ⊎ (ValueTree × Unit {0})) (rest : List Token) → a-plain-literal .spells (n, y) rest ≡ spell-literal (literal-from (n, y)) rest
 literal-from-spelled n (inl y) rest = refl
 literal-from-spelled n (inr y) rest = refl
 
 reader-plain : (slots : List Slot) (neg : Bool) → Reader a-plain-literal (plain-literal slots neg)
 unfolding plain-literal
 reader-plain slots neg =
-    reader-then a-single-name (either BECOMES HAS (both a-single-name nothing) (both a-single-name nothing)) (read-slot slots) _ (reader-name (read-slot slots) (slot-name-read slots))
-    (λ s. reader-fork BECOMES HAS _ _ (both a-single-name nothing) (both a-single-name nothing) (value-end s true) (value-end s false) (λ z. omega arith))
+    reader-then a-single-name (either BECOMES HAS (both a-value nothing) (both a-value nothing)) (read-slot slots) _ (reader-name (read-slot slots) (slot-name-read slots))
+    (λ s. reader-fork BECOMES HAS _ _ (both a-value nothing) (both a-value nothing) (value-end s true) (value-end s false) (λ z. omega arith))
   where
-    value-end : (s : ℕ) (b : Bool) → Reader {A = Literal} (both a-single-name nothing) (λ more. read-value slots s more then λ v left. took (record { becomes = b; negated = neg; pair = pair s v }) left)
+    value-end : (s : ℕ) (b : Bool) → Reader {A = Literal} (both a-value nothing) (λ more. read-value slots s more then λ v left. took (record { becomes = b; negated = neg; pair = pair s v }) left)
     value-end s b =
-        reader-then a-single-name nothing (read-value slots s) (λ v left. took (record { becomes = b; negated = neg; pair = pair s v }) left) (reader-name (read-value slots s) (value-name-read slots s)) (λ v. reader-took (record { becomes = b; negated = neg; pair = pair s v }))
+        reader-then a-value nothing (read-value slots s) (λ v left. took (record { becomes = b; negated = neg; pair = pair s v }) left) (reader-value slots s) (λ v. reader-took (record { becomes = b; negated = neg; pair = pair s v }))
 
 -- Where NOT does not stand next, a literal is read as a plain one.
 literal-plain : (slots : List Slot) (neg : Bool) (ts : List Token) → begins-with NOT ts ≡ false → read-literal ts slots neg ≡ plain-literal slots neg ts
@@ -147,7 +183,7 @@ literal-stops (name n ∷ ts) slots neg k e =
     (Begins a-literal) (λ us. read-literal us slots neg ≡ stop 12) (λ us. read-literal us slots neg ≡ stop k) NOT false plain-begins
     (λ us off z. literal-plain slots neg us (nothing-next NOT us off) ∙ z) (λ t us off z. literal-plain slots neg (t ∷ us) off ∙ z) (name n ∷ ts) k refl (reader-plain slots neg .stops (name n ∷ ts) k e)
 literal-stops (long ∷ ts) slots neg k e =
-    stop-here a-literal (λ us. read-literal us slots neg) (long ∷ ts) 13 k refl refl (long-name (λ n rest. (holds-value n x-name, word HAS ∷ name x-name ∷ rest, refl)))
+    stop-here a-literal (λ us. read-literal us slots neg) (long ∷ ts) 13 k refl refl (long-name (λ n rest. (holds-value n (value-name x-name), word HAS ∷ name x-name ∷ rest, refl)))
     (follows-long (λ us. read-literal us slots neg ≡ stop 13) 13 ts (λ later. refl) (λ z n later. absurd (omega arith))) e
 literal-stops (bad ∷ ts) slots neg k e =
     stop-here a-literal (λ us. read-literal us slots neg) (bad ∷ ts) 11 k refl refl bad-token (follows-same (λ us. read-literal us slots neg ≡ stop 11) 11 bad ts refl (λ later. refl)) e
@@ -177,7 +213,7 @@ no-literal-fits sofar (becomes-value s v) more rest = omega arith
 no-literal-fits sofar (holds-value s v) more rest = omega arith
 
 name-begins-literals : (n : Name) → Begins literals (name n ∷ [])
-name-begins-literals n rest = ((holds-value n x-name, []), word HAS ∷ name x-name ∷ word THEN ∷ rest, refl)
+name-begins-literals n rest = ((holds-value n (value-name x-name), []), word HAS ∷ name x-name ∷ word THEN ∷ rest, refl)
 
 no-literal-stops : (sofar : List Literal) (ts : List Token) (k : ℕ) → no-literal sofar ts ≡ stop k → Stops-at literals (no-literal sofar) ts k
 unfolding no-literal
@@ -190,7 +226,7 @@ no-literal-stops sofar (word w ∷ ts) k e = go (eqb w NOT) refl
     go : (t : Bool) → eqb w NOT ≡ t → Stops-at literals (no-literal sofar) (word w ∷ ts) k
     go true q =
         stop-here literals (no-literal sofar) (word w ∷ ts) 15 k refl (at-word true q ts)
-        (later-fault (omega arith) (λ rest. ((not-literal (holds-value x-name x-name), []), name x-name ∷ word HAS ∷ name x-name ∷ word THEN ∷ rest, ap (λ (i : ℕ). word i ∷ name x-name ∷ word HAS ∷ name x-name ∷ word THEN ∷ rest) (sym (eqb-true w NOT q)))))
+        (later-fault (omega arith) (λ rest. ((not-literal (holds-value x-name (value-name x-name)), []), name x-name ∷ word HAS ∷ name x-name ∷ word THEN ∷ rest, ap (λ (i : ℕ). word i ∷ name x-name ∷ word HAS ∷ name x-name ∷ word THEN ∷ rest) (sym (eqb-true w NOT q)))))
         (follows-same (λ us. no-literal sofar us ≡ stop 15) 15 (word w) ts refl (at-word true q)) e
     go false q =
         stop-here literals (no-literal sofar) (word w ∷ ts) 12 k refl (at-word false q ts) (wrong-token refl)

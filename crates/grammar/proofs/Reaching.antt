@@ -14,7 +14,7 @@ use Rattle.laws.specs.Limits.{slot-limit, value-limit, rule-limit, literal-limi
 use Rattle.grammar.specs.Files.{Slot, place-in, slot-names}
 use Rattle.grammar.specs.Grammar.{RuleTree, rule, TriggerTree, trigger, ConditionTree, LiteralTree, AssignmentTree, gets-value, LineTree, spell-trigger, spell-literal, spell-condition, spell-assignment, spell-rule, spell-line}
 use Rattle.grammar.specs.Meaning.{Means-trigger, means-trigger, Means-literal, Means-condition, Means-assignment, Means-rule, Means-line}
-use Rattle.grammar.specs.Reading.{Part, took, stop, refused, _then_, fork, a-name, begins-with, if-next, new, new-name, known-slot, known-value, unassigned, read-slot, read-value, read-target, read-list, plain-literal, read-literal, no-literal, read-literals, read-condition, read-assignment, no-assignment, read-assignments, read-assign, read-rule, no-value, read-values, read-line, read-rules, read-lines, read-tokens}
+use Rattle.grammar.specs.Reading.{Part, took, stop, refused, _then_, fork, a-name, begins-with, if-next, new, new-name, known-slot, known-value, unassigned, read-slot, read-place, read-value, read-target, read-list, plain-literal, read-literal, no-literal, read-literals, read-condition, read-assignment, no-assignment, read-assignments, read-assign, read-rule, no-value, read-values, read-line, read-rules, read-lines, read-tokens}
 use Rattle.grammar.specs.Beginnings.{Position, next-line, fresh-slot, fresh-value, next-rule, next-trigger, next-condition, next-literal, literal-slot, next-assign, next-listed, assigned-slot, next-value, Before, start, behind-line, behind-slot, behind-open, behind-value, lines-over, behind-rule, behind-when, behind-trigger-slot, behind-if, no-true-first, behind-true, behind-literal, literal-first, behind-not, behind-becomes, behind-has, behind-then, no-brace, behind-brace, behind-assignment, in-braces, behind-gets, Fault-at, slot-twice, value-twice, too-many-slots, too-many-values, too-many-rules, too-many-literals, too-many-nots, too-many-assignments, no-trigger-slot, no-tested-slot, no-assigned-slot, no-such-value, slot-assigned-twice}
 use Rattle.grammar.proofs.Forward.{took-then, expects-here, value-here, new-here, literals-step, and-here, then-here, no-true, condition-true, condition-read, assignments-step, rule-read, values-step, line-read, rules-begin}
 use Rattle.grammar.proofs.Backward.{room-for-one}
@@ -236,7 +236,7 @@ new-there (suc i) h = absurd (h (omega arith))
 
 -- At a token with a fault, and with none of a smaller number, the reading halts, whatever follows.
 halts : (k : ℕ) (P : Position) (t : Token) (us : List Token) → Fault-at k P t → ((j : ℕ) → j < k → ¬ Fault-at j P t) → Halts P (t ∷ us) k
-unfolding read-line read-list read-values no-value read-rule no-literal read-literal plain-literal read-assignment read-target unassigned no-assignment a-name read-value known-value _then_
+unfolding read-line read-list read-values no-value read-rule no-literal read-literal plain-literal read-assignment read-target unassigned no-assignment a-name read-place read-value if-next known-value _then_
 halts k P t us (slot-twice {slots = slots} {n = n} e) least = rw (expects-here SLOT _, again (slot-names slots) n us e)
 halts k P t us (value-twice {ns = ns} {n = n} e) least = on
   where

@@ -9,10 +9,12 @@ use mathlib.Core.Logic.{_⊎_, inl, inr, ⊎-elim}
 use lib.Dec.{eqb}
 use borrow.Author.Tests.{eqb-true}
 use lib.ListN.{length, length-append}
-use Rattle.text.specs.Tokens.{Name, Token, word, name, long, bad}
+use Rattle.text.specs.Tokens.{Name, Token, word, name, long, bad, NONE}
 use Rattle.model.specs.Rules.{Pair, assigns}
 use Rattle.grammar.specs.Files.{Slot, place-in, slot-names, values-of}
-use Rattle.grammar.specs.Reading.{Part, took, stop, _then_, expects, fork, a-name, begins-with, if-next, new, new-name, known-slot, known-value, unassigned, read-slot, read-value, read-target, read-list}
+use Rattle.grammar.specs.Grammar.{ValueTree, value-name, value-none, spell-value}
+use Rattle.grammar.specs.Meaning.{Means-slotval, means-name, means-none}
+use Rattle.grammar.specs.Reading.{Part, took, stop, _then_, expects, fork, a-name, begins-with, if-next, new, new-name, known-slot, known-value, unassigned, read-slot, read-place, read-value, read-target, read-list}
 use Rattle.grammar.proofs.Forward.{after-part}
 
 pub never : {A B : Type 0} (k : ℕ) (a : A) (ts : List Token) → stop k ≡ took a ts → B
@@ -62,10 +64,10 @@ unfolding known-slot
 known-slot-back zero ts s rest e = never _ s rest e
 known-slot-back (suc k) ts s rest e = let h = took-same k s ts rest e in (ap suc (h .0), h .1)
 
-pub known-value-back : (k : ℕ) (ts : List Token) (v : ℕ) (rest : List Token) → known-value k ts ≡ took v rest → (k ≡ v) × (1 ≤ v) × (ts ≡ rest)
+pub known-value-back : (k : ℕ) (ts : List Token) (v : ℕ) (rest : List Token) → known-value k ts ≡ took v rest → (i : ℕ) × (k ≡ suc i) × (suc i ≡ v) × (ts ≡ rest)
 unfolding known-value
 known-value-back zero ts v rest e = never _ v rest e
-known-value-back (suc k) ts v rest e = let h = took-same (suc k) v ts rest e in (h .0, (let z = h .0 in omega arith), h .1)
+known-value-back (suc k) ts v rest e = let h = took-same (suc k) v ts rest e in (k, refl, h .0, h .1)
 
 pub unassigned-back : (t : Bool) (s : ℕ) (ts : List Token) (u : ℕ) (rest : List Token) → unassigned t s ts ≡ took u rest → (t ≡ false) × (s ≡ u) × (ts ≡ rest)
 unfolding unassigned
@@ -84,14 +86,6 @@ slot-back slots ts s rest e =
     let a = then-back (a-name ts) _ s rest e in
     let b = known-slot-back (place-in (slot-names slots) (a .0)) (a .1) s rest (a .3) in
     (a .0, name-back ts (a .0) (a .1) (a .2) ∙ put (name (a .0)) (b .1), b .0)
-
-pub value-back : (slots : List Slot) (s : ℕ) (ts : List Token) (v : ℕ) (rest : List Token) → read-value slots s ts ≡ took v rest
-    → (n : Name) × (ts ≡ name n ∷ rest) × (place-in (values-of slots s) n ≡ v) × (1 ≤ v)
-unfolding read-value
-value-back slots s ts v rest e =
-    let a = then-back (a-name ts) _ v rest e in
-    let b = known-value-back (place-in (values-of slots s) (a .0)) (a .1) v rest (a .3) in
-    (a .0, name-back ts (a .0) (a .1) (a .2) ∙ put (name (a .0)) (b .2), b .0, b .1)
 
 pub target-back : (slots : List Slot) (ps : List Pair) (ts : List Token) (s : ℕ) (rest : List Token) → read-target slots ps ts ≡ took s rest
     → (n : Name) × (ts ≡ name n ∷ rest) × (place-in (slot-names slots) n ≡ suc s) × (assigns ps s ≡ false)
@@ -144,6 +138,17 @@ if-next-back {B} w f g ts b e = go (begins-with w ts) refl e
     go : (t : Bool) → begins-with w ts ≡ t → cond {A = List Token → B} t f g ts ≡ b → ((more : List Token) × (ts ≡ word w ∷ more) × (f (word w ∷ more) ≡ b)) ⊎ (g ts ≡ b)
     go true q x = let h = begins-back w ts q in inl (h .0, h .1, sym (ap f (h .1)) ∙ x)
     go false q x = inr x
+
+-- A value that was read: NONE, or the name of one.
+pub value-back : (slots : List Slot) (s : ℕ) (ts : List Token) (v : ℕ) (rest : List Token) → read-value slots s ts ≡ took v rest
+    → (t : ValueTree) × (ts ≡ spell-value t ∷ rest) × Means-slotval (values-of slots s) t v
+unfolding read-value read-place
+value-back slots s ts v rest e =
+    ⊎-elim (λ x. let t = took-same 0 v (x .0) rest (x .2) in (value-none, x .1 ∙ put (word NONE) (t .1), subst (Means-slotval (values-of slots s) value-none) (t .0) means-none))
+    (λ x. let a = then-back (a-name ts) _ v rest x in
+    let b = known-value-back (place-in (values-of slots s) (a .0)) (a .1) v rest (a .3) in
+    (value-name (a .0), name-back ts (a .0) (a .1) (a .2) ∙ put (name (a .0)) (b .3), subst (Means-slotval (values-of slots s) (value-name (a .0))) (b .2) (means-name (b .1))))
+    (if-next-back NONE _ _ ts (took v rest) e)
 
 -- A list that was read: the tree so far grows by each part, up to the end.
 module _

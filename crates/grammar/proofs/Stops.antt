@@ -9,7 +9,7 @@ use Rattle.text.specs.Tokens.{Name, Token, word, name, SLOT, WHEN, IF, THEN, AN
 use Rattle.model.specs.Rules.{Pair}
 use Rattle.laws.specs.Limits.{value-limit, literal-limit, assignment-limit}
 use Rattle.grammar.specs.Files.{Slot, slot-names}
-use Rattle.grammar.specs.Grammar.{RuleTree, rule, trigger, ConditionTree, and-literal, one-literal, true-alone, LiteralTree, AssignTree, one-alone, braces, AssignmentListTree, one-assignment, comma-assignment, AssignmentTree, gets-value, ValueListTree, one-value, comma-value, LineTree, line, spell-literal, spell-condition, spell-assignment, spell-assignments, spell-assign, spell-rule, spell-values, spell-line, grown}
+use Rattle.grammar.specs.Grammar.{RuleTree, rule, trigger, value-name, ConditionTree, and-literal, one-literal, true-alone, LiteralTree, AssignTree, one-alone, braces, AssignmentListTree, one-assignment, comma-assignment, AssignmentTree, gets-value, ValueListTree, one-value, comma-value, LineTree, line, spell-value, spell-literal, spell-condition, spell-assignment, spell-assignments, spell-assign, spell-rule, spell-values, spell-line, grown}
 use Rattle.grammar.specs.Reading.{took, _then_, expects, fork, new-name, read-slot, read-value, read-target, read-literals, read-condition, read-assignment, no-assignment, read-assignments, read-assign, read-rule, no-value, read-values, read-line}
 use Rattle.model.specs.Result.{pair}
 use Rattle.grammar.proofs.Forward.{no-true, no-open}
@@ -17,7 +17,7 @@ use Rattle.grammar.proofs.Backward.{no-assignment-back, no-value-back}
 use Rattle.grammar.proofs.Leftmost.{Opening, with-literal, with-true, opened, condition-leftmost, spells-condition, assignments-leftmost, spells-assignments, values-leftmost, spells-values}
 use Rattle.grammar.proofs.Stopping.{Written, Language, Reader, nothing, reader-took, both, reader-then, the-word, reader-expects, a-single-name, reader-name, reader-full}
 use Rattle.grammar.proofs.Choosing.{reader-along, either, reader-fork, perhaps, reader-next, list-of, reader-list}
-use Rattle.grammar.proofs.Parts.{slot-name-read, value-name-read, new-name-read, target-name-read, full-assignment-read, full-value-read, x-name, literal-append, literal-written, literals, reader-literals}
+use Rattle.grammar.proofs.Parts.{slot-name-read, new-name-read, target-name-read, full-assignment-read, full-value-read, x-name, a-value, reader-value, literal-append, literal-written, literals, reader-literals}
 
 -- Conditions with their THEN.
 pub condition-append : (c : ConditionTree) (xs ys : List Token) → spell-condition c (xs ++ ys) ≡ spell-condition c xs ++ ys
@@ -81,13 +81,13 @@ pub assignment-append : (a : AssignmentTree) (xs ys : List Token) → spell-assi
 assignment-append (gets-value s v) xs ys = refl
 
 assignment-written : (a : AssignmentTree) (rest : List Token) → Written rest → Written (spell-assignment a rest)
-assignment-written (gets-value s v) rest h = h
+assignment-written (gets-value s v) rest h = a-value .written v rest h
 
 abbrev an-assignment : Language
-an-assignment = record { Tree = AssignmentTree; spells = spell-assignment; append = assignment-append; written = assignment-written; some-tree = gets-value x-name x-name }
+an-assignment = record { Tree = AssignmentTree; spells = spell-assignment; append = assignment-append; written = assignment-written; some-tree = gets-value x-name (value-name x-name) }
 
 abbrev assignment-parts : Language
-assignment-parts = both a-single-name (both (the-word GETS) (both a-single-name nothing))
+assignment-parts = both a-single-name (both (the-word GETS) (both a-value nothing))
 
 assignment-of : AssignmentTree → assignment-parts .Tree
 assignment-of (gets-value s v) = (s, (tt, (v, tt)))
@@ -100,9 +100,9 @@ reader-assignment : (slots : List Slot) (sofar : List Pair) → Reader an-assign
 unfolding read-assignment
 reader-assignment slots sofar =
     reader-along assignment-parts an-assignment (read-assignment slots sofar)
-    (reader-then a-single-name (both (the-word GETS) (both a-single-name nothing)) (read-target slots sofar) _ (reader-name (read-target slots sofar) (target-name-read slots sofar))
-    (λ s. reader-then (the-word GETS) (both a-single-name nothing) (expects GETS) _ (reader-expects GETS)
-    (λ u. reader-then a-single-name nothing (read-value slots s) _ (reader-name (read-value slots s) (value-name-read slots s)) (λ v. reader-took (pair s v)))))
+    (reader-then a-single-name (both (the-word GETS) (both a-value nothing)) (read-target slots sofar) _ (reader-name (read-target slots sofar) (target-name-read slots sofar))
+    (λ s. reader-then (the-word GETS) (both a-value nothing) (expects GETS) _ (reader-expects GETS)
+    (λ u. reader-then a-value nothing (read-value slots s) _ (reader-value slots s) (λ v. reader-took (pair s v)))))
     (λ x. gets-value (x .0) (x .1 .1 .0)) (λ x rest. refl) assignment-of assignment-of-spelled
 
 -- Assignments with commas between and `}` at the end.
@@ -110,13 +110,13 @@ abbrev assignments : Language
 assignments = list-of an-assignment COMMA CLOSE
 
 first-of-assignments : (a : AssignmentTree) (more : List Token) → (n : Name) × (rest : List Token) × (spell-assignment a more ≡ name n ∷ rest)
-first-of-assignments (gets-value s v) more = (s, word GETS ∷ name v ∷ more, refl)
+first-of-assignments (gets-value s v) more = (s, word GETS ∷ spell-value v ∷ more, refl)
 
 reader-assignments : (slots : List Slot) (room : ℕ) (sofar : List Pair) → Reader assignments (read-assignments slots room sofar)
 unfolding read-assignments
 reader-assignments slots room sofar =
     reader-list an-assignment COMMA CLOSE (read-assignment slots) no-assignment (reader-assignment slots)
-    (λ ps. reader-full assignments (no-assignment ps) (full-assignment-read ps) (λ n rest. ((gets-value n x-name, []), word GETS ∷ name x-name ∷ word CLOSE ∷ rest, refl))
+    (λ ps. reader-full assignments (no-assignment ps) (full-assignment-read ps) (λ n rest. ((gets-value n (value-name x-name), []), word GETS ∷ name x-name ∷ word CLOSE ∷ rest, refl))
     (λ x rest. first-of-assignments (x .0) _) (no-assignment-back ps)) (λ z. omega arith) room sofar
 
 -- What follows THEN.
@@ -137,7 +137,7 @@ assign-written (one-alone a) rest h = assignment-written a rest h
 assign-written (braces l) rest h = assignments-written l (word CLOSE ∷ rest) h
 
 abbrev an-assign : Language
-an-assign = record { Tree = AssignTree; spells = spell-assign; append = assign-append; written = assign-written; some-tree = one-alone (gets-value x-name x-name) }
+an-assign = record { Tree = AssignTree; spells = spell-assign; append = assign-append; written = assign-written; some-tree = one-alone (gets-value x-name (value-name x-name)) }
 
 abbrev assign-parts : Language
 assign-parts = perhaps OPEN assignments (both an-assignment nothing)
@@ -173,7 +173,7 @@ reader-assign slots =
 
 -- Rules.
 abbrev rule-parts : Language
-rule-parts = both (the-word WHEN) (both a-single-name (both (the-word BECOMES) (both a-single-name (both (the-word IF) (both a-condition (both an-assign (both (the-word SEMICOLON) nothing)))))))
+rule-parts = both (the-word WHEN) (both a-single-name (both (the-word BECOMES) (both a-value (both (the-word IF) (both a-condition (both an-assign (both (the-word SEMICOLON) nothing)))))))
 
 rule-of : RuleTree → rule-parts .Tree
 rule-of (rule (trigger s v) c a) = (tt, (s, (tt, (v, (tt, (c, (a, (tt, tt))))))))
@@ -190,7 +190,7 @@ pub rule-written : (t : RuleTree) (rest : List Token) → Written rest → Writt
 rule-written t rest h = subst Written (sym (rule-of-spelled t rest)) (rule-parts .written (rule-of t) rest h)
 
 abbrev pub a-rule : Language
-a-rule = record { Tree = RuleTree; spells = spell-rule; append = rule-append; written = rule-written; some-tree = rule (trigger x-name x-name) true-alone (one-alone (gets-value x-name x-name)) }
+a-rule = record { Tree = RuleTree; spells = spell-rule; append = rule-append; written = rule-written; some-tree = rule (trigger x-name (value-name x-name)) true-alone (one-alone (gets-value x-name (value-name x-name))) }
 
 -- The reader of a rule.
 pub reader-rule : (slots : List Slot) → Reader a-rule (read-rule slots)
@@ -200,7 +200,7 @@ reader-rule slots =
     (reader-then (the-word WHEN) _ (expects WHEN) _ (reader-expects WHEN) (λ u1.
     reader-then a-single-name _ (read-slot slots) _ (reader-name (read-slot slots) (slot-name-read slots)) (λ s.
     reader-then (the-word BECOMES) _ (expects BECOMES) _ (reader-expects BECOMES) (λ u2.
-    reader-then a-single-name _ (read-value slots s) _ (reader-name (read-value slots s) (value-name-read slots s)) (λ v.
+    reader-then a-value _ (read-value slots s) _ (reader-value slots s) (λ v.
     reader-then (the-word IF) _ (expects IF) _ (reader-expects IF) (λ u3.
     reader-then a-condition _ (read-condition slots) _ (reader-condition slots) (λ ls.
     reader-then an-assign _ (read-assign slots) _ (reader-assign slots) (λ ps.

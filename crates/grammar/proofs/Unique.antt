@@ -5,8 +5,8 @@ use native.Mathlib.Omega.{arith}
 use mathlib.Core.Path.{_≡_, refl, sym, ap, ap₂, _∙_}
 use mathlib.Core.List.{List, [], _∷_}
 use lib.ListN.{drop}
-use Rattle.text.specs.Tokens.{Name, Token, word, name, SLOT, WHEN, IF, THEN, AND, NOT, TRUE, OPEN, CLOSE, COMMA, SEMICOLON, BECOMES, HAS}
-use Rattle.grammar.specs.Grammar.{RuleTree, rule, TriggerTree, trigger, ConditionTree, and-literal, LiteralTree, not-literal, becomes-value, holds-value, AssignTree, one-alone, braces, AssignmentListTree, one-assignment, comma-assignment, AssignmentTree, gets-value, ValueListTree, one-value, comma-value, LineTree, line, FileTree, spell, spell-literal, spell-condition, spell-assignment, spell-assignments, spell-assign, spell-trigger, spell-rule, spell-rules, spell-values, spell-line, spell-lines, grown}
+use Rattle.text.specs.Tokens.{Name, Token, word, name, SLOT, WHEN, IF, THEN, AND, NOT, TRUE, NONE, OPEN, CLOSE, COMMA, SEMICOLON, BECOMES, HAS, GETS}
+use Rattle.grammar.specs.Grammar.{RuleTree, rule, TriggerTree, trigger, ValueTree, value-name, value-none, ConditionTree, and-literal, LiteralTree, not-literal, becomes-value, holds-value, AssignTree, one-alone, braces, AssignmentListTree, one-assignment, comma-assignment, AssignmentTree, gets-value, ValueListTree, one-value, comma-value, LineTree, line, FileTree, spell, spell-value, spell-literal, spell-condition, spell-assignment, spell-assignments, spell-assign, spell-trigger, spell-rule, spell-rules, spell-values, spell-line, spell-lines, grown}
 use Rattle.grammar.proofs.Leftmost.{spell-more, Opening, with-literal, with-true, opened, condition-leftmost, spells-condition, assignments-leftmost, spells-assignments, spell-name, values-leftmost, spells-values}
 
 pub other-word : {C : Type 0} (v w : ℕ) (xs ys : List Token) → word v ∷ xs ≡ word w ∷ ys → (v ≡ w → ⊥) → C
@@ -27,16 +27,30 @@ more-same {A} spell-one sep end inj d (a ∷ xs) (b ∷ ys) r s e =
     let g = more-same spell-one sep end inj d xs ys r s (h .1) in
     (ap₂ (λ (x : A) (y : List A). x ∷ y) (h .0) (g .0), g .1)
 
+one-value-tree : (v w : ValueTree) → spell-value v ≡ spell-value w → v ≡ w
+one-value-tree (value-name m) (value-name n) e = let z : m ≡ n = cc in ap value-name z
+one-value-tree (value-name n) value-none e = word-name NONE n [] [] (ap (λ (t : Token). t ∷ []) (sym e))
+one-value-tree value-none (value-name n) e = word-name NONE n [] [] (ap (λ (t : Token). t ∷ []) e)
+one-value-tree value-none value-none e = refl
+
+-- A slot's name, a mark and a value with the same tokens are the same.
+one-test : {T : Type 0} (test : Name → ValueTree → T) (w : ℕ) (a c : Name) (b d : ValueTree) (r s : List Token) → name a ∷ word w ∷ spell-value b ∷ r ≡ name c ∷ word w ∷ spell-value d ∷ s
+    → (test a b ≡ test c d) × (r ≡ s)
+one-test test w a c b d r s e =
+    let x : a ≡ c = cc in
+    let y : spell-value b ≡ spell-value d = cc in
+    (ap₂ test x (one-value-tree b d y), ap (drop 3) e)
+
 one-literal-tree : (l m : LiteralTree) (r s : List Token) → spell-literal l r ≡ spell-literal m s → (l ≡ m) × (r ≡ s)
 one-literal-tree (not-literal l) (not-literal m) r s e = let h = one-literal-tree l m r s (ap (drop 1) e) in (ap not-literal (h .0), h .1)
 one-literal-tree (not-literal l) (becomes-value a b) r s e = word-name NOT a _ _ e
 one-literal-tree (not-literal l) (holds-value a b) r s e = word-name NOT a _ _ e
 one-literal-tree (becomes-value a b) (not-literal m) r s e = word-name NOT a _ _ (sym e)
-one-literal-tree (becomes-value a b) (becomes-value c d) r s e = (cc, cc)
+one-literal-tree (becomes-value a b) (becomes-value c d) r s e = one-test becomes-value BECOMES a c b d r s e
 one-literal-tree (becomes-value a b) (holds-value c d) r s e = other-word BECOMES HAS _ _ (ap (drop 1) e) (λ z. omega arith)
 one-literal-tree (holds-value a b) (not-literal m) r s e = word-name NOT a _ _ (sym e)
 one-literal-tree (holds-value a b) (becomes-value c d) r s e = other-word HAS BECOMES _ _ (ap (drop 1) e) (λ z. omega arith)
-one-literal-tree (holds-value a b) (holds-value c d) r s e = (cc, cc)
+one-literal-tree (holds-value a b) (holds-value c d) r s e = one-test holds-value HAS a c b d r s e
 
 not-true : {C : Type 0} (l : LiteralTree) (r s : List Token) → spell-literal l r ≡ word TRUE ∷ s → C
 not-true (not-literal l) r s e = other-word NOT TRUE _ _ e (λ z. omega arith)
@@ -60,7 +74,7 @@ one-condition-tree c d r s e =
     (x .2 ∙ ap₂ (λ (o : Opening) (ls : List LiteralTree). grown and-literal (opened o) ls) (h .0) (g .0) ∙ sym (y .2), g .1)
 
 one-assignment-tree : (a b : AssignmentTree) (r s : List Token) → spell-assignment a r ≡ spell-assignment b s → (a ≡ b) × (r ≡ s)
-one-assignment-tree (gets-value n v) (gets-value m w) r s e = (cc, cc)
+one-assignment-tree (gets-value n v) (gets-value m w) r s e = one-test gets-value GETS n m v w r s e
 
 one-assignments-tree : (l m : AssignmentListTree) (r s : List Token) → spell-assignments l (word CLOSE ∷ r) ≡ spell-assignments m (word CLOSE ∷ s) → (l ≡ m) × (r ≡ s)
 one-assignments-tree l m r s e =
@@ -79,7 +93,7 @@ one-assign-tree (braces l) (one-alone (gets-value n v)) r s e = word-name OPEN n
 one-assign-tree (braces l) (braces m) r s e = let h = one-assignments-tree l m r s (ap (drop 1) e) in (ap braces (h .0), h .1)
 
 one-trigger-tree : (t u : TriggerTree) (r s : List Token) → spell-trigger t r ≡ spell-trigger u s → (t ≡ u) × (r ≡ s)
-one-trigger-tree (trigger n v) (trigger m w) r s e = (cc, cc)
+one-trigger-tree (trigger n v) (trigger m w) r s e = one-test trigger BECOMES n m v w r s e
 
 one-rule-tree : (t u : RuleTree) (r s : List Token) → spell-rule t r ≡ spell-rule u s → (t ≡ u) × (r ≡ s)
 one-rule-tree (rule t c a) (rule u d b) r s e =

@@ -35,7 +35,7 @@ pub data Position : Type 0 where
   next-listed : List Slot → List Pair → Position
   -- The name of a slot to be assigned, after these assignments of its rule.
   assigned-slot : List Slot → List Pair → Position
-  -- The name of a value of the slot of this number.
+  -- A value of the slot of this number, by its name or NONE.
   next-value : List Slot → ℕ → Position
 
 -- These tokens stand before a position: slot lines, rules, and the beginning of one more statement, all declared and within the limits.

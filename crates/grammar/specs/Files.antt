@@ -1,9 +1,10 @@
 -- What a rule file declares and says: slots with their names, and rules over slot and value numbers (document 01, 'Rule text').
-use Prim.Native.Nat.{ℕ, _-_}
+use Prim.Native.Nat.{ℕ, zero, suc}
 use mathlib.Core.List.{List, [], map}
 use lib.ListN.{length, getD}
 use Rattle.text.specs.Tokens.{Name, place}
 use Rattle.model.specs.Rules.{Pair, Rule}
+use Rattle.grammar.specs.Grammar.{ValueTree, value-name, value-none}
 
 -- A slot as declared: its name, and the names of its values, numbered from 1 in declared order.
 pub record Slot : Type 0 where
@@ -39,9 +40,14 @@ values-of slots s = getD slots s no-slot .values
 abbrev pub slot-named : List Slot → Pair → Name
 slot-named slots p = getD slots (p .slot) no-slot .name
 
--- The declared name of a pair's value; values are numbered from 1.
-abbrev pub value-named : List Slot → Pair → Name
-value-named slots p = getD (values-of slots (p .slot)) (p .value - 1) (no-slot .name)
+-- The value of a number as a rule writes it, by the declared names of its slot's values: NONE for 0, and names from 1 on.
+abbrev pub written-value : List Name → ℕ → ValueTree
+written-value names zero = value-none
+written-value names (suc k) = value-name (getD names k (no-slot .name))
+
+-- The value of a pair as a rule writes it.
+abbrev pub value-written : List Slot → Pair → ValueTree
+value-written slots p = written-value (values-of slots (p .slot)) (p .value)
 
 -- How many values each slot has.
 abbrev pub slot-counts : List Slot → List ℕ

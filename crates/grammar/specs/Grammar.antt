@@ -1,6 +1,6 @@
--- The grammar: the productions of the RL paper's appendix in its order, every rule ending in `;`, then the slot lines of document 01, 'Rule text'. A constructor is a production, a tree a derivation, and `spell-..` gives the tokens that a tree derives.
+-- The grammar: the productions of the RL paper's appendix in its order, every rule ending in `;`, NONE for a value by document 02, section 6; then the slot lines of document 01, 'Rule text'. A constructor is a production, a tree a derivation, and `spell-..` gives the tokens that a tree derives.
 use mathlib.Core.List.{List, [], _∷_}
-use Rattle.text.specs.Tokens.{Name, Token, word, name, SLOT, WHEN, IF, THEN, AND, NOT, TRUE, OPEN, CLOSE, COMMA, SEMICOLON, BECOMES, HAS, GETS}
+use Rattle.text.specs.Tokens.{Name, Token, word, name, SLOT, WHEN, IF, THEN, AND, NOT, TRUE, NONE, OPEN, CLOSE, COMMA, SEMICOLON, BECOMES, HAS, GETS}
 
 mutual
   -- rule ::= WHEN r_trig IF r_cond THEN r_assign ;
@@ -9,7 +9,12 @@ mutual
 
   -- r_trig ::= slot-name *= slotval
   pub data TriggerTree : Type 0 where
-    trigger : Name → Name → TriggerTree
+    trigger : Name → ValueTree → TriggerTree
+
+  -- slotval ::= name | NONE
+  pub data ValueTree : Type 0 where
+    value-name : Name → ValueTree
+    value-none : ValueTree
 
   -- r_cond ::= r_cond AND r_literal | r_literal | TRUE
   pub data ConditionTree : Type 0 where
@@ -20,8 +25,8 @@ mutual
   -- r_literal ::= NOT r_literal | slot-name *= slotval | slot-name |= slotval
   pub data LiteralTree : Type 0 where
     not-literal : LiteralTree → LiteralTree
-    becomes-value : Name → Name → LiteralTree
-    holds-value : Name → Name → LiteralTree
+    becomes-value : Name → ValueTree → LiteralTree
+    holds-value : Name → ValueTree → LiteralTree
 
   -- r_assign ::= assignment | { assignment-list }
   pub data AssignTree : Type 0 where
@@ -35,7 +40,7 @@ mutual
 
   -- assignment ::= slot-name := slotval
   pub data AssignmentTree : Type 0 where
-    gets-value : Name → Name → AssignmentTree
+    gets-value : Name → ValueTree → AssignmentTree
 
 -- value-list ::= name | value-list , name
 pub data ValueListTree : Type 0 where
@@ -56,11 +61,16 @@ abbrev pub grown : {A T : Type 0} → (T → A → T) → T → List A → T
 grown grow t [] = t
 grown grow t (a ∷ xs) = grown grow (grow t a) xs
 
+-- The token that a value derives.
+abbrev pub spell-value : ValueTree → Token
+spell-value (value-name n) = name n
+spell-value value-none = word NONE
+
 -- The tokens that a literal derives, followed by `rest`.
 abbrev pub spell-literal : LiteralTree → List Token → List Token
 spell-literal (not-literal l) rest = word NOT ∷ spell-literal l rest
-spell-literal (becomes-value s v) rest = name s ∷ word BECOMES ∷ name v ∷ rest
-spell-literal (holds-value s v) rest = name s ∷ word HAS ∷ name v ∷ rest
+spell-literal (becomes-value s v) rest = name s ∷ word BECOMES ∷ spell-value v ∷ rest
+spell-literal (holds-value s v) rest = name s ∷ word HAS ∷ spell-value v ∷ rest
 
 -- Those of a condition.
 abbrev pub spell-condition : ConditionTree → List Token → List Token
@@ -70,7 +80,7 @@ spell-condition true-alone rest = word TRUE ∷ rest
 
 -- Those of an assignment.
 abbrev pub spell-assignment : AssignmentTree → List Token → List Token
-spell-assignment (gets-value s v) rest = name s ∷ word GETS ∷ name v ∷ rest
+spell-assignment (gets-value s v) rest = name s ∷ word GETS ∷ spell-value v ∷ rest
 
 -- Those of a list of assignments.
 abbrev pub spell-assignments : AssignmentListTree → List Token → List Token
@@ -84,7 +94,7 @@ spell-assign (braces l) rest = word OPEN ∷ spell-assignments l (word CLOSE ∷
 
 -- Those of a trigger.
 abbrev pub spell-trigger : TriggerTree → List Token → List Token
-spell-trigger (trigger s v) rest = name s ∷ word BECOMES ∷ name v ∷ rest
+spell-trigger (trigger s v) rest = name s ∷ word BECOMES ∷ spell-value v ∷ rest
 
 -- Those of a rule.
 abbrev pub spell-rule : RuleTree → List Token → List Token

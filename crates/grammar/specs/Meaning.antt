@@ -8,13 +8,17 @@ use Rattle.text.specs.Tokens.{Name, tokens}
 use Rattle.model.specs.Rules.{Pair, Literal, Rule, assigns}
 use Rattle.laws.specs.Limits.{text-limit, slot-limit, value-limit, rule-limit, literal-limit, assignment-limit}
 use Rattle.grammar.specs.Files.{Slot, File, place-in, slot-names, values-of}
-use Rattle.grammar.specs.Grammar.{RuleTree, rule, TriggerTree, trigger, ConditionTree, and-literal, one-literal, true-alone, LiteralTree, not-literal, becomes-value, holds-value, AssignTree, one-alone, braces, AssignmentListTree, one-assignment, comma-assignment, AssignmentTree, gets-value, ValueListTree, one-value, comma-value, LineTree, line, FileTree, spell}
+use Rattle.grammar.specs.Grammar.{RuleTree, rule, TriggerTree, trigger, ValueTree, value-name, value-none, ConditionTree, and-literal, one-literal, true-alone, LiteralTree, not-literal, becomes-value, holds-value, AssignTree, one-alone, braces, AssignmentListTree, one-assignment, comma-assignment, AssignmentTree, gets-value, ValueListTree, one-value, comma-value, LineTree, line, FileTree, spell}
 
--- A slot's name and a value's name mean a pair: the slot is declared, and the value is declared in it.
-pub record Names (slots : List Slot) (s v : Name) (p : Pair) : Type 0 where
+-- A value means a number, among the declared names of a slot's values: a name its place there, from 1; NONE 0.
+pub data Means-slotval (names : List Name) : ValueTree → ℕ → Type 0 where
+  means-name : {n : Name} {k : ℕ} → place-in names n ≡ suc k → Means-slotval names (value-name n) (suc k)
+  means-none : Means-slotval names value-none 0
+
+-- A slot's name and a value mean a pair: the slot is declared, and the value is declared in it or NONE.
+pub record Names (slots : List Slot) (s : Name) (v : ValueTree) (p : Pair) : Type 0 where
   pub slot-is : place-in (slot-names slots) s ≡ suc (p .slot)
-  pub value-is : place-in (values-of slots (p .slot)) v ≡ p .value
-  pub value-there : 1 ≤ p .value
+  pub value-is : Means-slotval (values-of slots (p .slot)) v (p .value)
 
 -- How many NOTs a literal has.
 abbrev pub nots : LiteralTree → ℕ
@@ -39,13 +43,13 @@ tested-slot (not-literal l) = tested-slot l
 tested-slot (becomes-value s v) = s
 tested-slot (holds-value s v) = s
 
--- The value's name in a literal.
-abbrev pub tested-value : LiteralTree → Name
+-- The value in a literal.
+abbrev pub tested-value : LiteralTree → ValueTree
 tested-value (not-literal l) = tested-value l
 tested-value (becomes-value s v) = v
 tested-value (holds-value s v) = v
 
--- A literal: `*=` or `|=`, negated where its NOTs do not cancel, over a declared slot and value.
+-- A literal: `*=` or `|=`, negated where its NOTs do not cancel, over a declared slot and a value of it or NONE.
 pub record Means-literal (slots : List Slot) (l : LiteralTree) (m : Literal) : Type 0 where
   pub mark : m .becomes ≡ tests-change l
   pub sign : m .negated ≡ turned (nots l) false
@@ -58,9 +62,9 @@ pub data Means-condition (slots : List Slot) : ConditionTree → List Literal �
   means-one : {l : LiteralTree} {m : Literal} → Means-literal slots l m → Means-condition slots (one-literal l) (m ∷ [])
   means-true : Means-condition slots true-alone []
 
--- An assignment: a declared slot and value.
+-- An assignment: a declared slot, and a value of it or NONE.
 pub data Means-assignment (slots : List Slot) : AssignmentTree → Pair → Type 0 where
-  means-assignment : {s v : Name} {p : Pair} → Names slots s v p → Means-assignment slots (gets-value s v) p
+  means-assignment : {s : Name} {v : ValueTree} {p : Pair} → Names slots s v p → Means-assignment slots (gets-value s v) p
 
 -- Assignments in order: none of a slot that one before it assigns.
 pub data Means-assignments (slots : List Slot) : AssignmentListTree → List Pair → Type 0 where
@@ -73,9 +77,9 @@ pub data Means-assign (slots : List Slot) : AssignTree → List Pair → Type 0 
   means-alone : {a : AssignmentTree} {p : Pair} → Means-assignment slots a p → Means-assign slots (one-alone a) (p ∷ [])
   means-braces : {l : AssignmentListTree} {ps : List Pair} → Means-assignments slots l ps → Means-assign slots (braces l) ps
 
--- A trigger: a declared slot and value.
+-- A trigger: a declared slot, and a value of it or NONE.
 pub data Means-trigger (slots : List Slot) : TriggerTree → Pair → Type 0 where
-  means-trigger : {s v : Name} {p : Pair} → Names slots s v p → Means-trigger slots (trigger s v) p
+  means-trigger : {s : Name} {v : ValueTree} {p : Pair} → Names slots s v p → Means-trigger slots (trigger s v) p
 
 -- A rule, with its literals and assignments within the limits.
 pub data Means-rule (slots : List Slot) : RuleTree → Rule → Type 0 where

@@ -4,7 +4,7 @@ use mathlib.Core.Bool.{Bool, true, false, not, cond}
 use mathlib.Core.List.{List, [], _∷_, _++_}
 use lib.Dec.{eqb, leb}
 use lib.ListN.{length, drop}
-use Rattle.text.specs.Tokens.{Name, Token, word, name, long, bad, SLOT, WHEN, IF, THEN, AND, NOT, TRUE, OPEN, CLOSE, COMMA, SEMICOLON, BECOMES, HAS, GETS, tokens}
+use Rattle.text.specs.Tokens.{Name, Token, word, name, long, bad, SLOT, WHEN, IF, THEN, AND, NOT, TRUE, NONE, OPEN, CLOSE, COMMA, SEMICOLON, BECOMES, HAS, GETS, tokens}
 use Rattle.model.specs.Rules.{Pair, Literal, Rule, assigns}
 use Rattle.model.specs.Result.{pair}
 use Rattle.laws.specs.Limits.{text-limit, slot-limit, value-limit, rule-limit, literal-limit, assignment-limit}
@@ -72,7 +72,7 @@ unfoldable pub known-slot : ℕ → List Token → Part ℕ
 known-slot zero ts = stop 16
 known-slot (suc k) ts = took k ts
 
--- 16 for a value; values are numbered from 1.
+-- 16 for a value; those declared are numbered from 1.
 unfoldable pub known-value : ℕ → List Token → Part ℕ
 known-value zero ts = stop 16
 known-value (suc k) ts = took (suc k) ts
@@ -90,9 +90,13 @@ new-name names ts = a-name ts then λ n rest. new (place-in names n) n rest
 unfoldable pub read-slot : List Slot → List Token → Part ℕ
 read-slot slots ts = a-name ts then λ n rest. known-slot (place-in (slot-names slots) n) rest
 
--- The name of a value of slot `s`.
+-- The name of one of some values, by its place among them, from 1.
+unfoldable pub read-place : List Name → List Token → Part ℕ
+read-place names ts = a-name ts then λ n rest. known-value (place-in names n) rest
+
+-- A value of slot `s`: the name of one, or NONE, which is 0 and declared nowhere.
 unfoldable pub read-value : List Slot → ℕ → List Token → Part ℕ
-read-value slots s ts = a-name ts then λ n rest. known-value (place-in (values-of slots s) n) rest
+read-value slots s ts = if-next NONE (λ more. took 0 (drop 1 more)) (read-place (values-of slots s)) ts
 
 -- The name of a slot to be assigned, after the assignments `sofar` of its rule.
 unfoldable pub read-target : List Slot → List Pair → List Token → Part ℕ

@@ -13,7 +13,7 @@ name-limit = 24
 abbrev pub slot-limit : ℕ
 slot-limit = 32
 
--- Values in a slot.
+-- Values declared in a slot; NONE is not counted.
 abbrev pub value-limit : ℕ
 value-limit = 15
 
@@ -37,6 +37,6 @@ tally-limit = 9999
 abbrev pub editor-limit : ℕ
 editor-limit = 40
 
--- The values of a slot and 0, which stands for none: the places of one slot in an array indexed by pair.
+-- NONE, which is value 0, and the values of a slot: the places of one slot in an array indexed by pair.
 abbrev pub row : ℕ
 row = value-limit + 1

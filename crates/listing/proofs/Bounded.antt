@@ -7,9 +7,10 @@ use mathlib.Core.Path.{_≡_, refl}
 use mathlib.Core.Bool.{Bool, true, false}
 use mathlib.Core.List.{List, [], _∷_, _++_, map}
 use lib.ListN.{length, length-append}
+use borrow.Author.Tests.{ne-eqb}
 use Rattle.laws.specs.Truth.{_∨ᵇ_}
 use Rattle.laws.specs.Quoted.{bytes-from, bytes}
-use Rattle.laws.specs.Limits.{slot-limit}
+use Rattle.laws.specs.Limits.{name-limit, slot-limit}
 use Rattle.laws.specs.Packed.{byte-count}
 use Rattle.laws.specs.Tabulated.{tabulate}
 use Rattle.laws.specs.Answers.{OrRefused, taken, refused}
@@ -28,7 +29,7 @@ use Rattle.tally.specs.Editors.{is-editor}
 use Rattle.tally.proofs.EditorLaws.{editor-e}
 use Rattle.response.specs.Ending.{Answer}
 use Rattle.response.specs.Respond.{answer-at, counted, tally-after}
-use Rattle.listing.specs.Listing.{RuleLine, program-rooms, editor-number, program-editors, rule-line, change-line, list-response, list-reading, listing}
+use Rattle.listing.specs.Listing.{RuleLine, program-rooms, editor-number, program-editors, rule-line, value-listed, change-line, list-response, list-reading, listing}
 use Rattle.listing.specs.Printed.{decimal, hexadecimal, fired-word, rule-text, rules-text, change-text, changes-text, card-text, tally-text, refusal-text, rule-text-most, change-text-most, card-text-most, tally-text-most, page, printed}
 use Rattle.listing.proofs.Digits.{decimal-short, refusal-length, hex-length}
 use Rattle.listing.proofs.Accepted.{slots-counted, rules-counted, few-slots, few-rules, strata-low, slot-short, value-short}
@@ -80,6 +81,12 @@ one-counted : (n : ℕ) (a : Answer) → is-editor n ≡ true → length (tally-
 unfolding tally-after counted is-full _∨ᵇ_
 one-counted n a e = tally-le n (tally-after fresh (taken a)) (omega (arith, editor-e n e .1)) (omega arith) (omega arith)
 
+-- A value as it is listed is no longer than a name.
+listed-short : (value : ℕ) (name : List ℕ) → length name ≤ name-limit → length (value-listed value name) ≤ name-limit
+unfolding bytes bytes-from
+listed-short zero name h = omega arith
+listed-short (suc k) name h = rw (ne-eqb (suc k) 0 (λ e. omega arith)) h
+
 -- The line of a change, by the names of an accepted text.
 module _ (text : List ℕ) (o : reading text .outcome ≡ Accepted) where
   abbrev t : Table
@@ -89,8 +96,8 @@ module _ (text : List ℕ) (o : reading text .outcome ≡ Accepted) where
   unfolding change-text bytes bytes-from
   change-le p =
       let s = show-slot text t (p .slot) .part in
-      let v = show-value text t (p .slot) (p .value) .part in
-      omega (arith, slot-short text o (p .slot), value-short text o (p .slot) (p .value), length-append s (bytes " " ++ (v ++ bytes "\n")), length-append v (bytes "\n"))
+      let v = value-listed (p .value) (show-value text t (p .slot) (p .value) .part) in
+      omega (arith, slot-short text o (p .slot), listed-short (p .value) (show-value text t (p .slot) (p .value) .part) (value-short text o (p .slot) (p .value)), length-append s (bytes " " ++ (v ++ bytes "\n")), length-append v (bytes "\n"))
 
   changes-le : (ps : List Pair) → length (changes-text (map (change-line text t) ps)) ≤ length ps * change-text-most
   unfolding changes-text

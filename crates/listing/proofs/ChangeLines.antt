@@ -21,7 +21,7 @@ use Rattle.names.proofs.Names.{slot-shown, value-shown}
 use Rattle.cards.specs.Forms.{count-in, changes-in}
 use Rattle.cards.proofs.Tested.{no-pair}
 use Rattle.cards.proofs.Taken.{changes-length, change-at}
-use Rattle.listing.specs.Listing.{ChangeLine, change-line}
+use Rattle.listing.specs.Listing.{ChangeLine, value-listed, change-line}
 use Rattle.listing.specs.Printed.{change-text, changes-text}
 use Rattle.listing.specs.inner.AnswerLines.{slot-change}
 
@@ -35,7 +35,7 @@ module _ (text : List ℕ) (t : Table) where
   by-slot : (slot value : ℕ) → t .width ≤ slot-limit → slot < t .width → change-line text t (pair slot value) ≡ slot-change text (getD (t .slots) slot zero-slot) value
   by-slot slot value h l =
       let e = there (t .width) slot h l in
-      ap₂ (λ (s v : List ℕ). record { slot = s; value = v }) (ap (λ (q : Showing). q .part) (slot-shown text t slot e)) (ap (λ (q : Showing). q .part) (value-shown text t slot value e))
+      ap₂ (λ (s v : List ℕ). record { slot = s; value = v }) (ap (λ (q : Showing). q .part) (slot-shown text t slot e)) (ap (λ (q : Showing). value-listed value (q .part)) (value-shown text t slot value e))
 
   module _ (ys : List ℕ) where
     -- The line of the change at place j, and those from there on.

@@ -8,7 +8,6 @@ use mathlib.Core.List.{List, [], _∷_, _++_}
 use lib.Dec.{eqb, leb, ltb}
 use lib.ListN.{length, getD, take, drop, length-append, length-take}
 use borrow.Author.Tests.{eqb-false, ltb-true}
-use Rattle.laws.specs.Truth.{_∨ᵇ_}
 use Rattle.laws.specs.Packed.{byte-count, byte-bits, field-at}
 use Rattle.laws.specs.Answers.{Verdict, passed, fault, OrRefused, taken, refused, after}
 use Rattle.laws.proofs.Packed.{number-lt}
@@ -170,7 +169,7 @@ card-small counts ys =
 
 fault-small : (counts : List ℕ) (low : ℕ) (p : Pair) → change-fault counts low p ≤ 99
 unfolding change-fault
-fault-small counts low p = go (leb (length counts) (p .slot)) (ltb (p .slot) low) (eqb (p .value) 0 ∨ᵇ ltb (getD counts (p .slot) 0) (p .value))
+fault-small counts low p = go (leb (length counts) (p .slot)) (ltb (p .slot) low) (ltb (getD counts (p .slot) 0) (p .value))
   where
     go : (a b c : Bool) → cond a 25 (cond b 26 (cond c 27 0)) ≤ 99
     go true b c = omega arith

@@ -2,6 +2,8 @@
 use Prim.Native.Nat.{ℕ, suc, _+_}
 use mathlib.Core.Bool.{Bool, cond}
 use mathlib.Core.List.{List, [], _∷_, map}
+use lib.Dec.{eqb}
+use Rattle.laws.specs.Quoted.{bytes}
 use Rattle.laws.specs.Limits.{text-limit, slot-limit, rule-limit}
 use Rattle.laws.specs.Packed.{byte-count}
 use Rattle.laws.specs.Tabulated.{tabulate}
@@ -25,7 +27,7 @@ pub record RuleLine : Type 0 where
   pub stratum : ℕ
   pub fired : Bool
 
--- The line of a change: the name of the slot and that of the value.
+-- The line of a change: the name of the slot, and that of the value or NONE.
 pub record ChangeLine : Type 0 where
   pub slot : List ℕ
   pub value : List ℕ
@@ -53,9 +55,13 @@ program-editors n = lent fresh-records n
 abbrev pub rule-line : Table → Answer → ℕ → RuleLine
 rule-line t a n = record { stratum = stratum-at t n; fired = bit-of (a .fired) n }
 
+-- A value as it is listed: by its name, and NONE for 0 (document 02, section 6).
+abbrev pub value-listed : ℕ → List ℕ → List ℕ
+value-listed value name = cond (eqb value 0) (bytes "NONE") name
+
 -- The line of a change, by the names in the text.
 abbrev pub change-line : List ℕ → Table → Pair → ChangeLine
-change-line text t p = record { slot = show-slot text t (p .slot) .part; value = show-value text t (p .slot) (p .value) .part }
+change-line text t p = record { slot = show-slot text t (p .slot) .part; value = value-listed (p .value) (show-value text t (p .slot) (p .value) .part) }
 
 -- The listing of a response, with the record that it leaves the caller.
 unfoldable pub list-response : List ℕ → Table → Editors → OrRefused Answer → Listing

@@ -1,16 +1,29 @@
-// The lines of the changes: the names of slot and value.
+// The lines of the changes: the names of slot and value, and NONE for value 0.
 ghost use Prim.Native.Nat.{_+_, _≤_};
 ghost use mathlib.Core.List.{map};
 ghost use lib.ListN.{length};
 ghost use Rattle.cards.specs.Forms.{changes-in};
+ghost use Rattle.names.specs.Names.{show-value-of};
 ghost use Rattle.writing.specs.inner.Puts.{longest, Puts};
-ghost use Rattle.listing.specs.Listing.{change-line};
+ghost use Rattle.listing.specs.Listing.{value-listed, change-line};
 ghost use Rattle.listing.specs.Printed.{change-text, changes-text};
 ghost use Rattle.listing.specs.inner.AnswerLines.{slot-change, ChangesWhole};
 use cards::fields::read_field;
 use table::Slot;
 use table::Table;
 use writing::put::put;
+
+// Puts a value of this slot: its name, or NONE for 0.
+fn put_shown(out: &mut [u8], at: usize, text: &[u8], s: Slot, value: usize) -> usize
+    requires { ⌜ at + length (value-listed value (show-value-of (now text) s value .part)) ≤ longest ⌝ }
+    ensures { λ r. ⌜ Puts (now (out .entry)) at (value-listed value (show-value-of (now (text .entry)) s value .part)) (now (out .exit)) r ⌝ }
+{
+    if value == 0 {
+        return put(out, at, b"NONE");
+    }
+    let mut code: u8 = 0;
+    put(out, at, names::value_of(text, s, value, &mut code))
+}
 
 // Puts the line of a change of this slot.
 fn put_change(out: &mut [u8], at: usize, text: &[u8], s: Slot, value: usize) -> usize
@@ -22,7 +35,7 @@ fn put_change(out: &mut [u8], at: usize, text: &[u8], s: Slot, value: usize) -> 
     let begun = put(out, at, b"change ");
     let named = put(out, begun, names::stretch(text, name, &mut code));
     let parted = put(out, named, b" ");
-    let valued = put(out, parted, names::value_of(text, s, value, &mut code));
+    let valued = put_shown(out, parted, text, s, value);
     put(out, valued, b"\n")
 }
 

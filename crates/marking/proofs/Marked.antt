@@ -30,28 +30,28 @@ unfolding rival-out _∨ᵇ_
 rival-new p q k n e = rw (ne-eqb q p n, e)
 
 -- The values of a slot, one after the other.
-rivals-next : (p v : ℕ) (k : Known) → rivals-out p (v + 1) k ≡ rival-out p (p / row * row + (v + 1)) (rivals-out p v k)
+rivals-next : (p v : ℕ) (k : Known) → rivals-out p (v + 1) k ≡ rival-out p (p / row * row + v) (rivals-out p v k)
 unfolding rivals-out
 rivals-next p v k = rw (add-one v)
 
 -- Of these the pair's own is not ruled out,
-pub rivals-self : (p v : ℕ) (j k : Known) → p / row * row + (v + 1) ≡ p → j ≡ rivals-out p v k → j ≡ rivals-out p (v + 1) k
+pub rivals-self : (p v : ℕ) (j k : Known) → p / row * row + v ≡ p → j ≡ rivals-out p v k → j ≡ rivals-out p (v + 1) k
 rivals-self p v j k e i =
-    let q = p / row * row + (v + 1) in
+    let q = p / row * row + v in
     i ∙ sym (rivals-next p v k ∙ rival-over p q (rivals-out p v k) (or-l (eqb q p) _ (from-true (eqb q p) (eq-eqb q p e))))
 
 -- nor is a negative one;
-pub rivals-negative : (p v : ℕ) (j k : Known) → getD (j .negative) (p / row * row + (v + 1)) false ≡ true → j ≡ rivals-out p v k → j ≡ rivals-out p (v + 1) k
+pub rivals-negative : (p v : ℕ) (j k : Known) → getD (j .negative) (p / row * row + v) false ≡ true → j ≡ rivals-out p v k → j ≡ rivals-out p (v + 1) k
 rivals-negative p v j k e i =
-    let q = p / row * row + (v + 1) in
+    let q = p / row * row + v in
     let t = from-true (getD (rivals-out p v k .negative) q false) (subst (λ (x : Known). getD (x .negative) q false ≡ true) i e) in
     i ∙ sym (rivals-next p v k ∙ rival-over p q (rivals-out p v k) (or-r (eqb q p) _ t))
 
 -- every other is.
-pub rivals-more : (p v : ℕ) (j k : Known) → ¬ (p / row * row + (v + 1) ≡ p) → getD (j .negative) (p / row * row + (v + 1)) false ≡ false → j ≡ rivals-out p v k
-    → ruled-out (p / row * row + (v + 1)) j ≡ rivals-out p (v + 1) k
+pub rivals-more : (p v : ℕ) (j k : Known) → ¬ (p / row * row + v ≡ p) → getD (j .negative) (p / row * row + v) false ≡ false → j ≡ rivals-out p v k
+    → ruled-out (p / row * row + v) j ≡ rivals-out p (v + 1) k
 rivals-more p v j k n e i =
-    let q = p / row * row + (v + 1) in
+    let q = p / row * row + v in
     subst (λ (x : Known). ruled-out q x ≡ rivals-out p (v + 1) k) (sym i)
     (sym (rivals-next p v k ∙ rival-new p q (rivals-out p v k) n (subst (λ (x : Known). getD (x .negative) q false ≡ false) i e)))
 

@@ -45,7 +45,7 @@ fn rule_out(
     wake(p, n, heads, nexts, queued, woken, left)
 }
 
-// A pair becomes positive and the other values of its slot negative.
+// A pair becomes positive and the other values of its slot negative, NONE among them.
 fn mark(
     p: usize,
     n: usize,
@@ -67,10 +67,10 @@ fn mark(
     truth[PAIRS + p] = if had == TRUE { FALSE } else { TRUE };
     let mut top = wake(p, n, heads, nexts, queued, woken, left);
     let first = p / ROW * ROW;
-    let mut v: usize = 0;
-    'values: while v < count {
-        v += 1;
-        let at = first + v;
+    let mut rival: usize = 0;
+    'values: while rival <= count {
+        let at = first + rival;
+        rival += 1;
         if at == p {
             continue 'values;
         }
@@ -211,7 +211,7 @@ pub fn first_negative(width: usize, live: &[u16; PAIRS], positive: &[bool; PAIRS
     negative
 }
 
-// Whether every declared pair is positive or negative.
+// Whether every declared pair, NONE of each slot among them, is positive or negative.
 pub fn all_known(
     width: usize,
     counts: &[usize; SLOTS],
@@ -226,9 +226,9 @@ pub fn all_known(
         let first = s * ROW;
         let count = counts[s];
         let mut v: usize = 0;
-        'values: while v < count {
-            v += 1;
+        'values: while v <= count {
             let at = first + v;
+            v += 1;
             if negative[at] {
                 continue 'values;
             }

@@ -30,7 +30,7 @@ unfoldable pub selects-all : Unit {0}
 unfolding computes runs-marks runs-selection
 selects-all = tt
 
--- Every pair of the slots x, y, z with the values 0 and 1.
+-- Every pair of the slots x, y, z with NONE and the values 0 and 1.
 unfoldable pub pairs : List Pair
 unfolding selects-all
 pairs = declared-pairs (2 ∷ 2 ∷ 2 ∷ [])
@@ -57,7 +57,7 @@ end rs S I = record {
 }
 
 -- The declared pairs, slot by slot.
-pub all-pairs : pairs ≡ pair x v0 ∷ pair x v1 ∷ pair y v0 ∷ pair y v1 ∷ pair z v0 ∷ pair z v1 ∷ []
+pub all-pairs : pairs ≡ pair x 0 ∷ pair x v0 ∷ pair x v1 ∷ pair y 0 ∷ pair y v0 ∷ pair y v1 ∷ pair z 0 ∷ pair z v0 ∷ pair z v1 ∷ []
 unfolding selects-all pairs
 all-pairs = refl
 
@@ -121,6 +121,30 @@ not-circle-answers = refl
 pub own-bar-42 : end (rule (pair x v1) (not-turns z v1 ∷ []) (pair z v1 ∷ []) ∷ []) no-values (pair x v1 ∷ []) .unknowns ≡ pair z v1 ∷ []
 unfolding selects-all pairs those end
 own-bar-42 = refl
+
+-- A value that the slip gives rules out NONE: with x to 1 `WHEN x *= 1 IF NOT x *= NONE THEN z := 1;` fires.
+pub none-ruled-out : end (rule (pair x v1) (not-turns x 0 ∷ []) (pair z v1 ∷ []) ∷ []) all-0 (pair x v1 ∷ []) ≡ record { refused = 0; order = 1 ∷ []; positives = pair x v1 ∷ pair z v1 ∷ []; unknowns = [] }
+unfolding selects-all pairs those end
+none-ruled-out = refl
+
+-- A withdrawal rules out the values: with x to NONE `WHEN x *= NONE IF NOT x *= 1 THEN z := NONE;` fires.
+pub values-ruled-out : end (rule (pair x 0) (not-turns x v1 ∷ []) (pair z 0 ∷ []) ∷ []) all-0 (pair x 0 ∷ []) ≡ record { refused = 0; order = 1 ∷ []; positives = pair x 0 ∷ pair z 0 ∷ []; unknowns = [] }
+unfolding selects-all pairs those end
+values-ruled-out = refl
+
+-- A value and a withdrawal together are a clash: `WHEN x *= 1 IF TRUE THEN x := NONE;` (41).
+pub withdrawn-41 : end (rule (pair x v1) [] (pair x 0 ∷ []) ∷ []) all-0 (pair x v1 ∷ []) .refused ≡ 41
+unfolding selects-all pairs those end
+withdrawn-41 = refl
+
+-- NONE stays unknown where a rule bars the withdrawal that it makes (42); on a card without values `z *= NONE` is False, and the rule fires.
+pub none-42 : end (rule (pair x v1) (not-turns z 0 ∷ []) (pair z 0 ∷ []) ∷ []) all-0 (pair x v1 ∷ []) ≡ record { refused = 42; order = []; positives = pair x v1 ∷ []; unknowns = pair z 0 ∷ [] }
+unfolding selects-all pairs those end
+none-42 = refl
+
+pub none-answers : end (rule (pair x v1) (not-turns z 0 ∷ []) (pair z 0 ∷ []) ∷ []) no-values (pair x v1 ∷ []) ≡ record { refused = 0; order = 1 ∷ []; positives = pair x v1 ∷ pair z 0 ∷ []; unknowns = [] }
+unfolding selects-all pairs those end
+none-answers = refl
 
 -- Case E: as by strata, rule 2 alone fires.
 pub case-E-answers : end (rule-d ∷ rule-e ∷ []) all-0 (pair y v1 ∷ []) ≡ record { refused = 0; order = 2 ∷ []; positives = pair x v1 ∷ pair y v1 ∷ []; unknowns = [] }

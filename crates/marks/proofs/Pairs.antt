@@ -1,4 +1,4 @@
--- The declared pairs: those of a slot below the number of slots with a value from 1 to the slot's last.
+-- The declared pairs: those of a slot below the number of slots with NONE or a value up to the slot's last.
 -- Assumes nothing.
 use Prim.Native.Nat.{ℕ, zero, suc, _+_, _≤_, _<_}
 use native.Mathlib.Omega.{arith}
@@ -22,43 +22,44 @@ use Rattle.marks.specs.Marks.{slot-pairs, declared-from, declared-pairs}
 use Rattle.marks.specs.inner.Declared.{Declared}
 use Rattle.marks.proofs.Selections.{all-pairs-e}
 
-values-e : (s k : ℕ) (p : Pair) → T (among p (slot-pairs s k)) → (p .slot ≡ s) × (1 ≤ p .value) × (p .value ≤ k)
+-- What the one pair of a list is.
+one : (p : Pair) (s k : ℕ) → p ≡ pair s k → (p .slot ≡ s) × (p .value ≤ k)
+one p s k e = rw e (refl, omega arith)
+
+values-e : (s k : ℕ) (p : Pair) → T (among p (slot-pairs s k)) → (p .slot ≡ s) × (p .value ≤ k)
 unfolding slot-pairs among
-values-e s zero p t = absurd t
+values-e s zero p t = ⊎-elim (λ x. one p s 0 (same-eq p (pair s 0) x)) (λ x. absurd x) (or-e _ _ t)
 values-e s (suc k) p t =
-    ⊎-elim (λ h. let w = values-e s k p h in (w .0, w .1, omega (arith, w .2)))
-    (λ (h : T (among p (pair s (suc k) ∷ []))). ⊎-elim (λ x. last (same-eq p (pair s (suc k)) x)) (λ x. absurd x) (or-e _ _ h)) (append-e p (slot-pairs s k) _ t)
-  where
-    last : p ≡ pair s (suc k) → (p .slot ≡ s) × (1 ≤ p .value) × (p .value ≤ suc k)
-    last e = rw e (refl, omega arith, omega arith)
+    ⊎-elim (λ h. let w = values-e s k p h in (w .0, omega (arith, w .1)))
+    (λ (h : T (among p (pair s (suc k) ∷ []))). ⊎-elim (λ x. one p s (suc k) (same-eq p (pair s (suc k)) x)) (λ x. absurd x) (or-e _ _ h)) (append-e p (slot-pairs s k) _ t)
 
-values-i : (s k v : ℕ) → 1 ≤ v → v ≤ k → T (among (pair s v) (slot-pairs s k))
+values-i : (s k v : ℕ) → v ≤ k → T (among (pair s v) (slot-pairs s k))
 unfolding slot-pairs among
-values-i s zero v lo hi = absurd (omega arith)
-values-i s (suc k) v lo hi =
+values-i s zero v hi = let e : v ≡ 0 = omega arith in rw e (or-l _ _ (same-refl (pair s 0)))
+values-i s (suc k) v hi =
     ⊎-elim (λ (e : v ≡ suc k). rw e (append-r (pair s (suc k)) (slot-pairs s k) _ (or-l _ _ (same-refl (pair s (suc k))))))
-    (λ (l : v < suc k). append-l (pair s v) (slot-pairs s k) _ (values-i s k v lo (omega arith))) (eq-or-lt-of-le hi)
+    (λ (l : v < suc k). append-l (pair s v) (slot-pairs s k) _ (values-i s k v (omega arith))) (eq-or-lt-of-le hi)
 
-from-e : (s : ℕ) (ks : List ℕ) (p : Pair) → T (among p (declared-from s ks)) → (i : ℕ) × (p .slot ≡ s + i) × (i < length ks) × (1 ≤ p .value) × (p .value ≤ getD ks i 0)
+from-e : (s : ℕ) (ks : List ℕ) (p : Pair) → T (among p (declared-from s ks)) → (i : ℕ) × (p .slot ≡ s + i) × (i < length ks) × (p .value ≤ getD ks i 0)
 unfolding declared-from among
 from-e s [] p t = absurd t
 from-e s (k ∷ ks) p t =
-    ⊎-elim (λ h. let w = values-e s k p h in (0, omega (arith, w .0), omega arith, w .1, w .2))
-    (λ h. let w = from-e (suc s) ks p h in (suc (w .0), omega (arith, w .1), omega (arith, w .2), w .3, w .4)) (append-e p (slot-pairs s k) _ t)
+    ⊎-elim (λ h. let w = values-e s k p h in (0, omega (arith, w .0), omega arith, w .1))
+    (λ h. let w = from-e (suc s) ks p h in (suc (w .0), omega (arith, w .1), omega (arith, w .2), w .3)) (append-e p (slot-pairs s k) _ t)
 
-from-i : (s : ℕ) (ks : List ℕ) (i v : ℕ) → i < length ks → 1 ≤ v → v ≤ getD ks i 0 → T (among (pair (s + i) v) (declared-from s ks))
+from-i : (s : ℕ) (ks : List ℕ) (i v : ℕ) → i < length ks → v ≤ getD ks i 0 → T (among (pair (s + i) v) (declared-from s ks))
 unfolding declared-from
-from-i s [] i v l lo hi = absurd (omega arith)
-from-i s (k ∷ ks) zero v l lo hi = let z : s + 0 ≡ s = omega arith in rw z (append-l (pair s v) (slot-pairs s k) _ (values-i s k v lo hi))
-from-i s (k ∷ ks) (suc i) v l lo hi =
-    let z : s + suc i ≡ suc s + i = omega arith in rw z (append-r (pair (suc s + i) v) (slot-pairs s k) _ (from-i (suc s) ks i v (omega arith) lo hi))
+from-i s [] i v l hi = absurd (omega arith)
+from-i s (k ∷ ks) zero v l hi = let z : s + 0 ≡ s = omega arith in rw z (append-l (pair s v) (slot-pairs s k) _ (values-i s k v hi))
+from-i s (k ∷ ks) (suc i) v l hi =
+    let z : s + suc i ≡ suc s + i = omega arith in rw z (append-r (pair (suc s + i) v) (slot-pairs s k) _ (from-i (suc s) ks i v (omega arith) hi))
 
 -- What is declared.
-pub declared-iff : (ks : List ℕ) (p : Pair) → T (among p (declared-pairs ks)) ↔ ((p .slot < length ks) × (1 ≤ p .value) × (p .value ≤ getD ks (p .slot) 0))
+pub declared-iff : (ks : List ℕ) (p : Pair) → T (among p (declared-pairs ks)) ↔ ((p .slot < length ks) × (p .value ≤ getD ks (p .slot) 0))
 unfolding declared-pairs
 declared-iff ks p = (
-  λ t. let w = from-e 0 ks p t in let e : w .0 ≡ p .slot = omega (arith, w .1) in rw (← e) (w .2, w .3, w .4),
-  λ w. let z : 0 + p .slot ≡ p .slot = omega arith in rw z at (from-i 0 ks (p .slot) (p .value) (w .0) (w .1) (w .2)),
+  λ t. let w = from-e 0 ks p t in let e : w .0 ≡ p .slot = omega (arith, w .1) in rw (← e) (w .2, w .3),
+  λ w. let z : 0 + p .slot ≡ p .slot = omega arith in rw z at (from-i 0 ks (p .slot) (p .value) (w .0) (w .1)),
 )
 
 -- The pairs of the slip and of the rules are declared where a test over them says so.

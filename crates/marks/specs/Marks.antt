@@ -10,9 +10,9 @@ use Rattle.truths.specs.declared.Truth3.{Truth3}
 use Rattle.truths.specs.declared.Truth3.the-variants.{True, False, Unknown}
 use Rattle.truths.specs.Truths.{NOT₃, _AND₃_}
 
--- The pairs of a slot with the values 1 to k.
+-- The pairs of a slot with NONE, which is value 0, and with the values 1 to k.
 unfoldable pub slot-pairs : ℕ → ℕ → List Pair
-slot-pairs s zero = []
+slot-pairs s zero = pair s 0 ∷ []
 slot-pairs s (suc k) = slot-pairs s k ++ pair s (suc k) ∷ []
 
 -- The declared pairs of the slots from s on, given how many values each of them has.
@@ -20,7 +20,7 @@ unfoldable pub declared-from : ℕ → List ℕ → List Pair
 declared-from s [] = []
 declared-from s (k ∷ ks) = slot-pairs s k ++ declared-from (suc s) ks
 
--- Every declared pair, given how many values each slot has.
+-- Every declared pair, given how many values each slot has; NONE of each slot is among them (document 02, section 6: 'unknown marks do so throughout').
 unfoldable pub declared-pairs : List ℕ → List Pair
 declared-pairs ks = declared-from 0 ks
 

@@ -1,4 +1,4 @@
--- Rules, cards and changes: document 01, 'Preconditions and response'; the RL paper, section 2.
+-- Rules, cards and changes: document 01, 'Preconditions and response'; the RL paper, section 2; for NONE document 02, section 6.
 use Prim.Native.Nat.{ℕ}
 use mathlib.Core.Bool.{Bool, true, false, cond}
 use mathlib.Core.List.{List, [], _∷_}
@@ -6,7 +6,7 @@ use lib.Dec.{eqb}
 use lib.ListN.{getD}
 use Rattle.laws.specs.Truth.{_∧ᵇ_, _∨ᵇ_, notᵇ}
 
--- A slot, from 0, and a value, from 1 in declared order.
+-- A slot, from 0, and a value: from 1 in declared order, 0 for NONE.
 pub record Pair : Type 0 where
   pub slot : ℕ
   pub value : ℕ
@@ -46,11 +46,11 @@ each-once (p ∷ ps) = notᵇ (assigns ps (p .slot)) ∧ᵇ each-once ps
 abbrev pub Pairs : Type 0
 Pairs = Pair → Bool
 
--- `s |= v`: the card S, a value for each slot with 0 for no value, has v in s.
+-- `s |= v`: the card S, a value for each slot with 0 for no value, has v in s; so `s |= NONE` where it has no value there.
 unfoldable pub was : List ℕ → Pair → Bool
 was S p = eqb (getD S (p .slot) 0) (p .value)
 
--- `s *= v`: S does not have v in s, and (s, v) is in C.
+-- `s *= v`: S does not have v in s, and (s, v) is in C; so `s *= NONE` where S has a value there and (s, 0) is in C.
 unfoldable pub became : List ℕ → Pairs → Pair → Bool
 became S C p = notᵇ (was S p) ∧ᵇ C p
 

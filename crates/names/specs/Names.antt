@@ -38,7 +38,7 @@ show-name text n = cond (leb (n .start + n .size) (length text)) (record { code 
 unfoldable pub has-slot : ℕ → ℕ → Bool
 has-slot width slot = ltb slot slot-limit ∧ᵇ ltb slot width
 
--- A slot with so many values has this one; values count from 1.
+-- A slot with so many declared values has this one; they count from 1, and NONE, value 0, is none of them.
 unfoldable pub has-value : ℕ → ℕ → Bool
 has-value count value = leb 1 value ∧ᵇ leb value value-limit ∧ᵇ leb value count
 

@@ -36,7 +36,7 @@ pub fn has_slot(width: usize, slot: usize) -> bool
     slot < width
 }
 
-// Whether a slot with so many values has this one, values counted from 1; a number above the limit gives it no more than the limit.
+// Whether a slot with so many declared values has this one, counted from 1; a number above the limit gives it no more than the limit.
 pub fn has_value(count: usize, value: usize) -> bool
     ensures { λ r. ⌜ r ≡ has-value count value ⌝ }
 {

@@ -8,16 +8,19 @@ use mathlib.Core.Bool.{Bool, true, false}
 use mathlib.Core.List.{List, [], _∷_, _++_, map}
 use lib.ListN.{length, length-append, length-map}
 use Rattle.laws.specs.Quoted.{bytes-from, bytes}
-use Rattle.text.specs.Tokens.{Name}
+use Rattle.text.specs.Tokens.{Name, reserved}
+use Rattle.text.specs.Covering.{spelling}
 use Rattle.model.specs.Rules.{Pair, Literal, Rule}
 use Rattle.laws.specs.Limits.{name-limit}
-use Rattle.grammar.specs.Files.{Slot, File, spellings, slot-named, value-named}
+use Rattle.grammar.specs.Files.{Slot, File, spellings, slot-named, value-written}
+use Rattle.grammar.specs.Grammar.{ValueTree, value-name, value-none, spell-value}
 use Rattle.grammar.specs.Meaning.{Is-file}
 use Rattle.grammar.proofs.Declared.{Declared-pair, Declared-rule, Valued, file-declared}
 use Rattle.laws.specs.Listed.{Each}
 use Rattle.laws.proofs.Listed.{each-map, each-imply}
+use Rattle.style.specs.Layout.{token-bytes}
 use Rattle.style.specs.Printed.{print}
-use Rattle.style.specs.inner.Named.{Named, Well-named}
+use Rattle.style.specs.inner.Named.{Printable, Named, Well-named}
 use Rattle.writing.specs.inner.Puts.{pair-most, slot-line-most, rule-line-most, longest}
 use Rattle.writing.specs.inner.Written.{followed, separated, test-bytes, literal-bytes, condition-bytes, assign-bytes, rule-bytes, line-bytes, lines-joined}
 use Rattle.printing.specs.inner.Lines.{pair-bytes, slot-bytes, file-bytes}
@@ -49,14 +52,20 @@ separated-le {A} sep m part (x ∷ xs) h =
     let k = suc-mul (length xs) (length sep + m) in
     omega arith
 
+-- A value takes no more bytes than a name.
+value-short : (v : ValueTree) → Printable (spell-value v) → length (token-bytes (spell-value v)) ≤ name-limit
+unfolding token-bytes spelling reserved
+value-short (value-name n) h = h .short
+value-short value-none h = omega arith
+
 module _ (slots : List Slot) (formed : Each Well-named slots) where
   pair-le : (mark : List ℕ) (p : Pair) → Declared-pair slots p → length (pair-bytes slots mark p) ≤ name-limit + length mark + name-limit
   unfolding pair-bytes
   pair-le mark p d =
       let s = slot-formed slots formed p d .0 .short in
-      let v = value-formed slots formed p d .short in
-      let a = length-append (slot-named slots p .letters) (mark ++ value-named slots p .letters) in
-      let b = length-append mark (value-named slots p .letters) in
+      let v = value-short (value-written slots p) (value-formed slots formed p d) in
+      let a = length-append (slot-named slots p .letters) (mark ++ token-bytes (spell-value (value-written slots p))) in
+      let b = length-append mark (token-bytes (spell-value (value-written slots p))) in
       omega arith
 
   literal-le : (m : Literal) → Declared-pair slots (m .pair) → length (literal-bytes (pair-bytes slots) m) ≤ pair-most + 4

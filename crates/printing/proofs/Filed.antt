@@ -1,20 +1,24 @@
 -- The table of an accepted text: it fits, and its lines by the spans of the text are the print of the text's file.
 -- Assumes nothing.
-use Prim.Native.Nat.{ℕ, zero, suc, _+_, _-_, _*_, _%_, _≤_, _<_}
+use Prim.Native.Nat.{ℕ, zero, suc, _+_, _*_, _%_, _≤_, _<_}
 use native.Mathlib.Omega.{arith}
 use mathlib.Core.Path.{_≡_, refl, sym, ap, ap₂, _∙_}
 use mathlib.Core.List.{List, [], _∷_, _++_, map}
 use lib.ListN.{length, take, drop, getD, length-map, length-take, List·getD-map}
 use lib.Seq.{getD-take, getD-drop}
-use borrow.Author.Tests.{le-leb}
+use borrow.Author.Tests.{le-leb, ne-eqb}
 use Rattle.laws.specs.Listed.{Each}
 use Rattle.laws.proofs.Listed.{each-at, each-imply, maps-alike}
 use Rattle.laws.proofs.Truth.{and-l}
 use Rattle.laws.proofs.Tabulated.{is-tabulate}
-use Rattle.text.specs.Tokens.{Name}
+use Rattle.laws.specs.Quoted.{bytes-from, bytes}
+use Rattle.text.specs.Tokens.{Name, reserved}
+use Rattle.text.specs.Covering.{spelling}
 use Rattle.model.specs.Rules.{Pair, Literal, Rule}
+use Rattle.model.specs.Result.{pair}
 use Rattle.laws.specs.Limits.{value-limit, row}
-use Rattle.grammar.specs.Files.{Slot, File, spellings, slot-names, values-of, no-slot}
+use Rattle.grammar.specs.Files.{Slot, File, spellings, slot-names, values-of, no-slot, written-value}
+use Rattle.grammar.specs.Grammar.{spell-value}
 use Rattle.grammar.specs.Meaning.{Is-file}
 use Rattle.grammar.proofs.Accepts.{accepts-iff}
 use Rattle.grammar.proofs.Stands.{file-stands}
@@ -23,7 +27,6 @@ use Rattle.table.specs.declared.Table.{Table}
 use Rattle.table.specs.Zero.{zero-slot, zero-rule}
 use Rattle.table.specs.inner.Shape.{Shaped}
 use Rattle.table.specs.inner.Fits.{TableFits}
-use Rattle.table.specs.inner.Flat.{place-of}
 use Rattle.table.specs.Link.{assignment-of, rule-of}
 use Rattle.table.proofs.Link.{rules-length, rule-is}
 use Rattle.strata.specs.Layered.{with-strata}
@@ -36,12 +39,13 @@ use Rattle.grammar.specs.TableFor.{table-for}
 use Rattle.reader.specs.declared.Outcome.the-variants.{Accepted}
 use Rattle.rule_file.specs.Whole.{reading}
 use Rattle.rule_file.proofs.Answers.{accepted-table, reading-passes}
+use Rattle.style.specs.Layout.{token-bytes}
 use Rattle.style.specs.Printed.{print}
 use Rattle.style.proofs.Formed.{file-formed}
 use Rattle.writing.specs.inner.Puts.{longest}
 use Rattle.writing.specs.inner.Written.{Pairing, separated, test-bytes, literal-bytes, condition-bytes, assign-bytes, rule-bytes, line-bytes, lines-joined}
 use Rattle.printing.specs.inner.Lines.{slot-bytes, pair-bytes, file-bytes}
-use Rattle.writing.specs.inner.Spelled.{spelled, spelled-pair, spelled-values, spelled-line, spelled-lines, spelled-rules, spelled-file, LinesFit}
+use Rattle.writing.specs.inner.Spelled.{spelled, spelled-value, spelled-pair, spelled-values, spelled-line, spelled-lines, spelled-rules, spelled-file, LinesFit}
 use Rattle.printing.specs.inner.Tabled.{Tabled}
 use Rattle.printing.proofs.Tabled.{slot-there}
 use Rattle.printing.proofs.Written.{print-written}
@@ -144,12 +148,19 @@ module _ (text : List ℕ) (o : reading text .outcome ≡ Accepted) where
         ap (spelled text) (sym (getD-take value-limit (drop (s * row + 1) vs) j 0 z ∙ getD-drop (s * row + 1) vs j 0))
         ∙ spanned-at text (row-of vs s) (values-of (file .slots) s) j (I .values s (omega (arith, tabled .few))) k
 
+    -- A value as it is written, by its span.
+    written-spelled : (s k : ℕ) → s < length (file .slots) → k ≤ length (values-of (file .slots) s) → spelled-value text vs (pair s k) ≡ token-bytes (spell-value (written-value (values-of (file .slots) s) k))
+    unfolding spelled-value bytes bytes-from token-bytes spelling reserved
+    written-spelled s zero h l = refl
+    written-spelled s (suc k) h l =
+        let z : s * row + suc k ≡ s * row + 1 + k = omega arith in
+        rw (ne-eqb (suc k) 0 (λ e. omega arith)) (ap (λ (i : ℕ). spelled text (getD vs i 0)) z ∙ value-spelled s k h (omega arith))
+
     pair-spelled : (mark : List ℕ) (p : Pair) → Declared-pair (file .slots) p → spelled-pair text ss vs mark p ≡ pair-bytes (file .slots) mark p
     unfolding spelled-pair pair-bytes
     pair-spelled mark p d =
         let a = slot-declared (file .slots) p d in
-        let z : place-of p ≡ p .slot * row + 1 + (p .value - 1) = omega (arith, d .value-there) in
-        ap₂ (λ (x y : List ℕ). x ++ (mark ++ y)) (slot-spelled (p .slot) a) (ap (λ (k : ℕ). spelled text (getD vs k 0)) z ∙ value-spelled (p .slot) (p .value - 1) a (omega (arith, d .value-there, value-declared (file .slots) p d)))
+        ap₂ (λ (x y : List ℕ). x ++ (mark ++ y)) (slot-spelled (p .slot) a) (written-spelled (p .slot) (p .value) a (value-declared (file .slots) p d))
 
     values-spelled : (s : ℕ) → s < length (file .slots) → spellings (values-of (file .slots) s) ≡ spelled-values text vs s (length (values-of (file .slots) s))
     unfolding spelled-values

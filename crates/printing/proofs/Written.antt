@@ -7,11 +7,11 @@ use mathlib.Core.Bool.{Bool, true, false, cond}
 use mathlib.Core.List.{List, [], _∷_, _++_, map, append-assoc}
 use lib.ListN.{length}
 use Rattle.laws.specs.Quoted.{bytes-from, bytes}
-use Rattle.text.specs.Tokens.{Name, Token, word, name, THEN, AND, CLOSE, COMMA, SEMICOLON, reserved}
+use Rattle.text.specs.Tokens.{Name, Token, word, name, IF, THEN, AND, CLOSE, COMMA, SEMICOLON, BECOMES, HAS, GETS, reserved}
 use Rattle.text.specs.Covering.{spelling}
 use Rattle.model.specs.Rules.{Pair, Literal, Rule}
-use Rattle.grammar.specs.Files.{Slot, File, spellings, slot-named, value-named}
-use Rattle.grammar.specs.Grammar.{and-literal, one-literal, LiteralTree, not-literal, becomes-value, holds-value, one-assignment, comma-assignment, one-value, comma-value, LineTree, spell-literal, spell-condition, spell-assignment, spell-assignments, spell-assign, spell-rule, spell-rules, spell-values, spell-lines, grown}
+use Rattle.grammar.specs.Files.{Slot, File, spellings, slot-named, value-written}
+use Rattle.grammar.specs.Grammar.{ValueTree, value-name, value-none, and-literal, one-literal, LiteralTree, not-literal, becomes-value, holds-value, one-assignment, comma-assignment, one-value, comma-value, LineTree, spell-value, spell-literal, spell-condition, spell-assignment, spell-assignments, spell-assign, spell-rule, spell-rules, spell-values, spell-lines, grown}
 use Rattle.grammar.specs.Meaning.{Is-file}
 use Rattle.grammar.proofs.Leftmost.{spell-more, spell-name, spells-grown}
 use Rattle.grammar.proofs.Declared.{Declared-rule, file-declared}
@@ -63,10 +63,35 @@ unfolding laying following followed
 more-names [] r = refl
 more-names (n ∷ ns) r = ap (λ (y : List ℕ). 44 ∷ 32 ∷ (n .letters ++ y)) (more-names ns r) ∙ ap (λ (y : List ℕ). 44 ∷ 32 ∷ y) (sym (append-assoc (n .letters) (followed (bytes ", ") (spellings ns)) (following r)))
 
+-- A slot's name, a mark and a value.
+abbrev value-bytes : ValueTree → List ℕ
+value-bytes v = token-bytes (spell-value v)
+
+becomes-laid : (n : Name) (v : ValueTree) (r : List Token) → layout (name n ∷ word BECOMES ∷ spell-value v ∷ r) ≡ n .letters ++ ((bytes " *= " ++ value-bytes v) ++ following r)
+unfolding laying following
+becomes-laid n (value-name m) r = refl
+becomes-laid n value-none r = refl
+
+holds-laid : (n : Name) (v : ValueTree) (r : List Token) → layout (name n ∷ word HAS ∷ spell-value v ∷ r) ≡ n .letters ++ ((bytes " |= " ++ value-bytes v) ++ following r)
+unfolding laying following
+holds-laid n (value-name m) r = refl
+holds-laid n value-none r = refl
+
+gets-laid : (n : Name) (v : ValueTree) (r : List Token) → layout (name n ∷ word GETS ∷ spell-value v ∷ r) ≡ n .letters ++ ((bytes " := " ++ value-bytes v) ++ following r)
+unfolding laying following
+gets-laid n (value-name m) r = refl
+gets-laid n value-none r = refl
+
 module _ (slots : List Slot) where
-  pair-laid : (mark : List ℕ) (p : Pair) (y : List ℕ) → slot-named slots p .letters ++ ((mark ++ value-named slots p .letters) ++ y) ≡ pair-bytes slots mark p ++ y
+  pair-laid : (mark : List ℕ) (p : Pair) (y : List ℕ) → slot-named slots p .letters ++ ((mark ++ value-bytes (value-written slots p)) ++ y) ≡ pair-bytes slots mark p ++ y
   unfolding pair-bytes
-  pair-laid mark p y = sym (append-assoc (slot-named slots p .letters) (mark ++ value-named slots p .letters) y)
+  pair-laid mark p y = sym (append-assoc (slot-named slots p .letters) (mark ++ value-bytes (value-written slots p)) y)
+
+  becomes-pair : (p : Pair) (r : List Token) → layout (name (slot-named slots p) ∷ word BECOMES ∷ spell-value (value-written slots p) ∷ r) ≡ pair-bytes slots (bytes " *= ") p ++ following r
+  becomes-pair p r = becomes-laid (slot-named slots p) (value-written slots p) r ∙ pair-laid (bytes " *= ") p (following r)
+
+  holds-pair : (p : Pair) (r : List Token) → layout (name (slot-named slots p) ∷ word HAS ∷ spell-value (value-written slots p) ∷ r) ≡ pair-bytes slots (bytes " |= ") p ++ following r
+  holds-pair p r = holds-laid (slot-named slots p) (value-written slots p) r ∙ pair-laid (bytes " |= ") p (following r)
 
   literal-laid : (m : Literal) (r : List Token) → layout (spell-literal (literal-tree slots m) r) ≡ literal-bytes (pair-bytes slots) m ++ following r
   unfolding laying following literal-bytes test-bytes
@@ -74,10 +99,10 @@ module _ (slots : List Slot) where
     where
       go : (b n : Bool) (p : Pair) → layout (spell-literal (literal-tree slots (record { becomes = b; negated = n; pair = p })) r)
           ≡ literal-bytes (pair-bytes slots) (record { becomes = b; negated = n; pair = p }) ++ following r
-      go true true p = ap (λ (y : List ℕ). 78 ∷ 79 ∷ 84 ∷ 32 ∷ y) (pair-laid (bytes " *= ") p (following r))
-      go true false p = pair-laid (bytes " *= ") p (following r)
-      go false true p = ap (λ (y : List ℕ). 78 ∷ 79 ∷ 84 ∷ 32 ∷ y) (pair-laid (bytes " |= ") p (following r))
-      go false false p = pair-laid (bytes " |= ") p (following r)
+      go true true p = ap (λ (y : List ℕ). 78 ∷ 79 ∷ 84 ∷ 32 ∷ y) (becomes-pair p r)
+      go true false p = becomes-pair p r
+      go false true p = ap (λ (y : List ℕ). 78 ∷ 79 ∷ 84 ∷ 32 ∷ y) (holds-pair p r)
+      go false false p = holds-pair p r
 
   -- A literal after a word that is not `;`.
   literal-follows : (m : Literal) (r : List Token) → following (spell-literal (literal-tree slots m) r) ≡ 32 ∷ (literal-bytes (pair-bytes slots) m ++ following r)
@@ -94,8 +119,7 @@ module _ (slots : List Slot) where
       ∙ ap (λ (y : List ℕ). 32 ∷ y) (sym (append-assoc (literal-bytes (pair-bytes slots) m) (followed (bytes " AND ") (map (literal-bytes (pair-bytes slots)) ms)) (following r)))
 
   assignment-laid : (p : Pair) (r : List Token) → layout (spell-assignment (assignment-tree slots p) r) ≡ pair-bytes slots (bytes " := ") p ++ following r
-  unfolding laying following
-  assignment-laid p r = pair-laid (bytes " := ") p (following r)
+  assignment-laid p r = gets-laid (slot-named slots p) (value-written slots p) r ∙ pair-laid (bytes " := ") p (following r)
 
   list-laid : (p : Pair) (qs : List Pair) (r : List Token) → following (spell-assignments (grown comma-assignment (one-assignment (assignment-tree slots p)) (map (assignment-tree slots) qs)) r)
       ≡ 32 ∷ (separated (bytes ", ") (map (pair-bytes slots (bytes " := ")) (p ∷ qs)) ++ following r)
@@ -123,7 +147,7 @@ module _ (slots : List Slot) where
       let a = assign-laid (x .assignments) (word SEMICOLON ∷ r) i in
       let c = condition-laid (x .literals) (word THEN ∷ then-part) in
       ap (λ (y : List ℕ). 87 ∷ 72 ∷ 69 ∷ 78 ∷ 32 ∷ y)
-      (pair-laid (bytes " *= ") (x .trigger) (32 ∷ 73 ∷ 70 ∷ following (spell-condition (condition-tree (map (literal-tree slots) (x .literals))) (word THEN ∷ then-part)))
+      (becomes-pair (x .trigger) (word IF ∷ spell-condition (condition-tree (map (literal-tree slots) (x .literals))) (word THEN ∷ then-part))
       ∙ ap (λ (y : List ℕ). pair-bytes slots (bytes " *= ") (x .trigger) ++ (32 ∷ 73 ∷ 70 ∷ y)) c
       ∙ ap (λ (y : List ℕ). pair-bytes slots (bytes " *= ") (x .trigger) ++ (bytes " IF " ++ (condition-bytes (pair-bytes slots) (x .literals) ++ (32 ∷ 84 ∷ 72 ∷ 69 ∷ 78 ∷ y)))) a
       ∙ nested (pair-bytes slots (bytes " *= ") (x .trigger)) (bytes " IF ") (condition-bytes (pair-bytes slots) (x .literals)) (bytes " THEN ") (assign-bytes (pair-bytes slots) (x .assignments)) (bytes ";\n") (layout r))

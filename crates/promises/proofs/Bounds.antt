@@ -61,7 +61,7 @@ module _ (f : File) (declared : Declared-file f) where
   file-slots = record { few = rw length-map (declared .few-slots); small = λ i h. few-values i }
 
   pair-has : (p : Pair) → Declared-pair (f .slots) p → Has (slot-counts (f .slots)) p
-  pair-has p n = record { below = rw length-map (slot-declared (f .slots) p n); first = n .value-there; last = rw (List·getD-map (λ (z : Slot). length (z .values)) (f .slots) (p .slot) no-slot) (value-declared (f .slots) p n) }
+  pair-has p n = record { below = rw length-map (slot-declared (f .slots) p n); last = rw (List·getD-map (λ (z : Slot). length (z .values)) (f .slots) (p .slot) no-slot) (value-declared (f .slots) p n) }
 
   rule-declared : (k : ℕ) → Numbered (length (f .rules)) (suc k) → Declared-rule (f .slots) (getD (f .rules) k no-rule)
   rule-declared k i = each-at (Declared-rule (f .slots)) (f .rules) k no-rule (declared .each-rule) (omega (arith, i .last))

@@ -40,7 +40,7 @@ file-declares f D I slip = record {
 }
   where
     here : (p : Pair) → Has (slot-counts (f .slots)) p → T (among p (file-pairs f))
-    here p h = declared-iff (slot-counts (f .slots)) p .1 (h .below, h .first, h .last)
+    here p h = declared-iff (slot-counts (f .slots)) p .1 (h .below, h .last)
 
 -- The number of an order tells what it ends with.
 pub comes-to : (f : File) (S : List ℕ) (I : List Pair) (cs : List Move) → ComesTo f I cs (selection-refusal (file-pairs f) (f .rules) S I cs)

@@ -15,8 +15,8 @@ use Rattle.laws.specs.Packed.{byte-count}
 use Rattle.laws.proofs.Truth.{le-or-lt}
 use Rattle.model.specs.Rules.{Pair}
 use Rattle.cards.specs.Forms.{card-bits, slip-bits, count-in, values-in, changes-in, padding, values-test, card-test, change-fault, slip-test, card-bytes, slip-bytes, read-card, read-slip, write-card, write-slip}
-use Rattle.cards.proofs.Tested.{ValuesLeft, values-start, values-next, values-fault, values-end, other-count, same-count, no-pair, ChangesLeft, changes-start, changes-next, changes-fault, changes-end, fault-25, fault-26, fault-27, fault-high, no-fault}
-use Rattle.promises.specs.Reasons.{ValuesReason, another-count, value-above, ValuesRight, CardReason, card-length, values-refused, card-padding, CardRight, PackedCardReason, packed-values, packed-card-room, PackedCardRight, slot-of, value-of, Rises, slot-lacking, not-rising, value-lacking, ChangeFault, ChangeRight, FirstFaulty, ChangesRight, SlipReason, slip-length, slip-change, slip-padding, SlipRight, PackedSlipReason, too-many, packed-change, packed-slip-room, PackedSlipRight}
+use Rattle.cards.proofs.Tested.{ValuesLeft, values-start, values-next, values-fault, values-end, other-count, same-count, no-pair, ChangesLeft, changes-start, changes-next, changes-fault, changes-end, fault-25, fault-26, fault-27, no-fault}
+use Rattle.promises.specs.Reasons.{ValuesReason, another-count, value-above, ValuesRight, CardReason, card-length, values-refused, card-padding, CardRight, PackedCardReason, packed-values, packed-card-room, PackedCardRight, slot-of, value-of, Rises, slot-lacking, not-rising, value-beyond, ChangeFault, ChangeRight, FirstFaulty, ChangesRight, SlipReason, slip-length, slip-change, slip-padding, SlipRight, PackedSlipReason, too-many, packed-change, packed-slip-room, PackedSlipRight}
 
 -- What is taken has a property, and what is refused a reason.
 abbrev pub Judged : {A : Type 0} → (ℕ → ℕ → Type 0) → (A → Type 0) → OrRefused A → Type 0
@@ -111,12 +111,9 @@ module _ (counts : List ℕ) (ps : List Pair) where
       below b = ⊎-elim above (λ l. let w = falls i low q l in stops 26 (λ y. omega (arith, y)) (fault-26 counts low (getD ps i no-pair) b l) (not-rising b (w .0) (w .1) (w .2))) (le-or-lt low (slot-of ps i))
         where
           above : low ≤ slot-of ps i → ChangesJudged
-          above a = ⊎-elim from-1 (λ l. let none : value-of ps i ≡ 0 = omega (arith, l) in stops 27 (λ y. omega (arith, y)) (fault-27 counts low (getD ps i no-pair) b a none) (value-lacking b (rises i low q a) (inl none))) (le-or-lt 1 (value-of ps i))
-            where
-              from-1 : 1 ≤ value-of ps i → ChangesJudged
-              from-1 f =
-                  ⊎-elim (λ l. on (no-fault counts low (getD ps i no-pair) b a (λ y. omega (arith, f, y)) l) (record { below = b; rises = rises i low q a; from-1 = f; to-last = l }))
-                  (λ l. stops 27 (λ y. omega (arith, y)) (fault-high counts low (getD ps i no-pair) b a (λ y. omega (arith, f, y)) l) (value-lacking b (rises i low q a) (inr l))) (le-or-lt (value-of ps i) (getD counts (slot-of ps i) 0))
+          above a =
+              ⊎-elim (λ l. on (no-fault counts low (getD ps i no-pair) b a l) (record { below = b; rises = rises i low q a; to-last = l }))
+              (λ l. stops 27 (λ y. omega (arith, y)) (fault-27 counts low (getD ps i no-pair) b a l) (value-beyond b (rises i low q a) l)) (le-or-lt (value-of ps i) (getD counts (slot-of ps i) 0))
 
   -- The changes from place i on, n of them.
   changes-from : (n i low : ℕ) → i + n ≡ length ps → Low ps i low → ((j : ℕ) → j < i → ChangeRight counts ps j) → ChangesLeft counts ps low i → ChangesJudged

@@ -33,7 +33,7 @@ use Rattle.response.specs.Ending.{Answer}
 use Rattle.response.specs.Respond.{Rooms, answer-to, counted, tally-after, records-after}
 use Rattle.listing.specs.Listing.{RuleLine, ChangeLine, listed, refusal, program-rooms, editor-number, program-editors, list-response, list-reading, listing}
 use Rattle.listing.proofs.Callers.{program-record, own-fresh, program-after, listing-read, listing-44}
-use Rattle.promises.specs.Reasons.{ValuesReason, another-count, value-above, CardReason, card-length, values-refused, card-padding, ChangeFault, slot-lacking, not-rising, value-lacking, SlipReason, slip-length, slip-change, slip-padding}
+use Rattle.promises.specs.Reasons.{ValuesReason, another-count, value-above, CardReason, card-length, values-refused, card-padding, ChangeFault, slot-lacking, not-rising, value-beyond, SlipReason, slip-length, slip-change, slip-padding}
 use Rattle.promises.specs.Reasons.{TableReason, not-passed, of-others, RoomReason, card-short, changes-short, fired-short, RoomRight, EndReason, conflict, clash, unknown, RulesReason, of-card, of-slip, of-room, of-end, RulesRight, HasRecord, NotFull, Countable}
 use Rattle.promises.specs.Refusals.{Passes}
 use Rattle.promises.specs.Program.{NoneOfCaller, OneEditor, EditorFirst}
@@ -56,7 +56,7 @@ card-not counts ys k s (card-padding l v n) e = omega (arith, e)
 change-not : (counts : List ℕ) (ps : List Pair) (j k : ℕ) → ChangeFault counts ps j k → ¬ (k ≡ 30)
 change-not counts ps j k (slot-lacking l) e = omega (arith, e)
 change-not counts ps j k (not-rising l i q f) e = omega (arith, e)
-change-not counts ps j k (value-lacking l q f) e = omega (arith, e)
+change-not counts ps j k (value-beyond l q f) e = omega (arith, e)
 
 slip-not : (counts ys : List ℕ) (k s : ℕ) → SlipReason counts ys k s → ¬ (k ≡ 30)
 slip-not counts ys k s (slip-length n) e = omega (arith, e)

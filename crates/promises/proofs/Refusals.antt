@@ -9,7 +9,6 @@ use mathlib.Core.Logic.{_⊎_, inl, inr}
 use lib.Dec.{T, eqb, leb, ltb}
 use lib.ListN.{length, getD}
 use borrow.Author.Tests.{eqb-true, eq-eqb, ne-eqb}
-use Rattle.laws.specs.Truth.{_∨ᵇ_}
 use Rattle.laws.specs.Packed.{byte-count}
 use Rattle.model.specs.Rules.{Pair, Pairs, Rule}
 use Rattle.model.specs.Result.{conflict-slot}
@@ -154,7 +153,7 @@ of-changes = 25 ∷ 26 ∷ 27 ∷ []
 
 change-number : (counts : List ℕ) (low : ℕ) (p : Pair) → OneOf (0 ∷ of-changes) (change-fault counts low p)
 unfolding change-fault
-change-number counts low p = go (leb (length counts) (p .slot)) (ltb (p .slot) low) (eqb (p .value) 0 ∨ᵇ ltb (getD counts (p .slot) 0) (p .value))
+change-number counts low p = go (leb (length counts) (p .slot)) (ltb (p .slot) low) (ltb (getD counts (p .slot) 0) (p .value))
   where
     go : (x y z : Bool) → OneOf (0 ∷ of-changes) (cond x 25 (cond y 26 (cond z 27 0)))
     go true y z = one-of (0 ∷ of-changes) 25 tt

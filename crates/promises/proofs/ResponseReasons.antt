@@ -30,10 +30,9 @@ use Rattle.table.specs.declared.Way.{Way}
 use Rattle.table.specs.declared.Way.the-variants.{Strata, Marks}
 use Rattle.laws.specs.Limits.{value-limit, row}
 use Rattle.table.specs.Link.{rule-of, assignments-of, slots-of, used-rules, rules-of, value-counts}
-use Rattle.names.specs.Names.{has-slot, has-value}
-use Rattle.names.proofs.Names.{value-inside}
 use Rattle.soundness.specs.Sound.{within-limits, names-its-own, has-pair, named, well-formed, takes}
 use Rattle.soundness.proofs.Taken.{takes-parts}
+use Rattle.soundness.proofs.WellFormed.{pair-inside}
 use Rattle.marks.specs.Marks as marks
 use Rattle.marks.specs.Marks.{declared-pairs, is-both, is-unknown}
 use Rattle.marks.specs.Selection.{no-clash, all-known, selection-refusal}
@@ -91,7 +90,7 @@ module _ (t : Table) (formed : T (well-formed t)) where
 
   -- Every value in C is one of an array's row.
   value-small : (slip : List ℕ) (I : List Pair) (ns : List ℕ) → read-slip (value-counts t) slip ≡ taken I → (p : Pair) → T (changes (rules-of t) I ns p) → p .value < row
-  unfolding rules-of rule-at names-its-own has-pair among no-rule
+  unfolding rules-of rule-at names-its-own among no-rule
   value-small slip I ns e p m = ⊎-elim of-the-slip (λ c. of-a-rule (c .0) (c .2)) (cause (rules-of t) I ns p m)
     where
       of-the-slip : T (among p I) → p .value < row
@@ -101,8 +100,7 @@ module _ (t : Table) (formed : T (well-formed t)) where
       of-a-rule zero a = absurd a
       of-a-rule (suc k) a =
           let h = assigned-by (t .width) (value-counts t) (used-rules t) k p rules-own a in
-          let v = value-inside _ (p .value) (is-true _ (and-r (has-slot (t .width) (p .slot)) (has-value (getD (value-counts t) (p .slot) 0) (p .value)) h)) in
-          omega (arith, v .1 .0)
+          omega (arith, pair-inside (t .width) (value-counts t) p h .2)
 
 -- What follows of the reasons, and of what is taken.
 pub judged-more : {A : Type 0} (R R′ : ℕ → ℕ → Type 0) (P Q : A → Type 0) (u : OrRefused A) → Judged R′ P u → ((k s : ℕ) → R′ k s → R k s) → ((a : A) → P a → Q a) → Judged R Q u

@@ -126,17 +126,16 @@ value-of ps j = getD ps j (pair 0 0) .value
 abbrev pub Rises : List Pair → ℕ → Type 0
 Rises ps j = (i : ℕ) → suc i ≡ j → slot-of ps i < slot-of ps j
 
--- The fault of a change. 25: a slot not below the slot count. 26: a slot not above the one before. 27: value 0 or above the slot's last.
+-- The fault of a change. 25: a slot not below the slot count. 26: a slot not above the one before. 27: a value above the slot's last; value 0, NONE, is not above it.
 pub data ChangeFault (counts : List ℕ) (ps : List Pair) (j : ℕ) : ℕ → Type 0 where
   slot-lacking : length counts ≤ slot-of ps j → ChangeFault counts ps j 25
   not-rising : slot-of ps j < length counts → (i : ℕ) → suc i ≡ j → slot-of ps j ≤ slot-of ps i → ChangeFault counts ps j 26
-  value-lacking : slot-of ps j < length counts → Rises ps j → (value-of ps j ≡ 0) ⊎ (getD counts (slot-of ps j) 0 < value-of ps j) → ChangeFault counts ps j 27
+  value-beyond : slot-of ps j < length counts → Rises ps j → getD counts (slot-of ps j) 0 < value-of ps j → ChangeFault counts ps j 27
 
 -- None of 25 to 27.
 pub record ChangeRight (counts : List ℕ) (ps : List Pair) (j : ℕ) : Type 0 where
   pub below : slot-of ps j < length counts
   pub rises : Rises ps j
-  pub from-1 : 1 ≤ value-of ps j
   pub to-last : value-of ps j ≤ getD counts (slot-of ps j) 0
 
 -- The first faulty change, with its position from 0.

@@ -12,7 +12,6 @@ use Rattle.laws.specs.Numbers.{Numbered}
 use Rattle.laws.specs.Listed.{all-of}
 use Rattle.laws.specs.Answers.{taken}
 use Rattle.laws.proofs.Truth.{and-l, and-r, or-e}
-use Rattle.laws.proofs.Equations.{is-true}
 use Rattle.model.specs.Rules.{Pair, Literal, among}
 use Rattle.model.specs.Orders.{rule-at}
 use Rattle.model.specs.Strata.{pairs-where, is-becomes, tested}
@@ -22,9 +21,8 @@ use Rattle.table.specs.Zero.{zero-rule}
 use Rattle.table.specs.inner.Shape.{Shaped}
 use Rattle.table.specs.Link.{rule-of, literals-of, assignments-of, rules-of, value-counts}
 use Rattle.table.proofs.Link.{rules-length, rule-at-is, counts-length}
-use Rattle.names.proofs.Names.{slot-inside, value-inside}
 use Rattle.soundness.specs.Sound.{has-pair, well-formed}
-use Rattle.soundness.proofs.WellFormed.{right-e, WellFormed, well-formed-e, named-parts}
+use Rattle.soundness.proofs.WellFormed.{right-e, WellFormed, well-formed-e, pair-inside, named-parts}
 use Rattle.cards.specs.Forms.{read-slip}
 use Rattle.cards.proofs.Having.{tested-has, slip-tested}
 use Rattle.marks.specs.Marks.{declared-pairs}
@@ -33,7 +31,7 @@ use Rattle.marks.proofs.Pairs.{declared-iff}
 
 -- A slip that is taken has declared pairs alone.
 pub slip-declared : (counts slip : List ℕ) (I : List Pair) → read-slip counts slip ≡ taken I → (p : Pair) → T (among p I) → T (among p (declared-pairs counts))
-slip-declared counts slip I e p t = let h = tested-has counts 0 0 I (slip-tested counts slip I e) p t in declared-iff counts p .1 (h .below, h .first, h .last)
+slip-declared counts slip I e p t = let h = tested-has counts 0 0 I (slip-tested counts slip I e) p t in declared-iff counts p .1 (h .below, h .last)
 
 -- What the pairs of all literals have, those of the literals that pass a test have.
 where-all : (f : Pair → Bool) (g : Literal → Bool) (ls : List Literal) → T (all-of f (map (λ l. l .pair) ls)) → (p : Pair) → T (among p (pairs-where g ls)) → T (f p)
@@ -47,12 +45,10 @@ module _ (t : Table) (sh : Shaped t) (passes : T (well-formed t)) where
 
   -- A pair that the table has is declared.
   had : (p : Pair) → T (has-pair (t .width) (value-counts t) p) → T (among p (declared-pairs (value-counts t)))
-  unfolding has-pair
   had p u =
-      let a = slot-inside (t .width) (p .slot) (is-true _ (and-l _ _ u)) in
-      let b = value-inside (getD (value-counts t) (p .slot) 0) (p .value) (is-true _ (and-r _ _ u)) in
+      let a = pair-inside (t .width) (value-counts t) p u in
       let l = counts-length t (omega (arith, form .few-slots, sh .slot-places)) in
-      declared-iff (value-counts t) p .1 (omega (arith, a .1, l), b .0, b .1 .1)
+      declared-iff (value-counts t) p .1 (omega (arith, a .1, l), a .3)
 
   -- The rule of a number has a place, and names what the table has.
   module _ (i : ℕ) (inside : i < length (rules-of t)) where

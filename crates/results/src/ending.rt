@@ -1,4 +1,4 @@
-// What is worked out of the changes, indexed by pair: the lowest slot in conflict, whether a slot is changed, its new value, the new card.
+// What is worked out of the changes, indexed by pair: the lowest slot in conflict, whether a slot is changed, its new value, the new card. NONE, value 0, is a value of theirs like any other.
 ghost use mathlib.Core.Path.{_≡_};
 ghost use Prim.Native.Nat.{_≤_, _<_};
 ghost use Rattle.model.specs.Result.{value-in, is-changed, conflict-slot};
@@ -55,17 +55,17 @@ pub fn changed_value(changes: &[bool; PAIRS], slot: usize) -> usize
     ensures { λ v. ⌜ v ≡ value-in row (set-of (now (changes .entry))) slot ⌝ }
 {
     let base = slot * ROW;
-    let mut v: usize = 0;
-    while v < ROW {
-        if changes[base + v] {
-            return v;
+    let mut lowest: usize = 0;
+    while lowest < ROW {
+        if changes[base + lowest] {
+            return lowest;
         }
-        v += 1;
+        lowest += 1;
     }
-    v
+    lowest
 }
 
-// The new card: the changes' value where they have one, else the card's; no value in the places not used.
+// The new card: the changes' value where they have one, NONE leaving no value, else the card's; no value in the places not used.
 pub fn new_values(card: &[u8; SLOTS], changes: &[bool; PAIRS], width: usize) -> [u8; SLOTS]
     requires { ⌜ width ≤ slot-limit ⌝ }
     ensures { λ r. ⌜ r ≡ new-places width (now (changes .entry)) (now (card .entry)) ⌝ }

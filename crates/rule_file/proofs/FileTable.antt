@@ -3,15 +3,15 @@
 use mathlib.Core.Path.{_≡_, refl, sym, ap, ap₂, _∙_}
 use mathlib.Core.Bool.{Bool, false}
 use mathlib.Core.List.{List, [], _∷_, map}
-use Prim.Native.Nat.{ℕ, _≤_, _<_}
+use Prim.Native.Nat.{ℕ, zero, suc, _≤_, _<_}
 use native.Mathlib.Omega.{arith}
 use lib.Dec.{T, eqb, leb, ltb, le→leb, lt→ltb}
 use lib.ListN.{length, getD, take, length-map, List·getD-map}
 use Rattle.laws.proofs.Lists.{any-default}
-use Rattle.laws.specs.Truth.{_∧ᵇ_}
+use Rattle.laws.specs.Truth.{_∧ᵇ_, _∨ᵇ_}
 use Rattle.laws.specs.Listed.{all-of, Each}
 use Rattle.laws.specs.Filled.{filled}
-use Rattle.laws.proofs.Truth.{and-i}
+use Rattle.laws.proofs.Truth.{and-i, or-l, or-r}
 use Rattle.laws.proofs.Listed.{all-i, all-append, each-at, each-map, each-imply}
 use Rattle.laws.proofs.Filled.{filled-length, filled-front, filled-each, used-at}
 use Rattle.model.specs.Rules as model
@@ -151,15 +151,18 @@ module _ (f : File) (D : Declared-file f) where
   abbrev own : model.Pair → Bool
   own p = has-pair (length (f .slots)) (slot-counts (f .slots)) p
 
+  -- A value within the limit and the slot's count is NONE or one of the slot's.
+  value-own : (value count : ℕ) → value ≤ value-limit → value ≤ count → T (eqb value 0 ∨ᵇ has-value count value)
+  unfolding has-value
+  value-own zero count h l = or-l (eqb 0 0) _ tt
+  value-own (suc k) count h l = or-r (eqb (suc k) 0) _ (and-i (leb 1 (suc k) ∧ᵇ leb (suc k) value-limit) _ (and-i (leb 1 (suc k)) _ (le→leb 1 (suc k) (omega arith)) (le→leb (suc k) value-limit h)) (le→leb (suc k) count l))
+
   declared-own : (p : model.Pair) → Declared-pair (f .slots) p → T (own p)
-  unfolding has-pair has-slot has-value
+  unfolding has-pair has-slot
   declared-own p n =
       and-i (ltb (p .slot) slot-limit ∧ᵇ ltb (p .slot) (length (f .slots))) _
       (and-i (ltb (p .slot) slot-limit) _ (lt→ltb (p .slot) slot-limit (within p n .0)) (lt→ltb (p .slot) (length (f .slots)) (slot-declared (f .slots) p n)))
-      (rw (List·getD-map (λ (z : files.Slot). length (z .values)) (f .slots) (p .slot) files.no-slot)
-      (and-i (leb 1 (p .value) ∧ᵇ leb (p .value) value-limit) _
-      (and-i (leb 1 (p .value)) _ (le→leb 1 (p .value) (n .value-there)) (le→leb (p .value) value-limit (within p n .1)))
-      (le→leb (p .value) _ (value-declared (f .slots) p n))))
+      (rw (List·getD-map (λ (z : files.Slot). length (z .values)) (f .slots) (p .slot) files.no-slot) (value-own (p .value) _ (within p n .1) (value-declared (f .slots) p n)))
 
   all-own : (ps : List model.Pair) → Each (Declared-pair (f .slots)) ps → T (all-of own ps)
   all-own ps h = all-i own ps no-pair (λ i l. declared-own (getD ps i no-pair) (each-at (Declared-pair (f .slots)) ps i no-pair h l))

@@ -4,7 +4,7 @@ use mathlib.Core.Path.{_≡_, refl, sym, ap, subst, _∙_}
 use mathlib.Core.Bool.{Bool, true, false, cond}
 use mathlib.Core.List.{List, [], _∷_}
 use mathlib.Core.Logic.{_⊎_, ⊎-elim}
-use Prim.Native.Nat.{ℕ, _≤_, _<_}
+use Prim.Native.Nat.{ℕ, suc, _≤_, _<_}
 use native.Mathlib.Omega.{arith}
 use lib.Dec.{T}
 use lib.ListN.{length, getD}
@@ -87,9 +87,9 @@ module _ (rows : List (List ℕ)) (n : ℕ) (ks : List ℕ) (width : ℕ) (count
       inner : q .slot < width
       inner = declared-value rows n ks width counts I G q l .0
 
-      none : (p : Pair) → Rival q c p → ¬ T (set-of (k .positive) p)
+      none : (p : Pair) → Rival q (suc c) p → ¬ T (set-of (k .positive) p)
       none p r t =
-          let o : T (among p ps) = value-declared rows n ks width counts I G p (omega (arith, r .0, inner)) (r .2) (rw (r .0) (r .3)) in
+          let o : T (among p ps) = value-declared rows n ks width counts I G p (omega (arith, r .0, inner)) (rw (r .0) (omega (arith, r .2))) in
           m (X .rivalled p q o l t (sym (r .0)) (λ z. r .1 (sym z)))
 
       go : (b : Bool) → getD (k .positive) (place-of q) false ≡ b
@@ -102,7 +102,7 @@ module _ (rows : List (List ℕ)) (n : ℕ) (ks : List ℕ) (width : ℕ) (count
           let O = marked-outs S q c k h u (X .whole) none in
           let i : place-of q < length (k .positive) = omega (arith, X .whole .positive-size, placed-inside q h) in
           let s : (p : Pair) → T (among p ps) → SameAt (marks-of (marked (place-of q) c k)) (update (marks-of k) (q ∷ [])) p = λ p o.
-          let v = declared-value rows n ks width counts I G p o in marked-marks S q c k h u (X .whole) none p (λ z. (v .1, rw z at (v .2))) in (
+          let v = declared-value rows n ks width counts I G p o in marked-marks S q c k h u (X .whole) none p (λ z. rw z at (v .1)) in (
             tidy-more ps S k (marked (place-of q) c k) q X l m (O .whole)
                 (λ p t. ⊎-elim (λ x. rw (same-eq p q x) l) (λ x. X .inside p x) (or-e _ _ (rw (O .positive-same, set-more (k .positive) q p (h .in-row) i) at t))) s,
             s,

@@ -39,20 +39,20 @@ pub rule-at-row : (rows : List (List ℕ)) (n i : ℕ) → i < n → rule-at (ru
 rule-at-row rows n i h = rule-at-is (table-in rows n) i (rw (rows-count rows n) h) ∙ ap rule-of (rule-row rows n i)
 
 module _ (rows : List (List ℕ)) (n : ℕ) (ks : List ℕ) (width : ℕ) (counts : List ℕ) (I : List Pair) (G : Given rows n ks width counts I) where
-  -- A declared pair has one of the values of one of the slots.
-  pub declared-value : (p : Pair) → T (among p (declared-pairs ks)) → (p .slot < width) × (1 ≤ p .value) × (p .value ≤ getD counts (p .slot) 0)
+  -- A declared pair has one of the slots, and NONE or one of its values.
+  pub declared-value : (p : Pair) → T (among p (declared-pairs ks)) → (p .slot < width) × (p .value ≤ getD counts (p .slot) 0)
   declared-value p t =
       let w = declared-iff ks p .0 t in
       let l : p .slot < width = omega (arith, w .0, G .counted .slots) in
-      (l, w .1, omega (arith, w .2, G .counted .each (p .slot) l))
+      (l, omega (arith, w .1, G .counted .each (p .slot) l))
 
   -- And back.
-  pub value-declared : (p : Pair) → p .slot < width → 1 ≤ p .value → p .value ≤ getD counts (p .slot) 0 → T (among p (declared-pairs ks))
-  value-declared p l lo hi = declared-iff ks p .1 (omega (arith, G .counted .slots), lo, omega (arith, G .counted .each (p .slot) l))
+  pub value-declared : (p : Pair) → p .slot < width → p .value ≤ getD counts (p .slot) 0 → T (among p (declared-pairs ks))
+  value-declared p l hi = declared-iff ks p .1 (omega (arith, G .counted .slots), omega (arith, G .counted .each (p .slot) l))
 
   -- So it has a place.
   pub declared-placed : (p : Pair) → T (among p (declared-pairs ks)) → Placed (p .slot) (p .value)
-  declared-placed p t = let w = declared-value p t in record { in-slots = omega (arith, w .0, G .narrow); in-row = omega (arith, w .2, G .few-values (p .slot) (w .0)) }
+  declared-placed p t = let w = declared-value p t in record { in-slots = omega (arith, w .0, G .narrow); in-row = omega (arith, w .1, G .few-values (p .slot) (w .0)) }
 
   -- There are n rules.
   rule-count : length (rules-in rows n) ≡ n

@@ -117,9 +117,9 @@ module _ (S : List ℕ) where
       unless-had false true b t = refl
       unless-had w false b t = absurd t
 
--- Another of the values 1 to v of a pair's slot.
+-- Another value below v of a pair's slot.
 abbrev pub Rival : Pair → ℕ → Pair → Type 0
-Rival q v p = (p .slot ≡ q .slot) × (¬ (p .value ≡ q .value)) × (1 ≤ p .value) × (p .value ≤ v)
+Rival q v p = (p .slot ≡ q .slot) × (¬ (p .value ≡ q .value)) × (p .value < v)
 
 -- One of some pairs that is not positive and has no assignment left.
 abbrev pub Unassigned : List ℕ → List Pair → List Bool → Pair → Type 0
@@ -172,42 +172,42 @@ module _ (S : List ℕ) where
     from = λ p t. ⊎-elim (λ y. inl (second p y)) (λ y. ⊎-elim (λ z. inl (first p z)) (λ z. inr z) (A .from p y)) (B .from p t);
   }
 
-  -- The other values of a slot are ruled out.
-  rivals-outs : (q : Pair) (v : ℕ) (k : Known) → Placed (q .slot) (q .value) → v ≤ value-limit → Whole S k → ((p : Pair) → Rival q v p → ¬ T (set-of (k .positive) p))
+  -- The other values of a slot are ruled out, as far as they are below v.
+  rivals-outs : (q : Pair) (v : ℕ) (k : Known) → Placed (q .slot) (q .value) → v ≤ row → Whole S k → ((p : Pair) → Rival q v p → ¬ T (set-of (k .positive) p))
       → Outs S (Rival q v) k (rivals-out (place-of q) v k)
   unfolding rivals-out rival-out
-  rivals-outs q zero k h l W n = outs-none k (Rival q 0) W (λ p g. omega (arith, g .2, g .3))
+  rivals-outs q zero k h l W n = outs-none k (Rival q 0) W (λ p g. omega (arith, g .2))
   rivals-outs q (suc v) k h l W n =
-      let A = rivals-outs q v k h (omega arith) W (λ p g. n p (g .0, g .1, g .2, omega (arith, g .3))) in
+      let A = rivals-outs q v k h (omega arith) W (λ p g. n p (g .0, g .1, omega (arith, g .2))) in
       let k′ = rivals-out (place-of q) v k in
-      let r = pair (q .slot) (suc v) in
-      let e : place-of q / row * row + suc v ≡ place-of r = omega (arith, h .in-row) in
-      let B = out-unless (eqb (place-of r) (place-of q) ∨ᵇ getD (k′ .negative) (place-of r) false) r k′ (λ p. (p ≡ r) × (¬ (suc v ≡ q .value)))
+      let r = pair (q .slot) v in
+      let e : place-of q / row * row + v ≡ place-of r = omega (arith, h .in-row) in
+      let B = out-unless (eqb (place-of r) (place-of q) ∨ᵇ getD (k′ .negative) (place-of r) false) r k′ (λ p. (p ≡ r) × (¬ (v ≡ q .value)))
       (A .whole) (record { in-slots = h .in-slots; in-row = omega arith })
       (λ t p g. ⊎-elim
       (λ (x : T (eqb (place-of r) (place-of q))). absurd (g .1 (omega (arith, h .in-row, eqb→eq (place-of r) (place-of q) x))))
       (λ x. rw (g .0, set-in (k′ .negative) r (omega arith)) x) (or-e _ _ t))
-      (λ b. let m : ¬ (suc v ≡ q .value) = λ z. b (or-l _ _ (from-true _ (eq-eqb (place-of r) (place-of q) (omega arith)))) in
-      (λ t. n r (refl, m, omega arith, omega arith) (rw (A .positive-same) at t), (refl, m), λ p g. g .0)) in
-      rw e (outs-then (Rival q v) (λ p. (p ≡ r) × (¬ (suc v ≡ q .value))) (Rival q (suc v)) k k′ _ A B
+      (λ b. let m : ¬ (v ≡ q .value) = λ z. b (or-l _ _ (from-true _ (eq-eqb (place-of r) (place-of q) (omega arith)))) in
+      (λ t. n r (refl, m, omega arith) (rw (A .positive-same) at t), (refl, m), λ p g. g .0)) in
+      rw e (outs-then (Rival q v) (λ p. (p ≡ r) × (¬ (v ≡ q .value))) (Rival q (suc v)) k k′ _ A B
       (λ p g. ⊎-elim
-      (λ (z : p .value ≡ suc v). inr (λ i. record { slot = g .0 i; value = z i }, λ x. g .1 (z ∙ x)))
-      (λ (z : p .value < suc v). inl (g .0, g .1, g .2, omega arith)) (eq-or-lt-of-le (g .3)))
-      (λ p g. (g .0, g .1, g .2, omega (arith, g .3)))
-      (λ p g. let a = ap (λ (x : Pair). x .slot) (g .0) in let b = ap (λ (x : Pair). x .value) (g .0) in (a, λ x. g .1 (sym b ∙ x), omega (arith, b), omega (arith, b))))
+      (λ (z : p .value ≡ v). inr (λ i. record { slot = g .0 i; value = z i }, λ x. g .1 (z ∙ x)))
+      (λ (z : p .value < v). inl (g .0, g .1, z)) (eq-or-lt-of-le (let z : p .value ≤ v = omega (arith, g .2) in z)))
+      (λ p g. (g .0, g .1, omega (arith, g .2)))
+      (λ p g. let a = ap (λ (x : Pair). x .slot) (g .0) in let b = ap (λ (x : Pair). x .value) (g .0) in (a, λ x. g .1 (sym b ∙ x), omega (arith, b))))
 
   -- A pair becomes positive and the other values of its slot negative, where none of them is positive.
-  pub marked-outs : (q : Pair) (count : ℕ) (k : Known) → Placed (q .slot) (q .value) → count ≤ value-limit → Whole S k → ((p : Pair) → Rival q count p → ¬ T (set-of (k .positive) p))
-      → Outs S (Rival q count) (made-positive (place-of q) k) (marked (place-of q) count k)
+  pub marked-outs : (q : Pair) (count : ℕ) (k : Known) → Placed (q .slot) (q .value) → count ≤ value-limit → Whole S k → ((p : Pair) → Rival q (suc count) p → ¬ T (set-of (k .positive) p))
+      → Outs S (Rival q (suc count)) (made-positive (place-of q) k) (marked (place-of q) count k)
   unfolding marked made-positive
   marked-outs q count k h l W n =
       let i : place-of q < length (k .positive) = omega (arith, W .positive-size, placed-inside q h) in
-      rivals-outs q count (made-positive (place-of q) k) h l (positive-whole S k q W h)
+      rivals-outs q (suc count) (made-positive (place-of q) k) h (omega arith) (positive-whole S k q W h)
       (λ p g t. n p g (rw (set-there (k .positive) q p (h .in-row) i (λ e. g .1 (ap (λ (x : Pair). x .value) e))) at t))
 
-  -- The marks are then updated, as far as pairs of the slot have one of its values.
-  pub marked-marks : (q : Pair) (count : ℕ) (k : Known) → Placed (q .slot) (q .value) → count ≤ value-limit → Whole S k → ((p : Pair) → Rival q count p → ¬ T (set-of (k .positive) p))
-      → (p : Pair) → (p .slot ≡ q .slot → (1 ≤ p .value) × (p .value ≤ count)) → SameAt (marks-of (marked (place-of q) count k)) (update (marks-of k) (q ∷ [])) p
+  -- The marks are then updated, as far as pairs of the slot have NONE or one of its values.
+  pub marked-marks : (q : Pair) (count : ℕ) (k : Known) → Placed (q .slot) (q .value) → count ≤ value-limit → Whole S k → ((p : Pair) → Rival q (suc count) p → ¬ T (set-of (k .positive) p))
+      → (p : Pair) → (p .slot ≡ q .slot → p .value ≤ count) → SameAt (marks-of (marked (place-of q) count k)) (update (marks-of k) (q ∷ [])) p
   unfolding update made-positive among
   marked-marks q count k h l W n p m =
       let i : place-of q < length (k .positive) = omega (arith, W .positive-size, placed-inside q h) in
@@ -217,7 +217,7 @@ module _ (S : List ℕ) where
             ∙ bool-ext _ _ (λ t. ⊎-elim (λ s. or-l _ _ (or-l _ _ s)) (λ s. or-r _ _ s) (or-e _ _ t)) (λ t. ⊎-elim (λ s. or-l _ _ (⊎-elim (λ x. x) (λ x. absurd x) (or-e _ _ s))) (λ s. or-r _ _ s) (or-e _ _ t));
         same-negative = bool-ext _ _
             (λ t. ⊎-elim (λ g. or-l _ _ (rivals-i p q (q ∷ []) (or-l _ _ (same-refl q)) (g .0) (g .1))) (λ s. or-r _ _ s) (O .from p t))
-            (λ t. ⊎-elim (λ s. let w = rivals-one p q s in O .out p (w .0, w .1, m (w .0) .0, m (w .0) .1)) (λ s. O .kept p s) (or-e _ _ t));
+            (λ t. ⊎-elim (λ s. let w = rivals-one p q s in O .out p (w .0, w .1, omega (arith, m (w .0)))) (λ s. O .kept p s) (or-e _ _ t));
       }
 
   -- Those of some pairs that are not positive and have no assignment left are ruled out.

@@ -332,12 +332,12 @@ module _ (rows : List (List ℕ)) (n : ℕ) (ks : List ℕ) (width : ℕ) (count
           let w = declared-value rows n ks width counts I G p l in
           let h = declared-placed rows n ks width counts I G p l .in-row in
           ⊎-elim (λ x. not-e _ (and-l _ _ t) (rw (set-in (k .positive) p h) x)) (λ x. not-e _ (and-r _ _ t) (rw (set-in (k .negative) p h) x))
-          (or-e _ _ (from-true _ (m (p .slot) (p .value) (w .0) (w .1) (w .2)))))))
+          (or-e _ _ (from-true _ (m (p .slot) (p .value) (w .0) (w .1)))))))
 
       not-marked : NotMarked width counts (k .positive) (k .negative) → all-of is-known ps ≡ false
       not-marked m = is-false (all-of is-known ps) (λ t.
           let p = pair (m .slot) (m .value) in
-          let l = value-declared rows n ks width counts I G p (m .in-width) (m .from-one) (m .in-count) in
+          let l = value-declared rows n ks width counts I G p (m .in-width) (m .in-count) in
           let h = declared-placed rows n ks width counts I G p l .in-row in
           not-e (is-unknown (marks-of k) p) (all-pairs-e is-known ps t p l) (and-i _ _
           (not-i (set-of (k .positive) p) (λ x. subst T (m .neither) (or-l _ _ (subst T (set-in (k .positive) p h) x))))

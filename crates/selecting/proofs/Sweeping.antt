@@ -44,15 +44,15 @@ three-out p k t = three-set (k .truth) (pair-places + p) 0 (omega arith) t
 three-rivals : (p v : ℕ) (k : Known) → Three (k .truth) → Three (rivals-out p v k .truth)
 unfolding rivals-out rival-out
 three-rivals p zero k t = t
-three-rivals p (suc v) k t = go (eqb (p / row * row + suc v) p ∨ᵇ getD (rivals-out p v k .negative) (p / row * row + suc v) false) (three-rivals p v k t)
+three-rivals p (suc v) k t = go (eqb (p / row * row + v) p ∨ᵇ getD (rivals-out p v k .negative) (p / row * row + v) false) (three-rivals p v k t)
   where
-    go : (b : Bool) → Three (rivals-out p v k .truth) → Three (cond b (rivals-out p v k) (ruled-out (p / row * row + suc v) (rivals-out p v k)) .truth)
+    go : (b : Bool) → Three (rivals-out p v k .truth) → Three (cond b (rivals-out p v k) (ruled-out (p / row * row + v) (rivals-out p v k)) .truth)
     go true x = x
-    go false x = three-out (p / row * row + suc v) (rivals-out p v k) x
+    go false x = three-out (p / row * row + v) (rivals-out p v k) x
 
 three-marked : (p count : ℕ) (k : Known) → Three (k .truth) → Three (marked p count k .truth)
 unfolding marked made-positive
-three-marked p count k t = three-rivals p count _ (three-set (k .truth) (pair-places + p) _ (go (eqb (getD (k .truth) p 0) 2)) t)
+three-marked p count k t = three-rivals p (suc count) _ (three-set (k .truth) (pair-places + p) _ (go (eqb (getD (k .truth) p 0) 2)) t)
   where
     go : (b : Bool) → cond b 0 2 ≤ 2
     go true = omega arith

@@ -4,9 +4,10 @@ use mathlib.Core.Path.{_≡_, refl}
 use mathlib.Core.Bool.{Bool, true, false}
 use mathlib.Core.List.{List, [], _∷_, map}
 use Prim.Native.Nat.{ℕ, _≤_, _<_}
+use lib.Dec.{eqb}
 use lib.ListN.{getD}
-use borrow.Author.Tests.{le-leb, lt-leb}
-use Rattle.laws.specs.Truth.{_∧ᵇ_, notᵇ}
+use borrow.Author.Tests.{eq-eqb, ne-eqb, le-leb, lt-leb}
+use Rattle.laws.specs.Truth.{_∧ᵇ_, _∨ᵇ_, notᵇ}
 use Rattle.laws.specs.Listed.{all-of}
 use Rattle.laws.proofs.Equations.{and-false}
 use Rattle.laws.proofs.Listed.{all-append}
@@ -22,9 +23,17 @@ pub pair-lacking : (width : ℕ) (counts : List ℕ) (p : Pair) → has-slot wid
 unfolding has-pair _∧ᵇ_
 pair-lacking width counts p e = rw e
 
-pub pair-there : (width : ℕ) (counts : List ℕ) (p : Pair) → has-slot width (p .slot) ≡ true → has-pair width counts p ≡ has-value (getD counts (p .slot) 0) (p .value)
+pub pair-there : (width : ℕ) (counts : List ℕ) (p : Pair) → has-slot width (p .slot) ≡ true → has-pair width counts p ≡ (eqb (p .value) 0 ∨ᵇ has-value (getD counts (p .slot) 0) (p .value))
 unfolding has-pair _∧ᵇ_
 pair-there width counts p e = rw e
+
+pub pair-none : (width : ℕ) (counts : List ℕ) (p : Pair) → has-slot width (p .slot) ≡ true → p .value ≡ 0 → has-pair width counts p ≡ true
+unfolding has-pair _∧ᵇ_ _∨ᵇ_
+pair-none width counts p e z = rw (e, eq-eqb (p .value) 0 z)
+
+pub pair-value : (width : ℕ) (counts : List ℕ) (p : Pair) → has-slot width (p .slot) ≡ true → ¬ (p .value ≡ 0) → has-pair width counts p ≡ has-value (getD counts (p .slot) 0) (p .value)
+unfolding has-pair _∧ᵇ_ _∨ᵇ_
+pair-value width counts p e n = rw (e, ne-eqb (p .value) 0 n)
 
 pub all-stop : {A : Type 0} (f : A → Bool) (x : A) (xs : List A) → f x ≡ false → all-of f (x ∷ xs) ≡ false
 unfolding all-of _∧ᵇ_

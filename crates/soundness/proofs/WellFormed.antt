@@ -3,14 +3,15 @@
 use mathlib.Core.Path.{_≡_, refl, _∙_}
 use mathlib.Core.Bool.{Bool, true, false}
 use mathlib.Core.List.{List, map}
+use mathlib.Core.Logic.{⊎-elim}
 use Prim.Native.Nat.{ℕ, _+_, _≤_, _<_}
 use native.Mathlib.Omega.{arith}
-use lib.Dec.{T, leb, leb→le, le→leb}
+use lib.Dec.{T, eqb, leb, eqb→eq, leb→le, le→leb}
 use lib.ListN.{length, getD, take, set, length-take, length-map, length-set, List·getD-map}
 use lib.Seq.{getD-take, getD-set-same, getD-set-other}
 use Rattle.laws.specs.Truth.{_∧ᵇ_}
 use Rattle.laws.specs.Listed.{all-of}
-use Rattle.laws.proofs.Truth.{and-l, and-r, and-i, bool-ext}
+use Rattle.laws.proofs.Truth.{and-l, and-r, and-i, or-e, bool-ext}
 use Rattle.laws.proofs.Equations.{is-true, from-true}
 use Rattle.laws.proofs.Listed.{all-i, all-e, all-append, all-same}
 use Rattle.model.specs.Rules.{Pair, each-once}
@@ -111,13 +112,19 @@ module _ (t : Table) (sh : Shaped t) where
             (rules-e (λ r. each-once (assignments-of r)) n (and-r _ _ u) i h);
       }
 
--- A pair that a table has, has a place.
-has-placed : (width : ℕ) (counts : List ℕ) (p : Pair) → T (has-pair width counts p) → Placed (p .slot) (p .value)
+-- A pair that a table has: its slot is one of the slots, its value is NONE or one of that slot's.
+pub pair-inside : (width : ℕ) (counts : List ℕ) (p : Pair) → T (has-pair width counts p) → (p .slot < slot-limit) × (p .slot < width) × (p .value ≤ value-limit) × (p .value ≤ getD counts (p .slot) 0)
 unfolding has-pair
-has-placed width counts p u =
+pair-inside width counts p u =
     let a = slot-inside width (p .slot) (is-true _ (and-l _ _ u)) in
-    let b = value-inside (getD counts (p .slot) 0) (p .value) (is-true _ (and-r _ _ u)) in
-    record { in-slots = a .0; in-row = omega (arith, b .1 .0) }
+    let b = ⊎-elim
+    (λ (e : T (eqb (p .value) 0)). let z = eqb→eq (p .value) 0 e in (omega (arith, z), omega (arith, z)))
+    (λ e. value-inside (getD counts (p .slot) 0) (p .value) (is-true _ e) .1) (or-e _ _ (and-r _ _ u)) in
+    (a .0, a .1, b .0, b .1)
+
+-- It has a place.
+has-placed : (width : ℕ) (counts : List ℕ) (p : Pair) → T (has-pair width counts p) → Placed (p .slot) (p .value)
+has-placed width counts p u = let a = pair-inside width counts p u in record { in-slots = a .0; in-row = omega (arith, a .2) }
 
 -- The pairs that a rule names: of its trigger, of its literals, of its assignments.
 pub named-parts : (f : Pair → Bool) (r : Rule) → T (all-of f (named r)) → T (f (rule-of r .trigger)) × T (all-of f (map (λ l. l .pair) (literals-of r))) × T (all-of f (assignments-of r))

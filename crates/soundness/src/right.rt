@@ -16,7 +16,7 @@ use table::LITERALS;
 use table::Rule;
 use table::SLOTS;
 
-// Whether a table with so many slots, of so many values each, has a slot and a value of it.
+// Whether a table with so many slots, of so many values each, has a slot, and the value is NONE or one of that slot's.
 fn has_pair(width: usize, counts: &[usize; SLOTS], slot: u8, value: u8) -> bool
     ensures { λ b. ⌜ b ≡ has-pair width (now (counts .entry)) (pair slot value) ⌝ }
 {
@@ -24,8 +24,11 @@ fn has_pair(width: usize, counts: &[usize; SLOTS], slot: u8, value: u8) -> bool
     if !names::has_slot(width, s) {
         return false;
     }
-    let count = counts[s];
     let v = table::wide(value);
+    if v == 0 {
+        return true;
+    }
+    let count = counts[s];
     names::has_value(count, v)
 }
 
@@ -88,7 +91,7 @@ fn assignments_right(r: Rule, width: usize, counts: &[usize; SLOTS]) -> bool
     true
 }
 
-// Whether a rule keeps to the limits, names only slots and values that the table has, and assigns no slot twice.
+// Whether a rule keeps to the limits, names only slots and values that the table has and NONE, and assigns no slot twice.
 pub fn is_right(r: Rule, width: usize, counts: &[usize; SLOTS]) -> bool
     ensures { λ b. ⌜ b ≡ rule-right width (now (counts .entry)) r ⌝ }
 {

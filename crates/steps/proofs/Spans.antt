@@ -8,14 +8,23 @@ use mathlib.Core.Bool.{Bool, true, false}
 use mathlib.Core.List.{List, [], _∷_}
 use lib.ListN.{length, drop, getD, drop-of-length-le}
 use lib.Seq.{drop-cons}
-use Rattle.text.specs.Tokens.{Name, Token, same-letters, place}
+use borrow.Author.Tests.{ne-eqb}
+use types.Run.{OneOf, miss}
+use denote.Enum.Declared.{tagOf}
+use Rattle.laws.specs.Limits.{value-limit}
+use Rattle.text.specs.Tokens.{Name, Token, word, NONE, same-letters, place}
+use Rattle.text.specs.declared.Token as code
+use Rattle.text.specs.declared.Token.the-variants as v
+use Rattle.text.proofs.Token as kinds
 use Rattle.grammar.specs.Files.{Slot, spellings, place-in, slot-names, values-of}
-use Rattle.grammar.specs.Reading.{Part, took, stop, _then_, a-name, known-value, known-slot, read-slot, read-value}
+use Rattle.grammar.specs.Reading.{Part, took, stop, _then_, a-name, if-next, known-value, known-slot, read-slot, read-place, read-value}
 use Rattle.text.proofs.Covering.{same-letters-eq}
 use Rattle.text.proofs.Steps.{counted, place-counted}
-use Rattle.steps.specs.inner.Spans.{key-of, span-letters, Span-lies, Listed, read-place, Number-lies}
+use Rattle.steps.specs.inner.Spans.{key-of, span-letters, Span-lies, Listed, Number-lies, Value-lies}
+use Rattle.steps.specs.inner.Places.{shown-past}
 use Rattle.steps.specs.declared.lookup.Number.{Number}
 use Rattle.steps.specs.declared.lookup.Number.the-variants as number
+use Rattle.steps.proofs.Places.{no-word}
 
 -- The empty name has key 0.
 pub key-empty : (n : List ℕ) → length n ≡ 0 → 0 ≡ key-of n
@@ -121,10 +130,26 @@ pub slot-fault : (slots : List Slot) (ts : List Token) (k : ℕ) → read-place 
 unfolding read-place read-slot
 slot-fault slots ts k e = slot-stop (a-name ts) (slot-names slots) k e
 
-pub value-place : (slots : List Slot) (s : ℕ) (ts : List Token) → read-value slots s ts ≡ read-place (values-of slots s) ts
-unfolding read-place read-value
-value-place slots s ts = refl
+-- A value where a word stands: NONE is taken for 0, and no other may stand there.
+pub none-taken : (slots : List Slot) (s w : ℕ) (ts : List Token) → w ≡ NONE → read-value slots s (word w ∷ ts) ≡ took 0 ts
+unfolding read-value if-next
+none-taken slots s w ts e = rw e
 
-pub lies-up : (top more size from : ℕ) (r : Number) → top ≤ more → Number-lies top size from r → Number-lies more size from r
-lies-up top more size from (number.Is n next) h l = (l .0, omega (arith, l .1), l .2, l .3)
-lies-up top more size from (number.Fault k) h l = tt
+pub other-word-stops : (slots : List Slot) (s w : ℕ) (ts : List Token) → (w ≡ NONE → ⊥) → read-value slots s (word w ∷ ts) ≡ stop 12
+unfolding read-value read-place if-next a-name _then_
+other-word-stops slots s w ts e = rw (ne-eqb w NONE e)
+
+-- Where no word stands, a value is read by its name.
+pub value-by-name : (slots : List Slot) (s : ℕ) (rest : List ℕ) (base : ℕ) (t : code.Token) (ts : List Token) → OneOf no-word (tagOf kinds.the-type t)
+    → read-value slots s (shown-past rest base t ts) ≡ read-place (values-of slots s) (shown-past rest base t ts)
+unfolding read-value if-next
+value-by-name slots s rest base v.End ts h = refl
+value-by-name slots s rest base (v.Word w) ts h = absurd (miss no-word 1 tt h)
+value-by-name slots s rest base (v.Name start size) ts h = refl
+value-by-name slots s rest base v.Long ts h = refl
+value-by-name slots s rest base v.Bad ts h = refl
+
+-- A place among a slot's values is a value's number.
+pub place-lies : (top size from : ℕ) (r : Number) → top ≤ value-limit → Number-lies top size from r → Value-lies size from r
+place-lies top size from (number.Is n next) h l = (omega (arith, l .1), l .2, l .3)
+place-lies top size from (number.Fault k) h l = tt

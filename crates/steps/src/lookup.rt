@@ -8,11 +8,11 @@ ghost use Rattle.table.specs.inner.Flat.{pair-places};
 ghost use Rattle.classes.specs.Classes.{Classes};
 ghost use Rattle.text.specs.Tokens.{Name, Token, same-letters, place};
 ghost use Rattle.grammar.specs.Files.{Slot, spellings, slot-names, values-of};
-ghost use Rattle.grammar.specs.Reading.{a-name, read-slot, read-value};
+ghost use Rattle.grammar.specs.Reading.{a-name, read-slot, read-place, read-value};
 ghost use Rattle.steps.specs.inner.Places.{tokens-past, named-part, Named-lies};
-ghost use Rattle.steps.specs.inner.Spans.{key-of, span-letters, Span-lies, Listed, read-place, number-part, Number-lies, Slot-lies};
+ghost use Rattle.steps.specs.inner.Spans.{key-of, span-letters, Span-lies, Listed, number-part, Number-lies, Value-lies, Slot-lies};
 use crate::step::Named;
-use crate::step::name_next;
+use crate::step::name_of;
 use table::ROW;
 use table::SLOTS;
 use table::VALUES;
@@ -116,7 +116,7 @@ pub fn slot_of(text: &[u8], rest: &[u8], slotspans: &[usize; SLOTS], named: Name
     }
 }
 
-// The name of a value of a slot must stand at a position.
+// A value of a slot must stand at a position: the name of one, or NONE, which is 0.
 pub fn value_next(
     text: &[u8],
     rest: &[u8],
@@ -127,9 +127,18 @@ pub fn value_next(
 ) -> Number
     requires { ⌜ Classes (now classes) × (slot < slot-limit) × (length (now valuespans) ≡ pair-places) ⌝ }
     ensures { λ r. ⌜ ((base : ℕ) (slots : List Slot) → Listed (now (text .entry)) (take value-limit (drop (slot * row + 1) (now (valuespans .entry)))) (spellings (values-of slots slot))
-        → read-value slots slot (tokens-past (now (rest .entry)) base at) ≡ number-part (now (rest .entry)) base r) × Number-lies value-limit (length (now (rest .entry))) at r ⌝ }
+        → read-value slots slot (tokens-past (now (rest .entry)) base at) ≡ number-part (now (rest .entry)) base r) × Value-lies (length (now (rest .entry))) at r ⌝ }
 {
-    let named = name_next(rest, classes, at);
+    let next = text::token_by(rest, at, classes);
+    let after = next.at;
+    let token = next.token;
+    if let text::Token::Word(w) = token {
+        if w == text::NONE {
+            return Number::Is(0, after);
+        }
+        return Number::Fault(12);
+    }
+    let named = name_of(next);
     let first = slot * ROW + 1;
     let last = first + VALUES;
     place_of(text, rest, &valuespans[first..last], named)

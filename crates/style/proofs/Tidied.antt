@@ -10,11 +10,11 @@ use Rattle.laws.specs.Listed.{Each}
 use Rattle.laws.proofs.Lists.{map-append}
 use Rattle.text.specs.Tokens.{Name, Token, word, name, SLOT, WHEN, IF, THEN, AND, NOT, TRUE, OPEN, CLOSE, COMMA, SEMICOLON, BECOMES, HAS, GETS}
 use Rattle.model.specs.Rules.{Pair, Literal, Rule}
-use Rattle.grammar.specs.Files.{Slot, File, slot-named, value-named}
-use Rattle.grammar.specs.Grammar.{RuleTree, ConditionTree, and-literal, one-literal, LiteralTree, not-literal, becomes-value, holds-value, AssignTree, braces, AssignmentListTree, one-assignment, comma-assignment, AssignmentTree, ValueListTree, one-value, comma-value, LineTree, line, FileTree, grown, spell, spell-literal, spell-condition, spell-assignment, spell-assignments, spell-assign, spell-rule, spell-rules, spell-values, spell-lines}
+use Rattle.grammar.specs.Files.{Slot, File, slot-named, value-written}
+use Rattle.grammar.specs.Grammar.{RuleTree, ValueTree, ConditionTree, and-literal, one-literal, LiteralTree, not-literal, becomes-value, holds-value, AssignTree, braces, AssignmentListTree, one-assignment, comma-assignment, AssignmentTree, ValueListTree, one-value, comma-value, LineTree, line, FileTree, grown, spell, spell-value, spell-literal, spell-condition, spell-assignment, spell-assignments, spell-assign, spell-rule, spell-rules, spell-values, spell-lines}
 use Rattle.grammar.specs.Meaning.{Names, nots, turned, tests-change, tested-slot, tested-value, Means-literal, Means-condition, means-and, means-one, means-true, Means-assignment, means-assignment, Means-assignments, means-first, means-comma, Means-assign, means-alone, means-braces, means-trigger, Means-rule, means-rule, Means-rules, no-rules, more-rules, Means}
 use Rattle.grammar.proofs.Leftmost.{grown-last}
-use Rattle.grammar.proofs.Declared.{names-letters}
+use Rattle.grammar.proofs.Declared.{slot-letters, value-letters}
 use Rattle.style.specs.Layout.{layout, by-letters}
 use Rattle.style.specs.Printed.{literal-tree, condition-tree, assign-tree, assignment-tree, rule-tree, line-tree, canonical, print}
 use Rattle.style.specs.Tidy.{Tidy-literals, Tidy-condition, Tidy-assign, Tidy-rule, Tidy}
@@ -77,11 +77,10 @@ name-first : (n m : Name) {x y : List Token} → n .letters ≡ m .letters → x
 name-first n m e h = ap₂ (λ (l : List ℕ) (z : List Token). name (record { start = 0; letters = l }) ∷ z) e h
 
 module _ (slots : List Slot) where
-  -- A slot's name, a mark and a value's name.
-  pair-same : (s v : Name) (p : Pair) (w : ℕ) → Names slots s v p → Same (λ r. name s ∷ word w ∷ name v ∷ r) (λ r. name (slot-named slots p) ∷ word w ∷ name (value-named slots p) ∷ r)
+  -- A slot's name, a mark and a value.
+  pair-same : (s : Name) (v : ValueTree) (p : Pair) (w : ℕ) → Names slots s v p → Same (λ r. name s ∷ word w ∷ spell-value v ∷ r) (λ r. name (slot-named slots p) ∷ word w ∷ spell-value (value-written slots p) ∷ r)
   pair-same s v p w n r q h =
-      let e = names-letters slots s v p n in
-      name-first s (slot-named slots p) (e .0) (word-first w (name-first v (value-named slots p) (e .1) h))
+      name-first s (slot-named slots p) (slot-letters slots s v p n) (word-first w (ap₂ (λ (t : Token) (y : List Token). t ∷ y) (value-letters slots s v p n) h))
 
   plain-same : (l : LiteralTree) (p : Pair) → Names slots (tested-slot l) (tested-value l) p → nots l ≤ 1
       → Same (spell-literal l) (spell-literal (literal-tree slots (record { becomes = tests-change l; negated = turned (nots l) false; pair = p })))

@@ -1,4 +1,4 @@
-// The table of document 01, 'Rule text': slots, values and rules by value.
+// The table of document 01, 'Rule text': slots, values and rules by value. In a rule value 0 is NONE (document 02, section 6).
 ghost use mathlib.Core.Path.{_≡_};
 ghost use Rattle.table.specs.Empty.{unused-rule, empty-table};
 ghost use Rattle.table.specs.inner.Flat.{Placed, At};
@@ -14,7 +14,7 @@ pub const LITERALS: usize = 8;
 
 pub const ASSIGNMENTS: usize = 4;
 
-// The places of one slot in an array indexed by pair (its values from 1, and 0), and of all slots.
+// The places of one slot in an array indexed by pair (NONE, which is value 0, and its values from 1), and of all slots.
 pub const ROW: usize = VALUES + 1;
 
 pub const PAIRS: usize = SLOTS * ROW;

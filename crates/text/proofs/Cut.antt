@@ -142,7 +142,7 @@ run-free : (p : ℕ) (l : List ℕ) → is-semi (run-token p l) ≡ false
 unfolding run-token reserved
 run-free p l = go (ltb name-limit (length l)) (place l reserved) (place-le l reserved)
   where
-    go : (t : Bool) (k : ℕ) → k ≤ 7 → is-semi (cond t long (word-or-name (record { start = p; letters = l }) k)) ≡ false
+    go : (t : Bool) (k : ℕ) → k ≤ length reserved → is-semi (cond t long (word-or-name (record { start = p; letters = l }) k)) ≡ false
     go true k h = refl
     go false zero h = refl
     go false (suc k) h = ne-eqb (suc k) SEMICOLON (λ e. omega arith)

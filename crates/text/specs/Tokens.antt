@@ -41,28 +41,31 @@ NOT = 6
 abbrev pub TRUE : ℕ
 TRUE = 7
 
+abbrev pub NONE : ℕ
+NONE = 8
+
 abbrev pub OPEN : ℕ
-OPEN = 8
+OPEN = 9
 
 abbrev pub CLOSE : ℕ
-CLOSE = 9
+CLOSE = 10
 
 abbrev pub COMMA : ℕ
-COMMA = 10
+COMMA = 11
 
 abbrev pub SEMICOLON : ℕ
-SEMICOLON = 11
+SEMICOLON = 12
 
 abbrev pub BECOMES : ℕ
-BECOMES = 12
+BECOMES = 13
 
 abbrev pub HAS : ℕ
-HAS = 13
+HAS = 14
 
 abbrev pub GETS : ℕ
-GETS = 14
+GETS = 15
 
--- The reserved words in the order of their numbers, in capitals: SLOT WHEN IF THEN AND NOT TRUE.
+-- The reserved words in the order of their numbers, in capitals: SLOT WHEN IF THEN AND NOT TRUE, and NONE of document 02, section 6.
 unfoldable pub reserved : List (List ℕ)
 reserved =
     (83 ∷ 76 ∷ 79 ∷ 84 ∷ [])
@@ -71,7 +74,8 @@ reserved =
     ∷ (84 ∷ 72 ∷ 69 ∷ 78 ∷ [])
     ∷ (65 ∷ 78 ∷ 68 ∷ [])
     ∷ (78 ∷ 79 ∷ 84 ∷ [])
-    ∷ (84 ∷ 82 ∷ 85 ∷ 69 ∷ []) ∷ []
+    ∷ (84 ∷ 82 ∷ 85 ∷ 69 ∷ [])
+    ∷ (78 ∷ 79 ∷ 78 ∷ 69 ∷ []) ∷ []
 
 -- The number of a mark, by its first byte.
 unfoldable pub mark-of : ℕ → ℕ

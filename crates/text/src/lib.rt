@@ -22,19 +22,21 @@ pub const NOT: u8 = 6;
 
 pub const TRUE: u8 = 7;
 
-pub const OPEN: u8 = 8;
+pub const NONE: u8 = 8;
 
-pub const CLOSE: u8 = 9;
+pub const OPEN: u8 = 9;
 
-pub const COMMA: u8 = 10;
+pub const CLOSE: u8 = 10;
 
-pub const SEMICOLON: u8 = 11;
+pub const COMMA: u8 = 11;
 
-pub const BECOMES: u8 = 12;
+pub const SEMICOLON: u8 = 12;
 
-pub const HAS: u8 = 13;
+pub const BECOMES: u8 = 13;
 
-pub const GETS: u8 = 14;
+pub const HAS: u8 = 14;
+
+pub const GETS: u8 = 15;
 
 // The most bytes that a name may have.
 pub const NAME_LIMIT: usize = 24;
@@ -182,7 +184,10 @@ pub fn reserved_number(name: &[u8]) -> u8
             word_or(name, b"THEN", THEN, otherwise)
         }
         b'A' => word_or(name, b"AND", AND, 0),
-        b'N' => word_or(name, b"NOT", NOT, 0),
+        b'N' => {
+            let otherwise = word_or(name, b"NONE", NONE, 0);
+            word_or(name, b"NOT", NOT, otherwise)
+        }
         _ => 0,
     }
 }

@@ -9,7 +9,7 @@ ghost use Rattle.table.specs.inner.Fits.{RuleFits};
 ghost use Rattle.table.specs.Link.{literal-of, assignments-of, rule-of};
 ghost use Rattle.writing.specs.inner.Puts.{longest, Puts};
 ghost use Rattle.writing.specs.inner.Written.{separated, test-bytes, literal-bytes, condition-bytes, assign-bytes, rule-bytes};
-ghost use Rattle.writing.specs.inner.Spelled.{spelled-pair};
+ghost use Rattle.writing.specs.inner.Spelled.{spelled-value, spelled-pair};
 use crate::put::put;
 use crate::put::put_name;
 use table::Literal;
@@ -17,7 +17,26 @@ use table::PAIRS;
 use table::Rule;
 use table::SLOTS;
 
-// Puts the name of a slot, a mark, and the name of a value of it.
+// Puts a value of a slot: its name, or NONE for 0.
+fn put_value(
+    out: &mut [u8],
+    at: usize,
+    text: &[u8],
+    valuespans: &[usize; PAIRS],
+    slot: u8,
+    value: u8,
+) -> usize
+    requires { ⌜ Placed slot value × (at + length (spelled-value (now text) (now valuespans) (pair slot value)) ≤ longest) ⌝ }
+    ensures { λ r. ⌜ Puts (now (out .entry)) at (spelled-value (now (text .entry)) (now (valuespans .entry)) (pair slot value)) (now (out .exit)) r ⌝ }
+{
+    if value == 0 {
+        return put(out, at, b"NONE");
+    }
+    let p = table::place(slot, value);
+    put_name(out, at, text, valuespans[p])
+}
+
+// Puts the name of a slot, a mark, and a value of it.
 pub fn put_pair(
     out: &mut [u8],
     at: usize,
@@ -32,10 +51,9 @@ pub fn put_pair(
     ensures { λ r. ⌜ Puts (now (out .entry)) at (spelled-pair (now (text .entry)) (now (slotspans .entry)) (now (valuespans .entry)) (now (mark .entry)) (pair slot value)) (now (out .exit)) r ⌝ }
 {
     let s = table::wide(slot);
-    let p = table::place(slot, value);
     let named = put_name(out, at, text, slotspans[s]);
     let marked = put(out, named, mark);
-    put_name(out, marked, text, valuespans[p])
+    put_value(out, marked, text, valuespans, slot, value)
 }
 
 // Puts a literal without its NOT.

@@ -5,7 +5,7 @@ use Prim.Native.Nat.{_<_}
 use lib.ListN.{length}
 use Rattle.model.specs.Result.{pair}
 use Rattle.cards.specs.inner.Fitting.{counts-in}
-use Rattle.cards.proofs.Tested.{counts-length, count-at, fault-25, fault-26, fault-27, fault-high, no-fault}
+use Rattle.cards.proofs.Tested.{counts-length, count-at, fault-25, fault-26, fault-27, no-fault}
 use native.Mathlib.Omega.{arith}
 use borrow.Author.Needs.{needs}
 use Rattle.cards.proofs.change_fault.Statement.{statement}
@@ -27,35 +27,27 @@ returns-2 c =
     let a = e .before .args in
     sym (fault-26 (counts-in (a .width) (a .counts .now)) (a .low) (pair (a .slot) (a .value)) (below e) (c .if2 .taken))
 
-returns-3 : tie.Need-returns-3
-returns-3 c =
-    let e = c .before .before in
-    let a = e .before .args in
-    sym (fault-27 (counts-in (a .width) (a .counts .now)) (a .low) (pair (a .slot) (a .value)) (below e) (c .before .if2 .left) (c .if3 .taken))
-
 mul-last : tie.Need-mul-last
 mul-last c = search needs
 
 element-copy-out-last : tie.Need-element-copy-out-last
 element-copy-out-last c = search needs
 
+returns-3 : tie.Need-returns-3
+returns-3 c =
+    let e = c .before .before .before in
+    let a = e .before .args in
+    let k = count-at (a .width) (a .counts .now) (a .slot) (e .if1 .left) in
+    sym (fault-27 (counts-in (a .width) (a .counts .now)) (a .low) (pair (a .slot) (a .value)) (below e) (c .before .before .if2 .left) (omega (arith, k, c .if3 .taken)))
+
 returns-4 : tie.Need-returns-4
 returns-4 c =
-    let d = c .before .before in
-    let e = d .before .before in
+    let e = c .before .before .before in
     let a = e .before .args in
     let k = count-at (a .width) (a .counts .now) (a .slot) (e .if1 .left) in
-    sym (fault-high (counts-in (a .width) (a .counts .now)) (a .low) (pair (a .slot) (a .value)) (below e) (d .before .if2 .left) (d .if3 .left) (omega (arith, k, c .if4 .taken)))
-
-returns-5 : tie.Need-returns-5
-returns-5 c =
-    let d = c .before .before in
-    let e = d .before .before in
-    let a = e .before .args in
-    let k = count-at (a .width) (a .counts .now) (a .slot) (e .if1 .left) in
-    sym (no-fault (counts-in (a .width) (a .counts .now)) (a .low) (pair (a .slot) (a .value)) (below e) (d .before .if2 .left) (d .if3 .left) (omega (arith, k, c .if4 .left)))
+    sym (no-fault (counts-in (a .width) (a .counts .now)) (a .low) (pair (a .slot) (a .value)) (below e) (c .before .before .if2 .left) (omega (arith, k, c .if3 .left)))
 
 pub change-fault-spec : {M : Type 1} → statement M
 change-fault-spec =
     tie.close
-    (tie.spec returns returns-2 returns-3 mul-last element-copy-out-last returns-4 returns-5)
+    (tie.spec returns returns-2 mul-last element-copy-out-last returns-3 returns-4)

@@ -14,7 +14,7 @@ use Rattle.results.specs.Record.{bit-of}
 use Rattle.cards.specs.Forms.{count-in, changes-in, slip-bits}
 use Rattle.tally.specs.declared.Tally.{Tally}
 use Rattle.response.specs.Ending.{Answer}
-use Rattle.listing.specs.Listing.{RuleLine, ChangeLine, Listing, listed, change-line}
+use Rattle.listing.specs.Listing.{RuleLine, ChangeLine, Listing, listed, value-listed, change-line}
 
 -- The line of a rule by its stratum and whether it fired, and the lines of a table's rules by the bytes of a fired record.
 abbrev pub fired-line : ℕ → Bool → RuleLine
@@ -25,7 +25,7 @@ fired-lines t ys = tabulate (λ i. fired-line (stratum-at t (suc i)) (bit-of ys 
 
 -- The line of a change by its slot.
 abbrev pub slot-change : List ℕ → Slot → ℕ → ChangeLine
-slot-change text s v = record { slot = show-name text (s .name) .part; value = show-value-of text s v .part }
+slot-change text s v = record { slot = show-name text (s .name) .part; value = value-listed v (show-value-of text s v .part) }
 
 -- The bytes of an answer.
 abbrev pub answer-bytes : List ℕ → List ℕ → List ℕ → Answer

@@ -24,14 +24,14 @@ made-positive p k = known (set (k .positive) p true) (k .negative) (set (k .trut
 unfoldable pub rival-out : ℕ → ℕ → Known → Known
 rival-out p q k = cond (eqb q p ∨ᵇ getD (k .negative) q false) k (ruled-out q k)
 
--- So are the values 1 to v of the slot of the pair at p.
+-- So are the values below v of the slot of the pair at p.
 unfoldable pub rivals-out : ℕ → ℕ → Known → Known
 rivals-out p zero k = k
-rivals-out p (suc v) k = rival-out p (p / row * row + suc v) (rivals-out p v k)
+rivals-out p (suc v) k = rival-out p (p / row * row + v) (rivals-out p v k)
 
--- The pair at p becomes positive and the other values of its slot, which has so many, negative.
+-- The pair at p becomes positive, and NONE and the values of its slot, which has so many, negative but for its own.
 unfoldable pub marked : ℕ → ℕ → Known → Known
-marked p count k = rivals-out p count (made-positive p k)
+marked p count k = rivals-out p (suc count) (made-positive p k)
 
 -- A pair that is assigned becomes positive, unless it is.
 unfoldable pub assigned-one : List ℕ → Pair → Known → Known
@@ -63,16 +63,15 @@ pub record FirstNegative (width : ℕ) (live : List ℕ) (positive negative : Li
   pub at : (s v : ℕ) → s < width → v < row
       → getD negative (s * row + v) false ≡ (notᵇ (getD positive (s * row + v) false) ∧ᵇ (is-changed row (set-of positive) s ∨ᵇ eqb (getD live (s * row + v) 0) 0))
 
--- Every value of the first slots is positive or negative.
+-- NONE and every value of each of the first slots is positive or negative.
 unfoldable pub AllMarked : ℕ → List ℕ → List Bool → List Bool → Type 0
 AllMarked width counts positive negative =
-    (s v : ℕ) → s < width → 1 ≤ v → v ≤ getD counts s 0 → getD positive (s * row + v) false ∨ᵇ getD negative (s * row + v) false ≡ true
+    (s v : ℕ) → s < width → v ≤ getD counts s 0 → getD positive (s * row + v) false ∨ᵇ getD negative (s * row + v) false ≡ true
 
 -- One of them is neither.
 pub record NotMarked (width : ℕ) (counts : List ℕ) (positive negative : List Bool) : Type 0 where
   pub slot : ℕ
   pub value : ℕ
   pub in-width : slot < width
-  pub from-one : 1 ≤ value
   pub in-count : value ≤ getD counts slot 0
   pub neither : getD positive (slot * row + value) false ∨ᵇ getD negative (slot * row + value) false ≡ false

@@ -11,7 +11,7 @@ use Rattle.laws.specs.Limits.{literal-limit, assignment-limit}
 use Rattle.table.specs.Link.{assignments-of}
 use Rattle.soundness.specs.Sound.{has-pair, named}
 
--- What one rule is asked for: the limits, the slots and values of the table, no slot assigned twice.
+-- What one rule is asked for: the limits, the slots and values of the table and NONE, no slot assigned twice.
 unfoldable pub rule-right : ℕ → List ℕ → Rule → Bool
 rule-right width counts r =
     leb (r .tested) literal-limit ∧ᵇ leb (r .assigned) assignment-limit ∧ᵇ all-of (has-pair width counts) (named r)

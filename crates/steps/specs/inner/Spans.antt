@@ -3,10 +3,8 @@ use Prim.Native.Nat.{ℕ, _+_, _-_, _*_, _/_, _%_, _≤_, _<_}
 use mathlib.Core.Path.{_≡_}
 use mathlib.Core.List.{List, [], _∷_}
 use lib.ListN.{length, take, drop, getD}
-use Rattle.laws.specs.Limits.{text-limit, slot-limit}
-use Rattle.text.specs.Tokens.{Name, Token}
-use Rattle.grammar.specs.Files.{place-in}
-use Rattle.grammar.specs.Reading.{Part, took, stop, _then_, a-name, known-value}
+use Rattle.laws.specs.Limits.{text-limit, slot-limit, value-limit}
+use Rattle.grammar.specs.Reading.{Part, took, stop}
 use Rattle.steps.specs.inner.Places.{tokens-past}
 use Rattle.steps.specs.declared.lookup.Number.{Number}
 use Rattle.steps.specs.declared.lookup.Number.the-variants as number
@@ -43,10 +41,6 @@ Listed text [] (n ∷ ns) = ⊥
 Listed text (k ∷ ks) [] = k ≡ 0
 Listed text (k ∷ ks) (n ∷ ns) = (0 < k) × Span-lies text k × (span-letters text k ≡ n) × Listed text ks ns
 
--- One of these names, by its place among them from 1.
-unfoldable pub read-place : List Name → List Token → Part ℕ
-read-place names ts = a-name ts then λ n rest. known-value (place-in names n) rest
-
 -- A number read.
 abbrev pub number-part : List ℕ → ℕ → Number → Part ℕ
 number-part rest base (number.Is n next) = took n (tokens-past rest base next)
@@ -56,6 +50,11 @@ number-part rest base (number.Fault k) = stop k
 abbrev pub Number-lies : ℕ → ℕ → ℕ → Number → Type 0
 Number-lies top size from (number.Is n next) = (0 < n) × (n ≤ top) × (from < next) × (next ≤ size)
 Number-lies top size from (number.Fault k) = Unit
+
+-- A value's number is 0 to 15, 0 for NONE.
+abbrev pub Value-lies : ℕ → ℕ → Number → Type 0
+Value-lies size from (number.Is n next) = (n ≤ value-limit) × (from < next) × (next ≤ size)
+Value-lies size from (number.Fault k) = Unit
 
 -- A slot's number is 0 to 31.
 abbrev pub Slot-lies : ℕ → ℕ → Number → Type 0

@@ -6,7 +6,7 @@ use mathlib.Core.List.{List, [], _∷_}
 use lib.ListN.{length, getD}
 use Rattle.laws.specs.Limits.{name-limit}
 use Rattle.classes.specs.Classes.{one-of, class-of}
-use Rattle.text.specs.Tokens.{Token, word, name, long, bad, SLOT, WHEN, IF, THEN, AND, NOT, TRUE, OPEN, CLOSE, COMMA, SEMICOLON, BECOMES, HAS, GETS, reserved, place, run, Name}
+use Rattle.text.specs.Tokens.{Token, word, name, long, bad, SLOT, WHEN, IF, THEN, AND, NOT, TRUE, NONE, OPEN, CLOSE, COMMA, SEMICOLON, BECOMES, HAS, GETS, reserved, place, run, Name}
 use Rattle.grammar.specs.Files.{Slot}
 use Rattle.grammar.specs.Standing.{Named-by}
 
@@ -19,7 +19,7 @@ pub record Is-name (letters : List ℕ) : Type 0 where
 
 -- A token that may be laid out: one of the words and marks, or a name.
 abbrev pub Printable : Token → Type 0
-Printable (word w) = one-of (SLOT ∷ WHEN ∷ IF ∷ THEN ∷ AND ∷ NOT ∷ TRUE ∷ OPEN ∷ CLOSE ∷ COMMA ∷ SEMICOLON ∷ BECOMES ∷ HAS ∷ GETS ∷ []) w ≡ true
+Printable (word w) = one-of (SLOT ∷ WHEN ∷ IF ∷ THEN ∷ AND ∷ NOT ∷ TRUE ∷ NONE ∷ OPEN ∷ CLOSE ∷ COMMA ∷ SEMICOLON ∷ BECOMES ∷ HAS ∷ GETS ∷ []) w ≡ true
 Printable (name n) = Is-name (n .letters)
 Printable long = ⊥
 Printable bad = ⊥

@@ -79,6 +79,12 @@ slice-aggregate-word-or-7 c = search needs
 word-or-requires-7 : tie.Need-word-or-requires-7
 word-or-requires-7 c κs = search needs
 
+slice-aggregate-word-or-8 : tie.Need-slice-aggregate-word-or-8
+slice-aggregate-word-or-8 c = search needs
+
+word-or-requires-8 : tie.Need-word-or-requires-8
+word-or-requires-8 c κs = search needs
+
 returns-2 : tie.Need-returns-2
 unfolding reserved
 returns-2 c =
@@ -120,9 +126,12 @@ returns-6 c =
 returns-7 : tie.Need-returns-7
 unfolding reserved
 returns-7 c =
-    let d = c .before .before in
+    let p = c .before .before in
+    let d = p .before .before in
     let e = d .before .before in
-    c .word-or7 .ensures ∙ begun (e .before .before .args .name .now) 78 (λ m. cond (same-letters m (78 ∷ 79 ∷ 84 ∷ [])) 6 0) (e .if1 .left) (d .match .keys6) (λ xs. refl)
+    c .word-or8 .ensures
+    ∙ ap (λ (k : ℕ). cond (same-letters (e .before .before .args .name .now) (78 ∷ 79 ∷ 84 ∷ [])) 6 k) (p .word-or7 .ensures)
+    ∙ begun (e .before .before .args .name .now) 78 (λ m. cond (same-letters m (78 ∷ 79 ∷ 84 ∷ [])) 6 (cond (same-letters m (78 ∷ 79 ∷ 78 ∷ 69 ∷ [])) 8 0)) (e .if1 .left) (d .match .keys6) (λ xs. refl)
 
 returns-8 : tie.Need-returns-8
 returns-8 c =
@@ -150,6 +159,8 @@ reserved-number-spec =
     word-or-requires-6
     slice-aggregate-word-or-7
     word-or-requires-7
+    slice-aggregate-word-or-8
+    word-or-requires-8
     returns-2
     returns-3
     returns-4

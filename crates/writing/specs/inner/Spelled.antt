@@ -2,9 +2,11 @@
 use Prim.Native.Nat.{ℕ, _+_, _*_, _%_, _≤_, _<_}
 use mathlib.Core.Bool.{cond}
 use mathlib.Core.List.{List, [], _++_, map}
-use lib.Dec.{leb}
+use lib.Dec.{eqb, leb}
 use lib.ListN.{length, getD}
 use Rattle.laws.specs.Tabulated.{tabulate}
+use Rattle.laws.specs.Quoted.{bytes}
+use Rattle.model.specs.Rules.{Pair}
 use Rattle.table.specs.declared.Table.{Table}
 use Rattle.laws.specs.Limits.{slot-limit, value-limit, row}
 use Rattle.table.specs.Zero.{zero-slot, zero-rule}
@@ -17,9 +19,13 @@ use Rattle.writing.specs.inner.Written.{Pairing, rule-bytes, line-bytes,
 unfoldable pub spelled : List ℕ → ℕ → List ℕ
 spelled text k = cond (leb (span-start k + k % 32) (length text)) (span-letters text k) []
 
+-- A pair's value by its span, and NONE for 0.
+unfoldable pub spelled-value : List ℕ → List ℕ → Pair → List ℕ
+spelled-value text valuespans p = cond (eqb (p .value) 0) (bytes "NONE") (spelled text (getD valuespans (place-of p) 0))
+
 -- A pair by the spans of its slot and of its value.
 unfoldable pub spelled-pair : List ℕ → List ℕ → List ℕ → Pairing
-spelled-pair text slotspans valuespans mark p = spelled text (getD slotspans (p .slot) 0) ++ (mark ++ spelled text (getD valuespans (place-of p) 0))
+spelled-pair text slotspans valuespans mark p = spelled text (getD slotspans (p .slot) 0) ++ (mark ++ spelled-value text valuespans p)
 
 -- The names of the first values of a slot.
 unfoldable pub spelled-values : List ℕ → List ℕ → ℕ → ℕ → List (List ℕ)

@@ -5,11 +5,10 @@ use mathlib.Core.Path.{ap, subst, _∙_}
 use lib.ListN.{length}
 use Rattle.steps.specs.inner.Places.{step-part, Step-lies}
 use Rattle.steps.specs.declared.step.Step.the-variants as step
-use Rattle.steps.specs.inner.Spans.{number-part, Number-lies}
+use Rattle.steps.specs.inner.Spans.{number-part, Value-lies}
 use Rattle.steps.specs.declared.lookup.Number.the-variants as number
 use Rattle.clauses.proofs.AssignmentLaws as assignments
 use borrow.Author.Needs.{needs}
-use Rattle.laws.specs.Limits.{value-limit}
 use Rattle.clauses.proofs.assignments.assignment_value.Statement.{statement}
 use Rattle.clauses.proofs.assignments.assignment_value.Tie as tie
 
@@ -17,9 +16,9 @@ use Rattle.clauses.proofs.assignments.assignment_value.Tie as tie
 mark-lies : (c : tie.After-mark) → Step-lies (length (c .before .before .before .before .before .before .args .rest .now)) (c .before .before .before .before .before .before .args .at) (step.At (c .mark .given .0 .0))
 mark-lies c = subst (Step-lies _ _) (c .mark .given .1) (c .before .before .word-next .ensures .1)
 
--- The value that was found is 1 to 15.
-found-lies : (c : tie.After-found) → Number-lies value-limit (length (c .before .before .before .before .before .before .before .before .before .before .args .rest .now)) (c .before .before .before .before .mark .given .0 .0) (number.Is (c .found .given .0 .0) (c .found .given .0 .1 .0))
-found-lies c = subst (Number-lies value-limit _ _) (c .found .given .1) (c .before .before .value-next .ensures .1)
+-- The value that was found is 0 to 15.
+found-lies : (c : tie.After-found) → Value-lies (length (c .before .before .before .before .before .before .before .before .before .before .args .rest .now)) (c .before .before .before .before .mark .given .0 .0) (number.Is (c .found .given .0 .0) (c .found .given .0 .1 .0))
+found-lies c = subst (Value-lies _ _) (c .found .given .1) (c .before .before .value-next .ensures .1)
 
 word-next-requires : tie.Need-word-next-requires
 word-next-requires c κs = search needs
@@ -37,7 +36,7 @@ byte-requires : tie.Need-byte-requires
 byte-requires c κs = search needs
 
 byte-requires-2 : tie.Need-byte-requires-2
-byte-requires-2 c κs = omega (arith, found-lies (c .before .before) .1)
+byte-requires-2 c κs = omega (arith, found-lies (c .before .before) .0)
 
 enum-known-found-2 : tie.Need-enum-known-found-2
 enum-known-found-2 c = search needs
@@ -53,7 +52,7 @@ returns c =
     let w = m .before .before in
     let l = found-lies k in
     let n = mark-lies m in
-    (λ base slots h. rw (c .before .byte .ensures, c .byte2 .ensures) (assignments.value-took slots _ _ _ _ _ _ (w .word-next .ensures .0 base ∙ ap (step-part _ base) (m .mark .given .1)) (v .value-next .ensures .0 base slots h ∙ ap (number-part _ base) (k .found .given .1))), (omega (arith, n .0, l .2), l .3))
+    (λ base slots h. rw (c .before .byte .ensures, c .byte2 .ensures) (assignments.value-took slots _ _ _ _ _ _ (w .word-next .ensures .0 base ∙ ap (step-part _ base) (m .mark .given .1)) (v .value-next .ensures .0 base slots h ∙ ap (number-part _ base) (k .found .given .1))), (omega (arith, n .0, l .1), l .2))
 
 returns-2 : tie.Need-returns-2
 returns-2 c =

@@ -6,6 +6,7 @@ use borrow.Author.Needs.{needs}
 use Rattle.laws.specs.Quoted.{bytes-from, bytes}
 use Rattle.names.specs.Names.{show-name, show-value-of}
 use Rattle.writing.proofs.Putting.{puts-as, Left, left-start, left-on, left-room}
+use Rattle.listing.specs.Listing.{value-listed}
 use Rattle.listing.specs.Printed.{change-text}
 use Rattle.listing.specs.inner.AnswerLines.{slot-change}
 use Rattle.listing.proofs.changes.put_change.Statement.{statement}
@@ -16,7 +17,7 @@ abbrev rest-4 : tie.Start → List ℕ
 rest-4 s = bytes "\n"
 
 abbrev rest-3 : tie.Start → List ℕ
-rest-3 s = show-value-of (s .args .text .now) (s .args .s) (s .args .value) .part ++ rest-4 s
+rest-3 s = value-listed (s .args .value) (show-value-of (s .args .text .now) (s .args .s) (s .args .value) .part) ++ rest-4 s
 
 abbrev rest-2 : tie.Start → List ℕ
 rest-2 s = bytes " " ++ rest-3 s
@@ -53,12 +54,11 @@ left-3 : (c : tie.After-put3) → LeftAt (start-3 c) (c .put3 .last .0) (c .put3
 unfolding bytes bytes-from
 left-3 c = left-on (rest-3 (start-3 c)) (left-2 (c .before .before .before .before .before)) (c .put3 .ensures)
 
-abbrev start-4 : tie.After-put4 → tie.Start
-start-4 c = start-3 (c .before .before .before .before .before .before)
+abbrev start-4 : tie.After-put-shown → tie.Start
+start-4 c = start-3 (c .before .before .before .before)
 
-left-4 : (c : tie.After-put4) → LeftAt (start-4 c) (c .put4 .last .0) (c .put4 .result) (rest-4 (start-4 c))
-unfolding bytes bytes-from
-left-4 c = left-on (rest-4 (start-4 c)) (left-3 (c .before .before .before .before .before .before)) (puts-as (c .before .value-of .ensures .1) (c .put4 .ensures))
+left-4 : (c : tie.After-put-shown) → LeftAt (start-4 c) (c .put-shown .last .0) (c .put-shown .result) (rest-4 (start-4 c))
+left-4 c = left-on (rest-4 (start-4 c)) (left-3 (c .before .before .before .before)) (c .put-shown .ensures)
 
 slice-aggregate-put : tie.Need-slice-aggregate-put
 slice-aggregate-put c = search needs
@@ -81,23 +81,22 @@ put-requires-3 : tie.Need-put-requires-3
 unfolding bytes bytes-from
 put-requires-3 c κs = let p = c .before .before .before .before in let s = start-2 p in left-room (bytes " ") (rest-3 s) (left-2 p)
 
-value-of-requires : tie.Need-value-of-requires
-value-of-requires c κs = search needs
-
-put-requires-4 : tie.Need-put-requires-4
-unfolding bytes bytes-from
-put-requires-4 c κs = let p = c .before .before .before .before .before in let s = start-3 p in rw (c .value-of .ensures .1) (left-room (show-value-of (s .args .text .now) (s .args .s) (s .args .value) .part) (rest-4 s) (left-3 p))
+put-shown-requires : tie.Need-put-shown-requires
+put-shown-requires c κs =
+    let p = c .before .before .before in
+    let s = start-3 p in
+    left-room (value-listed (s .args .value) (show-value-of (s .args .text .now) (s .args .s) (s .args .value) .part)) (rest-4 s) (left-3 p)
 
 slice-aggregate-put-3 : tie.Need-slice-aggregate-put-3
 slice-aggregate-put-3 c = search needs
 
-put-requires-5 : tie.Need-put-requires-5
+put-requires-4 : tie.Need-put-requires-4
 unfolding bytes bytes-from
-put-requires-5 c κs = let p = c .before .before .before .before in left-4 p .room
+put-requires-4 c κs = let p = c .before .before .before .before in left-4 p .room
 
 returns : tie.Need-returns
 unfolding bytes bytes-from
-returns c = let p = c .before .before in left-4 (p .before .before .before .before .before) .on (p .put5 .ensures)
+returns c = let p = c .before .before in left-4 (p .before .before .before .before .before) .on (p .put4 .ensures)
 
 same-length : tie.Need-same-length
 same-length c = returns c .same-length
@@ -112,9 +111,8 @@ put-change-spec =
     put-requires-2
     slice-aggregate-put-2
     put-requires-3
-    value-of-requires
-    put-requires-4
+    put-shown-requires
     slice-aggregate-put-3
-    put-requires-5
+    put-requires-4
     same-length
     returns)

@@ -17,15 +17,15 @@ use Rattle.marking.proofs.Slots.{UpTo, up-to-start, up-to-value, up-to-
 use Rattle.marking.proofs.pairs.all_known.Statement.{statement}
 use Rattle.marking.proofs.pairs.all_known.Tie as tie
 
--- A value of a slot is positive or negative.
+-- NONE or a value of a slot is positive or negative.
 abbrev IsMarked : List Bool → List Bool → ℕ → ℕ → Type 0
 IsMarked positive negative s v = getD positive (s * row + v) false ∨ᵇ getD negative (s * row + v) false ≡ true
 
 abbrev Inv-values : tie.InvT-values
-Inv-values width counts positive negative s first count v₀ v = (v ≤ count) × UpTo counts (IsMarked positive negative) s v
+Inv-values width counts positive negative s first count v₀ v = (v ≤ count + 1) × UpTo counts (IsMarked positive negative) s v
 
 abbrev μ-values : tie.MeasureT-values
-μ-values width counts positive negative s first count v₀ v = count - v
+μ-values width counts positive negative s first count v₀ v = count + 1 - v
 
 abbrev Inv-slots : tie.InvT-slots
 Inv-slots width counts positive negative s₀ s = (s ≤ width) × UpTo counts (IsMarked positive negative) s 0
@@ -33,8 +33,8 @@ Inv-slots width counts positive negative s₀ s = (s ≤ width) × UpTo counts (
 abbrev μ-slots : tie.MeasureT-slots
 μ-slots width counts positive negative s₀ s = width - s
 
--- The value at hand is one of a slot.
-inside : (c : tie.In-values Inv-values μ-values Inv-slots μ-slots) → let a = c .before in (a .before .before .before .slots .s < slot-limit) × (a .values .v < value-limit)
+-- The value at hand is NONE or one of a slot.
+inside : (c : tie.In-values Inv-values μ-values Inv-slots μ-slots) → let a = c .before in (a .before .before .before .slots .s < slot-limit) × (a .values .v ≤ value-limit)
 inside c =
     let i = c .before .before .before in
     let s = i .before .before in
@@ -56,11 +56,11 @@ element-copy-out-count c = search needs
 values-holds : tie.Need-values-holds Inv-values μ-values Inv-slots μ-slots
 values-holds c = (search needs, c .before .before .slots .inv .1)
 
-add-v : tie.Need-add-v Inv-values μ-values Inv-slots μ-slots
-add-v c = let h = inside c in omega (arith, h .1)
-
 add-at : tie.Need-add-at Inv-values μ-values Inv-slots μ-slots
 add-at c = let h = inside c in omega (arith, h .0, h .1)
+
+add-v : tie.Need-add-v Inv-values μ-values Inv-slots μ-slots
+add-v c = let h = inside c in omega (arith, h .1)
 
 element-copy-out-if1 : tie.Need-element-copy-out-if1 Inv-values μ-values Inv-slots μ-slots
 element-copy-out-if1 c = let h = inside c in omega (arith, h .0, h .1)
@@ -76,7 +76,7 @@ values-again c =
     let p = s .args .positive .now in
     let q = s .args .negative .now in
     let x = i .before .slots .s in
-    let at = x * row + (a .values .v + 1) in
+    let at = x * row + a .values .v in
     (search needs, up-to-value (s .args .counts .now) (IsMarked p q) x (a .values .v) (is-true _ (or-r (getD p at false) (getD q at false) (from-true _ (c .if1 .taken)))) (a .values .inv .1))
 
 element-copy-out-if2 : tie.Need-element-copy-out-if2 Inv-values μ-values Inv-slots μ-slots
@@ -93,7 +93,7 @@ values-again-2 c =
     let p = s .args .positive .now in
     let q = s .args .negative .now in
     let x = i .before .slots .s in
-    let at = x * row + (a .values .v + 1) in
+    let at = x * row + a .values .v in
     (search needs, up-to-value (s .args .counts .now) (IsMarked p q) x (a .values .v) (is-true _ (or-l (getD p at false) (getD q at false) (from-true _ (c .if2 .taken)))) (a .values .inv .1))
 
 returns : tie.Need-returns Inv-values μ-values Inv-slots μ-slots
@@ -105,10 +105,9 @@ returns c =
       λ e. absurd (subst T (sym e) tt),
       λ e. record {
         slot = i .before .slots .s;
-        value = a .values .v + 1;
+        value = a .values .v;
         in-width = i .slots-test .taken;
-        from-one = omega arith;
-        in-count = omega (arith, n .values-test .taken);
+        in-count = n .values-test .taken;
         neither = rw (c .if2 .left) (c .before .before .if1 .left);
       },
     )
@@ -124,7 +123,7 @@ slots-again c = (search needs, up-to-slot _ _ _ _ (c .values-test .left) (c .bef
 
 returns-2 : tie.Need-returns-2 Inv-values μ-values Inv-slots μ-slots
 unfolding AllMarked
-returns-2 c = (λ e x w k a b. c .before .slots .inv .1 .earlier x w (omega (arith, k, c .slots-test .left)) a b, λ e. absurd (subst T e tt))
+returns-2 c = (λ e x w k b. c .before .slots .inv .1 .earlier x w (omega (arith, k, c .slots-test .left)) b, λ e. absurd (subst T e tt))
 
 pub all-known-spec : {M : Type 1} → statement M
 all-known-spec =
@@ -139,8 +138,8 @@ all-known-spec =
     mul-count
     element-copy-out-count
     values-holds
-    add-v
     add-at
+    add-v
     element-copy-out-if1
     values-less
     values-again

@@ -3,7 +3,7 @@
 use mathlib.Core.Path.{_≡_, refl, _∙_, ap₂}
 use mathlib.Core.Bool.{true, cond}
 use mathlib.Core.Logic.{⊎-elim}
-use Prim.Native.Nat.{ℕ, _+_, _*_, _/_, _-_, _≤_, _<_}
+use Prim.Native.Nat.{ℕ, suc, _+_, _*_, _/_, _-_, _≤_, _<_}
 use native.Mathlib.Omega.{arith}
 use lib.Dec.{eqb}
 use lib.ListN.{getD, set}
@@ -19,11 +19,11 @@ use Rattle.marking.proofs.pairs.mark.Statement.{statement}
 use Rattle.marking.proofs.pairs.mark.Tie as tie
 
 abbrev Inv-values : tie.InvT-values
-Inv-values p n count positive negative₀ truth₀ heads nexts queued₀ woken₀ left had top₀ first v₀ negative truth queued woken top v =
-    (v ≤ count) × (known positive negative truth ≡ rivals-out p v (known positive negative₀ truth₀)) × Woken n top woken
+Inv-values p n count positive negative₀ truth₀ heads nexts queued₀ woken₀ left had top₀ first rival₀ negative truth queued woken top rival =
+    (rival ≤ count + 1) × (known positive negative truth ≡ rivals-out p rival (known positive negative₀ truth₀)) × Woken n top woken
 
 abbrev μ-values : tie.MeasureT-values
-μ-values p n count positive negative₀ truth₀ heads nexts queued₀ woken₀ left had top₀ first v₀ negative truth queued woken top v = count - v
+μ-values p n count positive negative₀ truth₀ heads nexts queued₀ woken₀ left had top₀ first rival₀ negative truth queued woken top rival = count + 1 - rival
 
 -- What the test of the pair comes to: False where the card has it.
 turned : (c : tie.Joined1 Inv-values μ-values) → let s = c .before .before in c .if1 .truth ≡ cond (eqb (getD (s .args .truth .now) (s .args .p) 0) 2) 0 2
@@ -35,7 +35,7 @@ turned c =
 placed : (c : tie.In-values Inv-values μ-values) →
     let a = c .before in
     let s = c .before .before .before .before .before .before .before in
-    s .args .p / row * row + (a .values .v + 1) < pair-places
+    s .args .p / row * row + a .values .rival < pair-places
 placed c =
     let s = c .before .before .before .before .before .before .before in
     omega (arith, s .pre .0, s .pre .1, c .values-test .taken)
@@ -62,11 +62,11 @@ values-holds : tie.Need-values-holds Inv-values μ-values
 unfolding rivals-out
 values-holds c = (search needs, refl, c .wake .ensures)
 
-add-v : tie.Need-add-v Inv-values μ-values
-add-v c = search needs
-
 add-at : tie.Need-add-at Inv-values μ-values
 add-at c = search needs
+
+add-rival : tie.Need-add-rival Inv-values μ-values
+add-rival c = search needs
 
 values-less : tie.Need-values-less Inv-values μ-values
 values-less c = search needs
@@ -108,7 +108,7 @@ returns c =
     let a = c .before in
     let j = a .before .before .before .before in
     let s = j .before .before in
-    let last : a .values .v ≡ s .args .count = omega (arith, a .values .inv .0, c .values-test .left) in
+    let last : a .values .rival ≡ suc (s .args .count) = omega (arith, a .values .inv .0, c .values-test .left) in
     let from : ℕ → ℕ → Known = λ v t. rivals-out (s .args .p) v (known (set (s .args .positive .now) (s .args .p) true) (s .args .negative .now) (set (s .args .truth .now) (pair-places + s .args .p) t)) in
     (a .values .inv .1 ∙ ap₂ from last (turned j), a .values .inv .2)
 
@@ -125,8 +125,8 @@ mark-spec =
     wake-requires
     mul-first
     values-holds
-    add-v
     add-at
+    add-rival
     values-less
     values-again
     element-copy-out-if3

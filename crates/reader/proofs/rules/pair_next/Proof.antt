@@ -8,7 +8,7 @@ use lib.ListN.{length}
 use Rattle.grammar.specs.Files.{Slot}
 use Rattle.grammar.specs.Reading.{took, read-slot}
 use Rattle.steps.specs.inner.Places.{tokens-past, step-part, Step-lies}
-use Rattle.steps.specs.inner.Spans.{number-part, Slot-lies, Number-lies}
+use Rattle.steps.specs.inner.Spans.{number-part, Slot-lies, Value-lies}
 use Rattle.clauses.specs.inner.Literals.{Looked}
 use Rattle.steps.specs.declared.lookup.Number.the-variants as number
 use Rattle.clauses.proofs.LiteralLaws.{slot-inside}
@@ -64,10 +64,10 @@ returns c =
     let a = w .before .before in
     let l = slot-lies a in
     let d = subst (Step-lies _ _) (m .mark .given .1) (w .word-next .ensures .1) in
-    let e = subst (Number-lies _ _ _) (r .read .given .1) (n .value-next .ensures .1) in (
+    let e = subst (Value-lies _ _) (r .read .given .1) (n .value-next .ensures .1) in (
       λ base slots L. rules.pair-took slots _ _ _ _ _ _ (slot-read a base slots L) (w .word-next .ensures .0 base ∙ ap (step-part _ base) (m .mark .given .1))
           (n .value-next .ensures .0 base slots (L .valuespans-listed _ (slot-inside slots _ _ _ (slot-read a base slots L))) ∙ ap (number-part _ base) (r .read .given .1)),
-      (l .0, e .1, omega (arith, l .1, d .0, e .2), e .3),
+      (l .0, e .0, omega (arith, l .1, d .0, e .1), e .2),
     )
 
 returns-2 : tie.Need-returns-2

@@ -8,10 +8,10 @@ use Rattle.results.proofs.ending.changed_value.Statement.{statement}
 use Rattle.results.proofs.ending.changed_value.Tie as tie
 
 abbrev Inv-loop : tie.InvT-loop
-Inv-loop changes slot base v₀ v = (v ≤ row) × NoneBelow changes slot v
+Inv-loop changes slot base lowest₀ lowest = (lowest ≤ row) × NoneBelow changes slot lowest
 
 abbrev μ-loop : tie.MeasureT-loop
-μ-loop changes slot base v₀ v = row - v
+μ-loop changes slot base lowest₀ lowest = row - lowest
 
 mul-base : tie.Need-mul-base Inv-loop μ-loop
 mul-base c = search needs
@@ -28,10 +28,10 @@ element-copy-out-if1 c = search needs
 returns : tie.Need-returns Inv-loop μ-loop
 returns c =
     let a = c .before .before .before in
-    value-found (a .before .args .changes .now) (a .before .args .slot) (a .loop .v) (search needs) (c .if1 .taken) (a .loop .inv .1)
+    value-found (a .before .args .changes .now) (a .before .args .slot) (a .loop .lowest) (search needs) (c .if1 .taken) (a .loop .inv .1)
 
-add-v : tie.Need-add-v Inv-loop μ-loop
-add-v c = search needs
+add-lowest : tie.Need-add-lowest Inv-loop μ-loop
+add-lowest c = search needs
 
 loop-less : tie.Need-loop-less Inv-loop μ-loop
 loop-less c = search needs
@@ -39,10 +39,10 @@ loop-less c = search needs
 loop-again : tie.Need-loop-again Inv-loop μ-loop
 loop-again c =
     let a = c .before .before .before in
-    (search needs, none-next (a .before .args .changes .now) (a .before .args .slot) (a .loop .v) (search needs) (c .if1 .left) (a .loop .inv .1))
+    (search needs, none-next (a .before .args .changes .now) (a .before .args .slot) (a .loop .lowest) (search needs) (c .if1 .left) (a .loop .inv .1))
 
 returns-2 : tie.Need-returns-2 Inv-loop μ-loop
-returns-2 c = value-none _ _ (c .before .loop .v) (search needs) (c .before .loop .inv .1)
+returns-2 c = value-none _ _ (c .before .loop .lowest) (search needs) (c .before .loop .inv .1)
 
 pub changed-value-spec : {M : Type 1} → statement M
 changed-value-spec =
@@ -55,7 +55,7 @@ changed-value-spec =
     add-if1
     element-copy-out-if1
     returns
-    add-v
+    add-lowest
     loop-less
     loop-again
     returns-2)

@@ -2,11 +2,13 @@
 -- Assumes nothing.
 use Prim.Native.Nat.{ℕ, _+_, _*_, _-_, _≤_}
 use native.Mathlib.Omega.{arith}
-use mathlib.Core.Path.{_≡_, _∙_}
+use mathlib.Core.Path.{_≡_, refl, sym, ap, _∙_}
 use mathlib.Core.List.{List}
 use lib.ListN.{length, take, drop, length-take}
 use native.Mathlib.Nat.{add-sub-cancel-left}
 use Rattle.grammar.specs.Files.{values-of}
+use Rattle.grammar.specs.Reading.{read-place, read-value}
+use Rattle.steps.proofs.Places as places
 use Rattle.steps.proofs.Spans as spans
 use borrow.Author.Needs.{needs}
 use Rattle.laws.specs.Limits.{value-limit, row}
@@ -20,8 +22,29 @@ part-is xs s = rw add-sub-cancel-left
 part-length : (xs : List ℕ) (s : ℕ) → length (take (s * 16 + 1 + 15 - (s * 16 + 1)) (drop (s * 16 + 1) xs)) ≤ 15
 part-length xs s = rw (add-sub-cancel-left, length-take) (omega arith)
 
-name-next-requires : tie.Need-name-next-requires
-name-next-requires c κs = search needs
+token-by-requires : tie.Need-token-by-requires
+token-by-requires c κs = search needs
+
+enum-known-token : tie.Need-enum-known-token
+enum-known-token c = search needs
+
+returns : tie.Need-returns
+returns c =
+    let a = c .before .before in
+    let k = a .before .before in
+    let x = k .before .before .before .before .args in
+    let l = places.lies (x .rest .now) (x .at) _ _ (k .token-by .ensures) (a .token .given .1) in
+    (λ base slots h. ap (read-value slots (x .slot)) (places.stands (x .rest .now) base (x .at) _ _ (k .token-by .ensures) (a .token .given .1)) ∙ spans.none-taken slots (x .slot) _ _ (c .if1 .taken), (omega arith, l .0, l .1))
+
+returns-2 : tie.Need-returns-2
+returns-2 c =
+    let a = c .before .before in
+    let k = a .before .before in
+    let x = k .before .before .before .before .args in
+    (λ base slots h. ap (read-value slots (x .slot)) (places.stands (x .rest .now) base (x .at) _ _ (k .token-by .ensures) (a .token .given .1)) ∙ spans.other-word-stops slots (x .slot) _ _ (c .if1 .left), tt)
+
+name-of-requires : tie.Need-name-of-requires
+name-of-requires c κs = search needs
 
 mul-first : tie.Need-mul-first
 mul-first c = search needs
@@ -45,21 +68,35 @@ part-place-of-end : tie.Need-part-place-of-end
 part-place-of-end c = search needs
 
 place-of-requires : tie.Need-place-of-requires
-place-of-requires c κs = (c .before .before .before .before .before .args .at, c .before .name-next .ensures .1)
+place-of-requires c κs =
+    let n = c .before in
+    let k = n .before .before in
+    let x = k .before .before .before .before .args in
+    (x .at, n .name-of .ensures (x .rest .now) (x .at) (k .token-by .ensures) .1)
 
-returns : tie.Need-returns
-returns c =
-    let m = c .before .before in
-    let a = m .before .before .before .before .args in
-    let n = m .name-next .ensures in
-    let p = part-is (a .valuespans .now) (a .slot) in
-    (λ base slots l. spans.value-place slots (a .slot) _ ∙ c .place-of .ensures .0 base _ (values-of slots (a .slot)) (n .0 base) (rw p l), spans.lies-up _ 15 (length (a .rest .now)) (a .at) (c .place-of .result) (part-length (a .valuespans .now) (a .slot)) (c .place-of .ensures .1 (a .at) (n .1)))
+returns-3 : tie.Need-returns-3
+returns-3 c =
+    let n = c .before .before in
+    let o = n .before in
+    let k = o .before in
+    let x = k .before .before .before .before .args in
+    let e = n .name-of .ensures (x .rest .now) (x .at) (k .token-by .ensures) in
+    let p = part-is (x .valuespans .now) (x .slot) in (
+      λ base slots l. let here = places.stands (x .rest .now) base (x .at) _ _ (k .token-by .ensures) refl in
+          ap (read-value slots (x .slot)) here ∙ spans.value-by-name slots (x .slot) (x .rest .now) base (k .token-by .result .token) _ (o .match .keys2)
+          ∙ ap (read-place (values-of slots (x .slot))) (sym here) ∙ c .place-of .ensures .0 base _ (values-of slots (x .slot)) (e .0 base) (rw p l),
+      spans.place-lies _ (length (x .rest .now)) (x .at) (c .place-of .result) (part-length (x .valuespans .now) (x .slot)) (c .place-of .ensures .1 (x .at) (e .1)),
+    )
 
 pub value-next-spec : {M : Type 1} → statement M
 value-next-spec =
     tie.close
     (tie.spec
-    name-next-requires
+    token-by-requires
+    enum-known-token
+    returns
+    returns-2
+    name-of-requires
     mul-first
     add-first
     add-last
@@ -68,4 +105,4 @@ value-next-spec =
     part-place-of-start
     part-place-of-end
     place-of-requires
-    returns)
+    returns-3)

@@ -1,29 +1,28 @@
 -- `rules::put_pair` meets its contract.
 -- Assumes nothing.
-use Prim.Native.Nat.{ℕ, _+_, _*_, _≤_}
+use Prim.Native.Nat.{ℕ, _+_, _≤_}
 use mathlib.Core.Path.{_≡_}
 use mathlib.Core.List.{List, _++_}
 use lib.ListN.{length, getD}
 use borrow.Author.Needs.{needs}
 use Rattle.model.specs.Result.{pair}
-use Rattle.laws.specs.Limits.{row}
 use Rattle.writing.specs.inner.Puts.{longest, Puts}
-use Rattle.writing.specs.inner.Spelled.{spelled, spelled-pair}
+use Rattle.writing.specs.inner.Spelled.{spelled, spelled-value, spelled-pair}
 use Rattle.writing.proofs.Putting.{puts-on, room-first, room-rest}
 use Rattle.writing.proofs.rules.put_pair.Statement.{statement}
 use Rattle.writing.proofs.rules.put_pair.Tie as tie
 
-module _ (text ss vs mark : List ℕ) (slot value at s p : ℕ) (is-slot : s ≡ slot) (is-place : p ≡ slot * row + value) where
+module _ (text ss vs mark : List ℕ) (slot value at s : ℕ) (is-slot : s ≡ slot) where
   -- The three parts, and where there is room for them.
   abbrev first : List ℕ
   first = spelled text (getD ss s 0)
 
   abbrev last : List ℕ
-  last = spelled text (getD vs p 0)
+  last = spelled-value text vs (pair slot value)
 
   parts : spelled-pair text ss vs mark (pair slot value) ≡ first ++ (mark ++ last)
   unfolding spelled-pair
-  parts = rw (is-slot, is-place)
+  parts = rw is-slot
 
   module _ (room : at + length (spelled-pair text ss vs mark (pair slot value)) ≤ longest) where
     split : at + length (first ++ (mark ++ last)) ≤ longest
@@ -44,9 +43,6 @@ module _ (text ss vs mark : List ℕ) (slot value at s p : ℕ) (is-slot : s ≡
 wide-requires : tie.Need-wide-requires
 wide-requires c κs = search needs
 
-place-requires : tie.Need-place-requires
-place-requires c κs = search needs
-
 mul-put-name : tie.Need-mul-put-name
 mul-put-name c = search needs
 
@@ -55,46 +51,33 @@ element-copy-out-put-name c = search needs
 
 put-name-requires : tie.Need-put-name-requires
 put-name-requires c κs =
-    let p = c .before .before in
-    let w = p .before in
+    let w = c .before .before in
     let s = w .before .before .before .before in
-    first-room (s .args .text .now) (s .args .slotspans .now) (s .args .valuespans .now) (s .args .mark .now) (s .args .slot) (s .args .value) (s .args .at) (w .wide .result) (p .place .result) (w .wide .ensures) (p .place .ensures .is) (s .pre .1)
+    first-room (s .args .text .now) (s .args .slotspans .now) (s .args .valuespans .now) (s .args .mark .now) (s .args .slot) (s .args .value) (s .args .at) (w .wide .result) (w .wide .ensures) (s .pre .1)
 
 put-requires : tie.Need-put-requires
 put-requires c κs =
     let n = c .before .before .before in
-    let p = n .before .before .before in
-    let w = p .before in
+    let w = n .before .before .before in
     let s = w .before .before .before .before in
-    mark-room (s .args .text .now) (s .args .slotspans .now) (s .args .valuespans .now) (s .args .mark .now) (s .args .slot) (s .args .value) (s .args .at) (w .wide .result) (p .place .result) (w .wide .ensures) (p .place .ensures .is) (s .pre .1)
-    (n .put-name .ensures)
+    mark-room (s .args .text .now) (s .args .slotspans .now) (s .args .valuespans .now) (s .args .mark .now) (s .args .slot) (s .args .value) (s .args .at) (w .wide .result) (w .wide .ensures) (s .pre .1) (n .put-name .ensures)
 
-mul-put-name-2 : tie.Need-mul-put-name-2
-mul-put-name-2 c = search needs
-
-element-copy-out-put-name-2 : tie.Need-element-copy-out-put-name-2
-element-copy-out-put-name-2 c = search needs
-
-put-name-requires-2 : tie.Need-put-name-requires-2
-put-name-requires-2 c κs =
-    let m = c .before .before .before .before in
+put-value-requires : tie.Need-put-value-requires
+put-value-requires c κs =
+    let m = c .before .before .before in
     let n = m .before .before .before .before in
-    let p = n .before .before .before in
-    let w = p .before in
+    let w = n .before .before .before in
     let s = w .before .before .before .before in
-    last-room (s .args .text .now) (s .args .slotspans .now) (s .args .valuespans .now) (s .args .mark .now) (s .args .slot) (s .args .value) (s .args .at) (w .wide .result) (p .place .result) (w .wide .ensures) (p .place .ensures .is) (s .pre .1)
-    (n .put-name .ensures) (m .put .ensures)
+    (s .pre .0, last-room (s .args .text .now) (s .args .slotspans .now) (s .args .valuespans .now) (s .args .mark .now) (s .args .slot) (s .args .value) (s .args .at) (w .wide .result) (w .wide .ensures) (s .pre .1) (n .put-name .ensures) (m .put .ensures))
 
 returns : tie.Need-returns
 returns c =
     let e = c .before .before in
-    let m = e .before .before .before .before .before in
+    let m = e .before .before .before .before in
     let n = m .before .before .before .before in
-    let p = n .before .before .before in
-    let w = p .before in
+    let w = n .before .before .before in
     let s = w .before .before .before .before in
-    whole (s .args .text .now) (s .args .slotspans .now) (s .args .valuespans .now) (s .args .mark .now) (s .args .slot) (s .args .value) (s .args .at) (w .wide .result) (p .place .result) (w .wide .ensures) (p .place .ensures .is)
-    (n .put-name .ensures) (m .put .ensures) (e .put-name2 .ensures)
+    whole (s .args .text .now) (s .args .slotspans .now) (s .args .valuespans .now) (s .args .mark .now) (s .args .slot) (s .args .value) (s .args .at) (w .wide .result) (w .wide .ensures) (n .put-name .ensures) (m .put .ensures) (e .put-value .ensures)
 
 same-length : tie.Need-same-length
 same-length c = returns c .same-length
@@ -104,13 +87,10 @@ put-pair-spec =
     tie.close
     (tie.spec
     wide-requires
-    place-requires
     mul-put-name
     element-copy-out-put-name
     put-name-requires
     put-requires
-    mul-put-name-2
-    element-copy-out-put-name-2
-    put-name-requires-2
+    put-value-requires
     same-length
     returns)
