@@ -106,10 +106,12 @@ fn read_rules(fault: Fault, text: &[u8]) -> Result<(Vec<SlotLine>, Vec<Rule>), R
     if text.len() > TEXT - usize::from(fault == Fault::LongestTextRefused) {
         return Err(refusal(10, 0));
     }
-    let text = &if fault == Fault::NoneInAnyCase { in_capitals(text) } else { text.to_vec() };
+    let capitals = (fault == Fault::NoneInAnyCase).then(|| in_capitals(text));
+    let text = capitals.as_deref().unwrap_or(text);
     let mut walk = walk(text, &grammar(fault));
-    for at in walk.placed.iter_mut().filter(|at| at.token.kind == Kind::None && is_slot(at.want)) {
-        at.token.kind = Kind::Name;
+    if fault == Fault::NoneAsSlotName {
+        let slots = walk.placed.iter_mut().filter(|at| at.token.kind == Kind::None && is_slot(at.want));
+        slots.for_each(|at| at.token.kind = Kind::Name);
     }
     let found = bent_refusals(fault, text, &walk);
     if let Some(at) = counting(fault, &found) {

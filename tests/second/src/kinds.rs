@@ -1,4 +1,4 @@
-//! The kinds of rules, responses and tables that strata and circles tell apart, and of calls by their editors, for the tests to hold the generator to.
+//! The kinds of rules, responses and tables that strata and circles tell apart, of texts and responses with NONE, and of calls by their editors, for the tests to hold the generator to.
 
 use std::collections::BTreeSet;
 
@@ -15,10 +15,10 @@ use crate::table::{Pair, Program, Rule, Table};
 use crate::table31::{tested, unlayered};
 use crate::{broken_firing, broken_reading, broken_strata};
 
-/// Makes the enum of kinds and the lists of those of rules, texts, responses and tables.
+/// Makes the enum of kinds and their lists, each of what it tells apart.
 macro_rules! kinds {
     ($($(#[$about:meta])* $list:ident { $($(#[$sentence:meta])* $name:ident,)* })*) => {
-        /// A kind of rules, of a response, of a table or of a call.
+        /// A kind of rules, of a text or its print, of a response, of a table or of a call.
         #[derive(Clone, Copy, PartialEq, Eq, PartialOrd, Ord, Debug)]
         pub enum Kind {
             $($($(#[$sentence])* $name,)*)*

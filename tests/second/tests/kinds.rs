@@ -1,4 +1,4 @@
-//! The generator reaches every kind of rules, responses and tables that strata and circles tell apart, and of calls by their editors.
+//! The generator reaches every kind of rules, responses and tables that strata and circles tell apart, of texts and responses with NONE, and of calls by their editors.
 
 use std::collections::BTreeMap;
 
@@ -7,9 +7,12 @@ use second::editor_kinds::call_kinds;
 use second::editors::Caller;
 use second::engine::{Engine, Second, Way};
 use second::firing_checks::{check_small, Counts};
+use second::gen::{any_file, card, slip, Rng};
+use second::gen_editors::editor_file;
 use second::kinds::{holding, response_kinds, rule_kinds, table_kinds, text_kinds, Kind};
 use second::kinds::{CALL_KINDS, MARK_KINDS, MARK_TABLE_KINDS, NONE_REFUSED_KINDS, PRINT_KINDS};
 use second::kinds::{RESPONSE_KINDS, RULE_KINDS, TABLE_KINDS, TEXT_KINDS};
+use second::listing::listing;
 use second::mark_kinds::{mark_kinds, mark_table_kinds};
 use second::none_kinds::refused_kinds;
 use second::response::Outputs;
@@ -130,6 +133,18 @@ fn the_comparison_meets_every_kind() {
     let kinds = [RULE_KINDS, TEXT_KINDS, NONE_REFUSED_KINDS, PRINT_KINDS, RESPONSE_KINDS, TABLE_KINDS];
     demand(&watching.met, &kinds, 3);
     demand(&watching.met, &[MARK_KINDS, MARK_TABLE_KINDS, CALL_KINDS], 10);
+}
+
+#[test]
+fn the_program_is_asked_for_withdrawals() {
+    let lists = |seed: &u64| {
+        let mut rng = Rng::new(*seed);
+        let file = any_file(&mut rng);
+        let (card, slip) = (card(&mut rng, &file.sketch), slip(&mut rng, &file.sketch));
+        listing(&file.text, &card, &slip, &editor_file(&mut rng)).contains(" NONE\n")
+    };
+    let listed = (1..=2_000).filter(lists).count();
+    assert!(listed > 50, "{listed}");
 }
 
 #[test]
