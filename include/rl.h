@@ -35,7 +35,7 @@ typedef struct {
     uint16_t count;
 } RlSlot;
 
-/* A test in a condition: `slot *= value` (becomes) or `slot |= value`, plain or under NOT. */
+/* A test in a condition: `slot *= value` (becomes) or `slot |= value`, plain or under NOT. Value 0 is NONE: `slot *= NONE` holds where the card has a value and its withdrawal is among the changes, `slot |= NONE` where the card has no value. */
 typedef struct {
     bool becomes;
     bool negated;
@@ -43,13 +43,13 @@ typedef struct {
     uint8_t value;
 } RlLiteral;
 
-/* `slot := value`. */
+/* `slot := value`; value 0 is NONE: the slot's value is withdrawn. */
 typedef struct {
     uint8_t slot;
     uint8_t value;
 } RlAssignment;
 
-/* A rule: its trigger `slot *= value`, its literals and assignments with the numbers used, its stratum. Strata are the least numbers from 1 such that every rule that assigns what a rule tests by a plain `*=`, in the trigger too, has the same or a lower one, and every rule that assigns what it tests under NOT a lower one; a table that was read without test 18 has 0 throughout. */
+/* A rule: its trigger `slot *= value`, in which value 0 is NONE too, its literals and assignments with the numbers used, its stratum. Strata are the least numbers from 1 such that every rule that assigns what a rule tests by a plain `*=`, in the trigger too, has the same or a lower one, and every rule that assigns what it tests under NOT a lower one; a table that was read without test 18 has 0 throughout. */
 typedef struct {
     uint8_t slot;
     uint8_t value;
@@ -74,7 +74,7 @@ typedef struct {
     size_t count;
 } RlCardForm;
 
-/* A change of a slot to a value. */
+/* A change of a slot to a value; value 0 is NONE, a withdrawal: the new card has no value there. */
 typedef struct {
     uint8_t slot;
     uint8_t value;
@@ -168,19 +168,19 @@ bool rl_is_sound(RlTable table);
 /* Says where a slot's name stands in the text, or 31. */
 RlName rl_slot_name(const uint8_t *text, size_t text_length, RlTable table, size_t slot);
 
-/* Says where the name of a slot's value stands in the text, values counted from 1, or 31. */
+/* Says where the name of a slot's value stands in the text, values counted from 1, or 31. Value 0, NONE, is declared nowhere in the text: its name is 31, and a caller who shows changes writes the word. */
 RlName rl_value_name(const uint8_t *text, size_t text_length, RlTable table, size_t slot, size_t value);
 
 /* Unpacks bytes as a card, or refuses them with 31, 20 to 23. */
 RlCard rl_unpack_card(RlTable table, const uint8_t *bytes, size_t bytes_length);
 
-/* Unpacks bytes as a slip, or refuses them with 31, 24 to 28. */
+/* Unpacks bytes as a slip, or refuses them with 31, 24 to 28. A change may have value 0; 27 is for a value above the slot's last. */
 RlSlip rl_unpack_slip(RlTable table, const uint8_t *bytes, size_t bytes_length);
 
 /* Packs a card into the output, or refuses it with 31, 21, 22, 30; bytes beyond the packed length, and all after a refusal, stay as they are. */
 RlPacked rl_pack_card(RlTable table, RlCardForm card, uint8_t *out, size_t out_length);
 
-/* Packs a slip into the output, or refuses it with 31, 24 to 27, 30; other bytes stay as they are. */
+/* Packs a slip into the output, or refuses it with 31, 24 to 27, 30; other bytes stay as they are. A change may have value 0, as in unpacking. */
 RlPacked rl_pack_slip(RlTable table, RlSlipForm slip, uint8_t *out, size_t out_length);
 
 /* Responds to an editor's packed card and packed slip by strata: writes the new card (as long as the card), the changes as a packed slip (`length` bytes; the output has 37 at least) and the fired record (a bit for each rule, rule 1 first), or refuses with 44 (the editor number is not from 1 to 40, or there are not forty records), 32 (the editor's own record is full; no other is looked at), 31, 20 to 28, 30, 40; other bytes stay as they are. An answer adds one to slips answered in the editor's record, a refusal but 44 and 32 one to slips refused; no other record changes, and 44 and 32 change none. */
@@ -189,7 +189,7 @@ RlResponse rl_respond(RlTable table, RlTally *records, size_t records_length, si
                       size_t new_card_length, uint8_t *changes, size_t changes_length, uint8_t *fired,
                       size_t fired_length);
 
-/* Responds by marks: takes a table of `rl_read` or of `rl_read_unlayered`, and writes, gives and counts what `rl_respond` does, or refuses with 44, 32, 31, 20 to 28, 30, 41 (a value of a slot would be both positive and negative), 42 (one stays unknown), the last two with second number 0; other bytes stay as they are. Where `rl_respond` answers too, by the text's table with strata, the answers are equal. */
+/* Responds by marks: takes a table of `rl_read` or of `rl_read_unlayered`, and writes, gives and counts what `rl_respond` does, or refuses with 44, 32, 31, 20 to 28, 30, 41 (a value of a slot, NONE among them, would be both positive and negative), 42 (one stays unknown), the last two with second number 0; other bytes stay as they are. Where `rl_respond` answers too, by the text's table with strata, the answers are equal. */
 RlResponse rl_respond_by_marks(RlTable table, RlTally *records, size_t records_length, size_t editor,
                                const uint8_t *card, size_t card_length, const uint8_t *slip, size_t slip_length,
                                uint8_t *new_card, size_t new_card_length, uint8_t *changes, size_t changes_length,

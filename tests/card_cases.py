@@ -1,5 +1,5 @@
 #!/usr/bin/env python3
-"""The stored cases of cards and slips, and what the library should say of them, by a reckoning of its own made from document 01.
+"""The stored cases of cards and slips, and what the library should say of them, by a reckoning of its own made from document 01 and section 6 of document 02.
 
   tests/card_cases.py          writes tests/stored/cards/input and expected
   tests/card_cases.py --check  says whether they are what it would write; exit status 1 where they are not
@@ -55,7 +55,7 @@ def slip_fault(counts, changes):
             return (25, j)
         if j and s <= changes[j - 1][0]:
             return (26, j)
-        if v == 0 or v > counts[s]:
+        if v > counts[s]:
             return (27, j)
     return None
 
@@ -186,8 +186,20 @@ def cases():
     for v in range(16):
         yield (0, [7, 15], card_bytes([v, 15 - v]))
         yield (2, [7, 15], (2, [v, 15 - v], 2))
+    # withdrawals: of each slot alone, of all, beside values, with the changes' padding and length damaged
+    for changes in ([(s, 0) for s in range(3)], [(0, 0), (2, 2)], [(1, 2), (2, 0)], [(0, 0), (1, 0), (2, 3)], [(0, 0), (0, 0)], [(3, 0)], [(0, 3), (1, 0)]):
+        yield (1, THREE, slip_bytes(changes))
+        yield (3, THREE, (len(changes), changes, 40))
+    for slot in range(SLOTS):
+        yield (1, FULL, slip_bytes([(slot, 0)]))
+        yield (3, FULL, (1, [(slot, 0)], 2))
+    yield (1, FULL, slip_bytes([(s, 0) for s in range(SLOTS)]))
+    for room in (36, 37):
+        yield (3, FULL, (SLOTS, [(s, 0) for s in range(SLOTS)], room))
+    for bad in flips(slip_bytes([(0, 0), (2, 0)])):
+        yield (1, THREE, bad)
     # changes: the first faulty one, by 25, 26, 27
-    for changes in ([(2, 1), (1, 1)], [(1, 1), (1, 1)], [(0, 1), (0, 0)], [(3, 1)], [(0, 0)], [(0, 3)], [(0, 1), (3, 0), (0, 0)], [(0, 1), (1, 0), (31, 15)], [(0, 2), (1, 2), (2, 2)], [(2, 2)], [(2, 2), (3, 1)]):
+    for changes in ([(2, 1), (1, 1)], [(1, 1), (1, 1)], [(0, 1), (0, 3)], [(3, 1)], [(0, 0)], [(0, 3)], [(0, 1), (3, 3), (0, 3)], [(0, 1), (1, 3), (31, 15)], [(0, 2), (1, 2), (2, 2)], [(2, 2)], [(2, 2), (3, 1)]):
         yield (1, THREE, slip_bytes(changes))
         yield (3, THREE, (len(changes), changes, 40))
     # damage
@@ -225,7 +237,7 @@ def cases():
         counts = [chance.randint(1, VALUES) for s in range(chance.randint(0, SLOTS))]
         values = [chance.randint(0, n) for n in counts]
         slots = sorted(chance.sample(range(len(counts)), chance.randint(0, len(counts))))
-        changes = [(s, chance.randint(1, counts[s])) for s in slots]
+        changes = [(s, chance.randint(0, counts[s])) for s in slots]
         kind = i % 4
         yield (kind, counts, (card_bytes(values), slip_bytes(changes), (len(values), values, 40), (len(changes), changes, 40))[kind])
 

@@ -1,5 +1,5 @@
 #!/usr/bin/env python3
-"""The stored days of editors, and what the library should say of them, by a reckoning of its own made from section 4 of document 02.
+"""The stored days of editors, and what the library should say of them, by a reckoning of its own made from sections 4 and 6 of document 02.
 
   tests/day_cases.py          writes tests/stored/days/input and expected
   tests/day_cases.py --check  says whether they are what it would write; exit status 1 where they are not
@@ -17,7 +17,7 @@ from strata_cases import dependences, rule, strata
 
 COUNTS = [2, 2, 2]
 X, Y, Z = (0, 2), (1, 2), (2, 2)
-RULES = [rule(X, Z, had=[(1, 1)]), rule(Y, (1, 1)), rule(Z, X)]
+RULES = [rule(X, Z, had=[(1, 1)]), rule(Y, (1, 1)), rule(Z, X), rule((0, 0), (2, 0))]
 ZEROS = [1, 1, 1]
 STRATA, MARKS, UNSOUND = range(3)
 ROOMS = (3, 37, 1)
@@ -31,7 +31,7 @@ def question(way, card, slip, rooms, outcome):
 def questions():
     """Answers and refusals of both responses."""
     card = card_bytes(ZEROS)
-    for slip in ([X], [Y], [(0, 1)], [], [Z]):
+    for slip in ([X], [Y], [(0, 1)], [], [Z], [(0, 0)], [(0, 0), (2, 1)], [(1, 0)]):
         packed = slip_bytes(slip)
         yield question(STRATA, card, packed, ROOMS, by_strata(RULES, ZEROS, slip, strata(dependences(RULES))))
         yield question(MARKS, card, packed, ROOMS, by_marks(COUNTS, RULES, ZEROS, slip))

@@ -1,5 +1,5 @@
 #!/usr/bin/env python3
-"""The examples of the editors' guide, run by the program, or by the desk in C where they are for the response by marks: each must get the refusal in whose row it stands; every refusal must have its row, the rules that wake each other and those that 18 refuses do as the guide says, the guide's listings be those of examples/dialect and examples/marks, and its file in the house style the print of the file before it.
+"""The examples of the editors' guide, run by the program, or by the desk in C where they are for the response by marks: each must get the refusal in whose row it stands; every refusal must have its row, the rules that withdraw a dating, those that wake each other and those that 18 refuses do as the guide says, the guide's listings be those of examples/dialect, examples/withdrawn and examples/marks, and its file in the house style the print of the file before it.
 
   tests/editors.py   needs target/bin/rl and target/examples/desk-c, which examples/run makes; exit status 1 where an example comes to something else
 """
@@ -57,6 +57,15 @@ def waking(guide):
     yield (slots + under_not, card, bytes.fromhex('04 02'), EDITOR), 'refused 18 1\n'
 
 
+def withdrawing(guide):
+    """Of the file on withdrawals: the files that other cards and slips make than those of its example, and the whole listing."""
+    rules = '\n'.join(section(guide, 'How to withdraw a dating')[0]).encode()
+    idle = ''.join(f'rule {rule} stratum {stratum} idle\n' for rule, stratum in ((1, 1), (2, 1), (3, 1), (4, 2)))
+    undated = idle + f'change first-attested NONE\ncard 10044C\ntally {EDITOR[0]} 1 0\n'
+    yield (rules, bytes.fromhex('10 04 4C'), bytes.fromhex('04 00'), EDITOR), undated
+    yield (rules, bytes.fromhex('10 44 4C'), bytes.fromhex('08 00 22'), EDITOR), 'refused 40 2\n'
+
+
 def by_marks(guide):
     """By marks: the files that the guide tells of, and how the desk's listing ends."""
     rules = '\n'.join(section(guide, 'Files that 18 refuses')[0]).encode()
@@ -81,7 +90,7 @@ def blocks(part):
 def main():
     guide = print_cases.guide()
     indented = {}
-    for name in ('dialect/expected', 'marks/rules.txt', 'marks/desk.txt'):
+    for name in ('dialect/expected', 'withdrawn/rules.txt', 'withdrawn/expected', 'marks/rules.txt', 'marks/desk.txt'):
         with open(os.path.join(TOP, 'examples', name), encoding='utf-8') as file:
             indented[name] = '\n' + ''.join(f'    {line}' for line in file) + '\n'
     wrong, numbers = 0, []
@@ -101,6 +110,10 @@ def main():
     for files, begins in waking(guide):
         if not printed(files).startswith(begins):
             print(f'rules that wake each other come to {printed(files)!r}')
+            wrong = 1
+    for files, listing in withdrawing(guide):
+        if printed(files) != listing:
+            print(f'a withdrawal comes to {printed(files)!r}')
             wrong = 1
     for files, ends in by_marks(guide):
         if not printed(files, BY_MARKS).endswith(ends):

@@ -1,10 +1,10 @@
 #!/usr/bin/env python3
-"""The stored cases of the response by marks, and what the library should say of them, by a reckoning of its own made from sections 3 and 5 of document 02 and section 6 of document 002.
+"""The stored cases of the response by marks, and what the library should say of them, by a reckoning of its own made from sections 3, 5 and 6 of document 02 and section 6 of document 002.
 
   tests/mark_cases.py          writes tests/stored/marks/input and expected
   tests/mark_cases.py --check  says whether they are what it would write; exit status 1 where they are not
 
-A case is (counts, rules, card, slip): the values of each slot; rules as in strata_cases.py; a value for each slot, 0 for none; pairs.
+A case is (counts, rules, card, slip): the values of each slot; rules as in strata_cases.py; a value for each slot, 0 for none; pairs, in which 0 is NONE.
 The cases are sent by one editor after another, each on forty fresh records, and some of them once more by numbers that are no editor's.
 The text is read with test 18 and without. The lines of a case say what the first reading gives, and where it is accepted what the strata response gives;
 then what the response by marks gives; of each response also the records that are not fresh after it. A truth is True, False or None for unknown; a pair is positive, negative, or in neither of two sets.
@@ -71,7 +71,7 @@ def by_strata(rules, card, slip, numbers):
 
 def by_marks(counts, rules, card, slip):
     """The response by marks: rules are fired and pairs are ruled out as long as one can be."""
-    pairs = {(s, v) for s, count in enumerate(counts) for v in range(1, count + 1)}
+    pairs = {(s, v) for s, count in enumerate(counts) for v in range(count + 1)}
     positive, fired = set(slip), set()
     ruled_out = set()
 
@@ -99,14 +99,17 @@ def by_marks(counts, rules, card, slip):
 
 def text_of(counts, rules):
     """A rule file."""
+    def value(v):
+        return str(v - 1) if v else 'NONE'
+
     def literal(becomes, negated, s, v):
-        return '%s%s %s %d' % ('NOT ' * negated, NAMES[s], '*=' if becomes else '|=', v - 1)
+        return '%s%s %s %s' % ('NOT ' * negated, NAMES[s], '*=' if becomes else '|=', value(v))
 
     text = ''.join('SLOT %s {%s};\n' % (NAMES[s], ','.join(str(v) for v in range(n))) for s, n in enumerate(counts))
     for (s, v), literals, assigned, stratum in rules:
         condition = ' AND '.join(literal(*l) for l in literals) or 'TRUE'
-        brought = ', '.join('%s := %d' % (NAMES[t], w - 1) for t, w in assigned)
-        text += 'WHEN %s *= %d IF %s THEN {%s};\n' % (NAMES[s], v - 1, condition, brought)
+        brought = ', '.join('%s := %s' % (NAMES[t], value(w)) for t, w in assigned)
+        text += 'WHEN %s *= %s IF %s THEN {%s};\n' % (NAMES[s], value(v), condition, brought)
     return text.encode()
 
 
@@ -171,6 +174,30 @@ def documents():
     yield from files(([rule(Y, Y), rule(X, Z, under=[Y]), rule(X, (2, 1), under=[Y])], ZEROS, [X]))
 
 
+def withdrawn():
+    """Section 6 of document 02: withdrawals by slip and by rule, of what is there and what is not, in conflict, awaited, barred, unknown and ruled out."""
+    no_x, no_y, no_z = (0, 0), (1, 0), (2, 0)
+    wake = rule(no_x, Z, had_not=[no_y])
+    # by the slip: it wakes a rule where the card has something, and not where it has nothing
+    yield from files(([wake], ZEROS, [no_x]), ([wake], EMPTY, [no_x]), ([wake], [1, 0, 1], [no_x]), ([wake], [0, 1, 1], [no_x]), ([], EMPTY, [no_x, no_y, no_z]), ([], ZEROS, [no_x, no_y, no_z]))
+    # what the card has or has not: |= NONE, NOT |= NONE
+    for card in (ZEROS, EMPTY):
+        yield from files(([rule(X, Z, had=[no_y])], card, [X]), ([rule(X, Z, had_not=[no_y])], card, [X]), ([rule(X, Z, had=[no_x])], card, [X]), ([rule(X, Z, plain=[no_y])], card, [X, no_y]), ([rule(X, Z, under=[no_y])], card, [X, no_y]))
+    # by a rule, which wakes another; against a value of the slip, of a rule, of its own trigger; beside the same withdrawal
+    back = rule(X, no_y)
+    yield from files(([back], ZEROS, [X]), ([back], EMPTY, [X]), ([back, rule(no_y, Z)], ZEROS, [X]), ([rule(no_y, Z), back], EMPTY, [X]), ([back], ZEROS, [X, Y]), ([back], ZEROS, [X, (1, 1)]), ([back], ZEROS, [X, no_y]), ([back, rule(X, Y)], ZEROS, [X]), ([rule(X, no_x)], ZEROS, [X]), ([rule(no_x, X)], ZEROS, [no_x]), ([rule(no_x, no_x)], ZEROS, [no_x]), ([back, rule(X, no_z), rule(X, Z), rule(X, Y)], ZEROS, [X]))
+    # circles by NONE: plain with a cause and without, under NOT, decided by slip or card
+    loop = [rule(no_x, no_y), rule(no_y, no_x)]
+    yield from files((loop, ZEROS, [no_x]), (loop, ZEROS, [Z]), (loop, EMPTY, [Z]), (loop, [1, 0, 1], [no_x]), ([rule(no_x, no_x)], ZEROS, [Z]))
+    own = rule(X, no_y, under=[no_y])
+    either = [rule(X, no_z, under=[no_y]), rule(X, no_y, under=[no_z])]
+    mixed = [rule(X, Z, under=[no_y]), rule(X, no_y, under=[Z])]
+    for rules in ([own], either, either[::-1], mixed, mixed[::-1]):
+        yield from files(*[(rules, card, slip) for card in (ZEROS, EMPTY, [1, 0, 1]) for slip in ([X], [X, Y], [X, (1, 1)], [X, no_y], [X, no_z], [Y])])
+    # a withdrawal makes the slot's values negative, and a value the withdrawal
+    yield from files(([rule(X, Z, under=[Y]), rule(X, Y, under=[Z])], ZEROS, [X, no_y]), ([rule(X, Z, under=[no_y]), rule(X, no_y, had=[Y])], ZEROS, [X]), ([rule(X, Z, under=[no_y]), rule(Z, no_y)], ZEROS, [X, Y]), ([rule(X, Y), rule(X, Z, under=[no_y]), rule(Z, no_y)], ZEROS, [X]))
+
+
 def chains():
     """Chains of rules with one trigger over the two values of eleven slots: plain, so that pairs are ruled out one after another; under NOT, so that they are ruled out and brought in turn; both; in either order, from other starts, and with a gap."""
     counts = [2] * 12
@@ -185,17 +212,18 @@ def chains():
 
 
 def by_chance():
-    """Small files by chance."""
+    """Small files by chance, in the second half of them with NONE."""
     chance = random.Random(3)
-    for i in range(200):
+    for i in range(400):
+        lowest = 1 if i < 200 else 0
         counts = [chance.randint(1, 3) for s in range(chance.randint(2, 5))]
-        busy = [(s, chance.randint(1, n)) for s, n in enumerate(counts)] * 2 + [(s, v) for s, n in enumerate(counts) for v in range(1, n + 1)]
+        busy = [(s, chance.randint(lowest, n)) for s, n in enumerate(counts)] * 2 + [(s, v) for s, n in enumerate(counts) for v in range(lowest, n + 1)]
         rules = []
         for n in range(chance.randint(1, 6)):
             literals = [(1 - chance.randrange(4) // 3, int(chance.randrange(3) > 0)) + chance.choice(busy) for j in range(chance.choice([0, 1, 1, 2]))]
             assigned = dict(chance.choice(busy) for j in range(chance.choice([1, 1, 1, 2])))
             rules.append((chance.choice(busy), literals, sorted(assigned.items()), 0))
-        card = [chance.choice([0, 0, chance.randint(0, n)]) for n in counts]
+        card = [chance.choice([0, 0 if lowest else n, chance.randint(0, n)]) for n in counts]
         slip = dict(chance.choice([rules[chance.randrange(len(rules))][0], chance.choice(busy)]) for j in range(chance.randint(1, 3)))
         yield (counts, rules, card, sorted(slip.items()))
 
@@ -212,7 +240,7 @@ def listed():
 
 
 def cases():
-    for part in (documents, chains, by_chance, listed):
+    for part in (documents, chains, by_chance, listed, withdrawn):
         yield from part()
 
 

@@ -1,5 +1,5 @@
 #!/usr/bin/env python3
-"""The stored prints, and what they should be, by a printer of its own made from section 1 of document 02 over the reading of read_cases.py.
+"""The stored prints, and what they should be, by a printer of its own made from sections 1 and 6 of document 02 over the reading of read_cases.py.
 
   tests/print_cases.py          writes tests/stored/prints/input and expected, and print.txt of the examples
   tests/print_cases.py --check  says whether they are what it would write; exit status 1 where they are not
@@ -28,7 +28,7 @@ def listed(parts):
 
 def styled(file):
     """The lines of a file that is read."""
-    pair = lambda slot, mark, value: b' '.join([file.slots[slot][0], mark, file.slots[slot][1][value - 1]])
+    pair = lambda slot, mark, value: b' '.join([file.slots[slot][0], mark, ([b'NONE'] + file.slots[slot][1])[value]])
     lines = [b'SLOT ' + name + b' ' + listed(values) + b';\n' for name, values in file.slots]
     for slot, value, literals, assignments in file.rules:
         tests = [b'NOT ' * negated + pair(tested, b'*=' if becomes else b'|=', to) for becomes, negated, tested, to in literals]
@@ -107,10 +107,16 @@ WHEN x *= 0 IF TRUE AND NOT NOT NOT NOT z |= 1 AND z |= 1 AND z |= 1 THEN
 ;
 '''
 
+# NONE in each place of a rule, beside names like it.
+WITHDRAWN = b'''SLOT x{none,None};SLOT y{NONE-,NONEs};
+WHEN x*=NONE IF y|=NONE AND NOT NOT y*=NONE AND NOT x|=none THEN{y:=NONE};
+WHEN y*=NONE- IF TRUE THEN y:=NONE; WHEN y *= NONE IF TRUE AND NOT\tNOT NOT y |=NONE THEN { x:=NONE,y\r\n:=NONEs };
+'''
+
 # A text of each refusal of the reading, with a second number above 0 where there can be one.
 REFUSED = [
     (b' ', 255, b' ' * 257), rule() + b'(', rule() + b'WHEN x *= 1 THEN', rule() + b'WHEN ' + b'n' * 25, b'SLOT x {a, a};',
-    rule() + b'WHEN x *= 1 IF ' + b'y |= 0 AND ' * 8 + b'y', rule() + b'WHEN q', rule() + b'WHEN x *= 1 IF TRUE THEN {y := 1, y',
+    rule() + b'WHEN x *= 1 IF ' + b'y |= 0 AND ' * 8 + b'y', rule() + b'WHEN NONE', b'SLOT x {NONE};', rule() + b'WHEN q', rule() + b'WHEN x *= 1 IF TRUE THEN {y := 1, y',
     XYZ + b'WHEN x *= 1 IF TRUE THEN y := 1; WHEN z *= 1 IF NOT z *= 0 THEN z := 0;',
 ]
 
@@ -137,12 +143,13 @@ def respaced(chance, text):
 
 def cases():
     yield from [(b'', 0), (b'', 5), (b' \t\r\n', 0)]
-    for text in [*lettered(), *woken(), example('case-c'), example('dialect'), *guided(), CANCELLED]:
+    for text in [*lettered(), *woken(), example('case-c'), example('dialect'), example('withdrawn'), *guided(), CANCELLED, WITHDRAWN]:
         outcome = printed(text, PRINT_BYTES)
         length = 40 if isinstance(outcome, bytes) else sum(map(len, outcome))
         yield from [(text, room) for room in (length, length - 1, length + 7, 0)]
     chance = random.Random(34)
     yield from [(respaced(chance, CANCELLED), 256) for _ in range(20)]
+    yield from [(respaced(chance, WITHDRAWN), 256) for _ in range(10)]
     for text in REFUSED:
         yield from [(text, 0), (text, 300)]
     yield from [(longest(0), PRINT_BYTES), (longest(0), PRINT_BYTES + 1), (longest(0), PRINT_BYTES - 1), (longest(0), 0)]
@@ -162,7 +169,7 @@ def stored():
         lines += b'print %d\n' % number + written(front + times * piece, room)
     yield 'tests/stored/prints/input', given
     yield 'tests/stored/prints/expected', lines
-    for name in ('case-c', 'dialect'):
+    for name in ('case-c', 'dialect', 'withdrawn'):
         yield f'examples/{name}/print.txt', b''.join(printed(example(name), PRINT_BYTES))
 
 

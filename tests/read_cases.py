@@ -1,5 +1,5 @@
 #!/usr/bin/env python3
-"""The stored texts, and what their reading should give, by a reader of its own made from document 01, section 2 of document 02 and the appendix of the RL paper.
+"""The stored texts, and what their reading should give, by a reader of its own made from document 01, sections 2 and 6 of document 02 and the appendix of the RL paper.
 
   tests/read_cases.py          writes tests/stored/texts/input and expected
   tests/read_cases.py --check  says whether they are what it would write; exit status 1 where they are not
@@ -12,7 +12,7 @@ from stored import run
 from strata_cases import circle, dependences, strata
 
 TOKEN = re.compile(rb'[0-9A-Za-z][0-9A-Za-z-]*|[*|:]=|[{},;]')
-RESERVED = {b'SLOT', b'WHEN', b'IF', b'THEN', b'AND', b'NOT', b'TRUE'}
+RESERVED = {b'SLOT', b'WHEN', b'IF', b'THEN', b'AND', b'NOT', b'TRUE', b'NONE'}
 
 
 class Refused(Exception):
@@ -83,6 +83,9 @@ class File:
         return names.index(part)
 
     def value(self, slot):
+        if self.kind() == 'NONE':
+            self.take('NONE')
+            return 0
         values = self.slots[slot][1]
         return values.index(self.take('name', also=lambda part: [(16, part not in values)])[1]) + 1
 
@@ -182,8 +185,25 @@ def circles():
     yield from [XYZ + low + middle + high, XYZ + high + middle + low, XYZ + high + low, XYZ + high + b'WHEN z *= 1 IF TRUE THEN x := 1;' + middle + low]
 
 
+def withdrawn():
+    """NONE for a value in each place of a rule, alone and where it is one too many; elsewhere; names like it; strata and circles by NONE."""
+    yield from [rule(trigger=b'x *= NONE'), rule(b'y |= NONE'), rule(b'NOT y |= NONE'), rule(b'y *= NONE'), rule(b'NOT y *= NONE'), rule(b'NOT NOT NOT z *= NONE AND y |= NONE'), rule(assign=b'y := NONE'), rule(assign=b'{y := NONE}'), rule(assign=b'{y := NONE, x := 0, z := NONE}'), rule(b'y *= NONE', b'{y := NONE, z := NONE}', b'z *= NONE')]
+    yield from [b'SLOT NONE {a};', b'SLOT x {NONE};', b'SLOT x {a, NONE};', b'SLOT x {NONE', b'SLOT x NONE', b'NONE', XYZ + b'NONE', XYZ + RULE + b'NONE', XYZ + RULE + b'SLOT w {NONE};', b'SLOT x {a}; SLOT NONE {a', b'SLOT x {a} NONE']
+    yield from [rule(trigger=w) for w in (b'NONE *= 1', b'NONE', b'x NONE', b'x |= NONE', b'NONE *= NONE', b'q *= NONE', b'x *= NONE NONE', b'x *= NOT NONE')]
+    yield from [rule(w) for w in (b'NONE', b'NONE |= 0', b'NOT NONE', b'NOT NONE *= 1', b'TRUE AND NONE', b'TRUE NONE', b'y |= 0 AND NONE |= 0', b'y NONE', b'q |= NONE', b'y := NONE', b' AND '.join([b'y |= NONE'] * 8), b' AND '.join([b'y |= NONE'] * 9), b' AND '.join([b'y |= NONE'] * 8 + [b'NONE']))]
+    yield from [rule(assign=w) for w in (b'NONE := 1', b'NONE', b'{NONE := 1}', b'{x := 1, NONE := 1}', b'y NONE', b'y *= NONE', b'q := NONE', b'{y := NONE, y := 1}', b'{y := 0, y := NONE}', b'{y := NONE, y := NONE}', b'{y := NONE NONE}', b'y := NONE, z := 1')]
+    yield from [rule(assign=b'y := ' + w) for w in (b'none', b'None', b'NONE-', b'NONEs', b'NON', b'NONE' * 7, b'NONE=', b'NONE(')]
+    like = b'SLOT none {None, NONE-, NONEs, none}; SLOT None {nONE}; '
+    yield from [like, like + b'WHEN none *= None IF none |= NONE AND None |= nONE THEN {none := none, None := NONE};', like + b'WHEN None *= None', like + b'WHEN none *= NONE-NONE', like + b'WHEN NONE- *= NONE']
+    fifteen = b'SLOT x {' + b','.join(b'v%d' % i for i in range(15)) + b'}; '
+    yield from [fifteen + b'WHEN x *= NONE IF NOT x |= NONE THEN x := v14;', fifteen + b'WHEN x *= v14 IF x *= NONE THEN x := NONE;', fifteen[:-3] + b',NONE};', fifteen[:-3] + b',v0,NONE};']
+    bar, empty = b'WHEN x *= 1 IF NOT y *= NONE THEN z := 1;', b'WHEN %s IF TRUE THEN y := %s;'
+    yield from [XYZ + bar + empty % pair for pair in ((b'x *= 0', b'NONE'), (b'x *= 0', b'1'), (b'z *= 1', b'NONE'), (b'z *= 1', b'0'), (b'y *= NONE', b'NONE'), (b'z *= NONE', b'NONE'))]
+    yield from [rule(b'NOT y *= NONE', b'y := NONE'), rule(b'y *= NONE', b'y := NONE'), rule(b'NOT y |= NONE', b'y := NONE'), rule(b'NOT y *= NONE', b'y := 1'), rule(b'NOT y *= 1', b'y := NONE')]
+
+
 def texts():
-    """The cases and limits of document 01, circles, each place's faults and their precedence, and texts damaged at random."""
+    """The cases and limits of document 01, circles, NONE, each place's faults and their precedence, and texts damaged at random."""
     a, b = b'WHEN x *= 1 IF y |= 0 THEN z := 1;', b'WHEN z *= 1 IF y |= 0 THEN y := 1;'
     many = lambda n: b','.join(b'v%d' % i for i in range(n))
     yield from [b'', b' \t\r\n', XYZ, XYZ + a + b, rule(b'TRUE AND y |= 0'), rule(b'y |= 0 AND TRUE'), b'(', XYZ + b'(', XYZ + RULE + b'(', XYZ + RULE + b'*', XYZ + RULE + b'WHEN x *']
@@ -191,6 +211,7 @@ def texts():
     c, d, e = b'WHEN z *= 1 IF y |= 0 THEN x := 1;', b'WHEN y *= 1 IF NOT x *= 1 THEN z := 1;', b'WHEN y *= 1 IF x |= 0 THEN x := 1;'
     yield from [XYZ + a + c, XYZ + c + a, XYZ + d + e, XYZ + e + d, XYZ + e + a + c, XYZ + a + b + e, rule(assign=b'x := 1'), rule(b'NOT y *= 1'), rule(b'NOT NOT y *= 1'), rule(b'y |= 1'), rule(b'y *= 0'), XYZ + a + c + b'(']
     yield from circles()
+    yield from withdrawn()
     short = b'WHEN x*=1 IF TRUE THEN y:=1;'
     yield from [XYZ + RULE * 2, XYZ + short * 255 + b' ', XYZ + short * 256, XYZ + short * 255 + b'SLOT']
     yield from [b''.join(b'SLOT s%d {v};' % i for i in range(n)) for n in (32, 33)] + [b''.join(b'SLOT s%d {v};' % i for i in range(32)) + b'SLOT s1 (']
@@ -207,7 +228,7 @@ def texts():
     for fault in (b'(', b'IF', b'a' * 25 + b' *= 1', b'q *= 1', b'x *= 1 IF TRUE THEN { x := 0, x := 1 };', b'x *= 1 IF ' + b' AND '.join([b'y |= 0'] * 9), b'x *= 1 IF TRUE THEN y := ' + b'a' * 25):
         yield XYZ + RULE * 2 + b'WHEN ' + fault
     chance = random.Random(1902)
-    pieces = [b'SLOT', b'WHEN', b'IF', b'THEN', b'AND', b'NOT', b'TRUE', b'{', b'}', b',', b';', b'*=', b'|=', b':=', b'x', b'y', b'0', b'1', b'q', b'(', b'a' * 25, b'-']
+    pieces = [b'SLOT', b'WHEN', b'IF', b'THEN', b'AND', b'NOT', b'TRUE', b'NONE', b'NONE', b'none', b'{', b'}', b',', b';', b'*=', b'|=', b':=', b'x', b'y', b'0', b'1', b'q', b'(', b'a' * 25, b'-']
     for _ in range(150):
         words = re.findall(rb'[^ ,;{}]+|[,;{}]', XYZ + a + b + rule(b'NOT y |= 0 AND z *= 1', b'{ x := 0 , y := 1 }')[len(XYZ):])
         for _ in range(chance.randrange(1, 4)):

@@ -1,11 +1,11 @@
 #!/usr/bin/env python3
-"""The stored tables of the crate strata_cases, and what it should write of them, by a reckoning of its own made from document 01 and section 2 of document 02.
+"""The stored tables of the crate strata_cases, and what it should write of them, by a reckoning of its own made from document 01 and sections 2 and 6 of document 02.
 
   tests/strata_cases.py          writes crates/strata_cases/stdin and stdout
   tests/strata_cases.py --check  says whether they are what it would write; exit status 1 where they are not
 
 A table here is (fill, counts, rules): what fills unused places, the values of each slot, and the rules; a rule is
-(trigger, literals, assignments, stratum), a literal (becomes, negated, slot, value). A longer list than the limit stands for a number that breaks it.
+(trigger, literals, assignments, stratum), a literal (becomes, negated, slot, value), value 0 being NONE. A longer list than the limit stands for a number that breaks it.
 Rules that come to each other by dependence make a knot, found by depth first search, forward and back. A circle through a NOT is a knot with
 a NOT among its own steps; where there is none, a stratum is one more than the most NOTs on a walk of dependence, reckoned knot by knot.
 """
@@ -88,7 +88,7 @@ def well_formed(table):
         if len(literals) > LITERALS or len(assignments) > ASSIGNMENTS:
             return False
         for s, v in [trigger] + [(s, v) for b, n, s, v in literals] + assignments:
-            if s >= len(counts) or v < 1 or v > counts[s]:
+            if s >= len(counts) or v > counts[s]:
                 return False
         if len({s for s, v in assignments}) < len(assignments):
             return False
@@ -193,6 +193,13 @@ def documents():
     # 1 waits for 2, 2 for 1 and under NOT for 3, 3 for 2: no circle through the NOT meets 1 without meeting 2 twice; the same in other orders, and without one of the three
     one, two, three = rule(X, Y), rule(Y, X, under=[Z]), rule(X, Z)
     yield from files([one, two, three], [three, two, one], [two, one, three], [one, three, two], [one, two], [one, three], [two, three])
+
+
+def withdrawn():
+    """Tests of NONE bind as those of any value, and a slot's values and its NONE bind apart."""
+    none = (1, 0)
+    yield from files([rule(X, Z, under=[none]), rule(Z, none)], [rule(X, Z, under=[none], stratum=2), rule(Y, none, stratum=1)], [rule(X, Z, under=[none], stratum=1), rule(Y, (1, 1), stratum=1)], [rule(none, none, stratum=1)], [rule(X, none, (1, 1), stratum=1)])
+    yield full(rule((31, 0), (30, 0), (29, 15), stratum=1), rule((30, 0), (31, 0), had=[(0, 0)], had_not=[(29, 0)], stratum=1))
 
 
 def circles():
@@ -319,13 +326,13 @@ def by_chance():
 
         def any_pair():
             s = chance.randrange(width)
-            return (s, chance.randint(1, counts[s]))
+            return (s, chance.randint(0, counts[s]))
 
         rules = []
         for n in range(chance.randint(1, 14)):
             slots = chance.sample(range(width), chance.randint(0, min(width, 3)))
             literals = [(chance.randint(0, 1), int(not chance.randrange(i % 4 + 1))) + any_pair() for j in range(chance.randint(0, 3))]
-            rules.append((any_pair(), literals, [(s, chance.randint(1, counts[s])) for s in slots], chance.randint(0, 3)))
+            rules.append((any_pair(), literals, [(s, chance.randint(0, counts[s])) for s in slots], chance.randint(0, 3)))
         table = (chance.randrange(256), counts, rules)
         if i % 2 and circle(dependences(rules)) is None:
             table = layered(table)
@@ -336,7 +343,7 @@ def by_chance():
 
 
 def cases():
-    for part in (documents, circles, heights, carried, forms, by_chance):
+    for part in (documents, withdrawn, circles, heights, carried, forms, by_chance):
         yield from part()
 
 

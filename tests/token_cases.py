@@ -1,5 +1,5 @@
 #!/usr/bin/env python3
-"""The stored texts of the crate token_cases, and the tokens that it should write, by a tokenizer of its own made from document 01.
+"""The stored texts of the crate token_cases, and the tokens that it should write, by a tokenizer of its own made from document 01 and section 6 of document 02.
 
   tests/token_cases.py          writes crates/token_cases/stdin and stdout
   tests/token_cases.py --check  says whether they are what it would write; exit status 1 where they are not
@@ -10,7 +10,7 @@ import sys
 
 from stored import run
 
-WORDS = [b'SLOT', b'WHEN', b'IF', b'THEN', b'AND', b'NOT', b'TRUE']
+WORDS = [b'SLOT', b'WHEN', b'IF', b'THEN', b'AND', b'NOT', b'TRUE', b'NONE']
 MARKS = [b'{', b'}', b',', b';', b'*=', b'|=', b':=']
 TOKEN = re.compile(rb'[0-9A-Za-z][0-9A-Za-z-]*|[*|:]=|[{},;]')
 WHITE = b'\t\n\r '
@@ -32,7 +32,7 @@ def tokens(text):
         elif part in WORDS:
             lines.append(b'word %d %d' % (WORDS.index(part) + 1, at))
         elif part in MARKS:
-            lines.append(b'word %d %d' % (MARKS.index(part) + 8, at))
+            lines.append(b'word %d %d' % (MARKS.index(part) + len(WORDS) + 1, at))
         elif len(part) > 24:
             lines.append(b'long %d' % at)
         else:
@@ -51,6 +51,7 @@ def texts():
     yield from [b'x*', b'*', b'* =', b'*==', b'**=', b'*=*', b'|', b'|=', b'|=|', b':', b':=:', b'a:=b', b'=']
     yield from WORDS + MARKS
     yield from [b'-a', b'a-', b'a--b', b'SLOTx', b'xSLOT', b'slot', b'Slot', b'IF-', b'-IF', b'WHEN0', b'0WHEN', b'SLOT{', b'TRUE;', b'IFTHEN', b'x_y', b'a.b']
+    yield from [b'none', b'None', b'NONe', b'NON', b'NONES', b'NONE-', b'-NONE', b'0NONE', b'NONE0', b'NONE;', b'NONE=', b'x*=NONE;', b'NOTNONE', b'NONE NONE', b'NONE' * 6, b'NONE' * 7]
     yield from [b'\x80', b'a\xffb', b'\xef\xbb\xbfSLOT', b'\x00', b'a\x00b', b'\x0b', b'\x0c', b'(', b'a(b)', b'{a,b};', b'{ a , b } ;', b';;', b' a ', b'\ta\n', CASE_C]
     chance = random.Random(1901)
     pieces = WORDS + MARKS + [b' ', b'\n', b'a', b'Z9', b'-', b'*', b'|', b':', b'=', b'(', b'\x9f', b'name-of-twenty-four-bytes', b'name-of-twenty-four-byte']

@@ -4,14 +4,14 @@
 
 #include <string.h>
 
-/* Prints a slot's name and a value's name, each a part of the rule text; a card's 0 is no value. */
-static void print_pair(const char *what, const uint8_t *text, size_t length, const RlTable *table, size_t slot,
-                       size_t value) {
+/* Prints a slot's name and a value's name, each a part of the rule text; value 0 has no name there and is printed as a word: a card's 0 is no value, a change's NONE. */
+static void print_pair(const char *what, const char *none, const uint8_t *text, size_t length, const RlTable *table,
+                       size_t slot, size_t value) {
     RlName s = rl_slot_name(text, length, *table, slot);
     stop_at(s.number, 0);
     printf("%s %.*s", what, (int)s.size, (const char *)text + s.start);
     if (value == 0) {
-        printf(" -\n");
+        printf(" %s\n", none);
         return;
     }
     RlName v = rl_value_name(text, length, *table, slot, value);
@@ -42,7 +42,7 @@ int main(int count, char **words) {
     RlCard before = rl_unpack_card(slots, card, card_length);
     stop_at(before.number, before.second);
     for (size_t i = 0; i < before.card.count; i++) {
-        print_pair("has", text, text_length, table, i, before.card.values[i]);
+        print_pair("has", "-", text, text_length, table, i, before.card.values[i]);
     }
 
     RlTally records[RL_EDITORS] = {0};
@@ -55,7 +55,8 @@ int main(int count, char **words) {
     RlSlip changed = rl_unpack_slip(slots, changes, response.length);
     stop_at(changed.number, changed.second);
     for (size_t i = 0; i < changed.slip.count; i++) {
-        print_pair("change", text, text_length, table, changed.slip.changes[i].slot, changed.slip.changes[i].value);
+        RlChange change = changed.slip.changes[i];
+        print_pair("change", "NONE", text, text_length, table, change.slot, change.value);
     }
     for (size_t i = 0; i < table->count; i++) {
         if (fired[i / 8] >> (7 - i % 8) & 1) {

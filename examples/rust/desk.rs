@@ -5,11 +5,18 @@ mod rl;
 
 use rl::Refusal;
 
-/// Prints a slot's name and a value's name, each a part of the rule text; a card's 0 is no value.
-fn print_pair(what: &str, text: &[u8], table: &rl::Table, slot: usize, value: usize) -> Result<(), Refusal> {
+/// Prints a slot's name and a value's name, each a part of the rule text; value 0 has no name there and is printed as a word: a card's 0 is no value, a change's NONE.
+fn print_pair(
+    what: &str,
+    none: &str,
+    text: &[u8],
+    table: &rl::Table,
+    slot: usize,
+    value: usize,
+) -> Result<(), Refusal> {
     let name = String::from_utf8_lossy(rl::slot_name(text, table, slot)?);
     if value == 0 {
-        println!("{what} {name} -");
+        println!("{what} {name} {none}");
     } else {
         println!("{what} {name} {}", String::from_utf8_lossy(rl::value_name(text, table, slot, value)?));
     }
@@ -25,7 +32,7 @@ fn run(by_marks: bool, text: &[u8], card: &[u8], slip: &[u8], editor: usize) -> 
 
     let before = rl::unpack_card(&slots, card)?;
     for (slot, value) in before.values[..before.count].iter().enumerate() {
-        print_pair("has", text, &table, slot, (*value).into())?;
+        print_pair("has", "-", text, &table, slot, (*value).into())?;
     }
 
     let (mut new_card, mut changes, mut fired) = ([0; rl::CARD_BYTES], [0; rl::SLIP_BYTES], [0; rl::FIRED_BYTES]);
@@ -34,7 +41,7 @@ fn run(by_marks: bool, text: &[u8], card: &[u8], slip: &[u8], editor: usize) -> 
 
     let changed = rl::unpack_slip(&slots, &changes[..answer.length])?;
     for change in &changed.changes[..changed.count] {
-        print_pair("change", text, &table, change.slot.into(), change.value.into())?;
+        print_pair("change", "NONE", text, &table, change.slot.into(), change.value.into())?;
     }
     for rule in (0..table.count as usize).filter(|rule| fired[rule / 8] >> (7 - rule % 8) & 1 == 1) {
         println!("fired {}", rule + 1);

@@ -41,7 +41,7 @@ pub struct Slot {
     pub count: u16,
 }
 
-/// A literal: `slot *= value` (becomes) or `slot |= value`, plain or under NOT.
+/// A literal: `slot *= value` (becomes) or `slot |= value`, plain or under NOT; value 0 is NONE.
 #[repr(C)]
 #[derive(Clone, Copy, PartialEq, Eq, Debug, Default)]
 pub struct Literal {
@@ -51,7 +51,7 @@ pub struct Literal {
     pub value: u8,
 }
 
-/// An assignment: `slot := value`.
+/// An assignment: `slot := value`; value 0 is NONE.
 #[repr(C)]
 #[derive(Clone, Copy, PartialEq, Eq, Debug, Default)]
 pub struct Assignment {
@@ -97,7 +97,7 @@ pub struct Card {
     pub count: usize,
 }
 
-/// A change of a slot to a value.
+/// A change of a slot to a value; value 0 is NONE, a withdrawal.
 #[repr(C)]
 #[derive(Clone, Copy)]
 pub struct Change {

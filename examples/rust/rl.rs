@@ -56,7 +56,7 @@ pub fn slot_name<'a>(text: &'a [u8], table: &Table, slot: usize) -> Result<&'a [
     part(text, raw::slot_name(text, table, slot))
 }
 
-/// The name of a slot's value, values counted from 1, a part of the text.
+/// The name of a slot's value, values counted from 1, a part of the text; value 0, NONE, has none and is 31.
 pub fn value_name<'a>(text: &'a [u8], table: &Table, slot: usize, value: usize) -> Result<&'a [u8], Refusal> {
     part(text, raw::value_name(text, table, slot, value))
 }

@@ -2,15 +2,15 @@
 
 use crate::broken_firing::fire;
 use crate::cards::{
-    card_fields, card_length, faulty_changes, pack_card, pack_slip, put, slip_bytes, slip_fields, unpack_card,
-    unpack_slip,
+    card_bytes, card_fields, card_length, faulty_changes, pack_card, pack_slip, put, slip_bytes, slip_fields,
+    unpack_card, unpack_slip,
 };
 use crate::editors::{Caller, Tally, FULL};
 use crate::engine::{parts, Engine, Second, Way};
 use crate::fault::Fault;
-use crate::response::{conflict, fired_count, needed, outcome, record, short_output};
+use crate::response::{conflict, fired_count, needed, new_card, outcome, record, short_output};
 use crate::response::{Answer, Changes, Outputs};
-use crate::table::{Name, Pair, Program, Table};
+use crate::table::{Name, Pair, Program, Table, NONE};
 use crate::table31::{tested, tested_for_marks};
 use crate::{broken_editors, broken_marks, broken_print, broken_reading, broken_strata, refusal, Refusal};
 
@@ -35,6 +35,16 @@ fn instead_of<T>(
         Err(why) if why.number == number => other(),
         result => result,
     }
+}
+
+/// The positions of the withdrawals among changes.
+fn withdrawals(changes: &[Pair]) -> impl Iterator<Item = usize> + '_ {
+    (0..changes.len()).filter(|at| changes[*at].1 == NONE)
+}
+
+/// Packed changes, those that a test keeps.
+fn kept_changes(changes: &Changes, keeps: impl Fn(&Pair) -> bool) -> Vec<u8> {
+    slip_bytes(&changes.iter().copied().filter(keeps).collect::<Vec<Pair>>())
 }
 
 impl Broken {
@@ -87,7 +97,10 @@ impl Broken {
         let mut faulty = faulty_changes(program, changes);
         match self.fault {
             Fault::SlotNotBelow => faulty.retain(|(at, number)| *number != 26 || !level(*at)),
-            Fault::ZeroChange => faulty.retain(|(at, number)| *number != 27 || changes[*at].1 > 0),
+            Fault::WithdrawalRefused => {
+                faulty.extend(withdrawals(changes).map(|at| (at, 27)));
+                faulty.sort_unstable();
+            }
             Fault::NumberBeforePosition => faulty.sort_by_key(|(at, number)| (*number, *at)),
             _ => {}
         }
@@ -118,6 +131,15 @@ impl Broken {
                 let later = firing.changes.clone();
                 firing.changes.retain(|pair| later.range((pair.0, pair.1 + 1)..(pair.0 + 1, 0)).next().is_none());
             }
+            Fault::WithdrawalOverruled => {
+                let all = firing.changes.clone();
+                let values = |slot: u8| all.range((slot, NONE + 1)..=(slot, u8::MAX)).count();
+                firing.changes.retain(|pair| pair.1 != NONE || values(pair.0) == 0);
+            }
+            Fault::WithdrawalOverrules => {
+                let all = firing.changes.clone();
+                firing.changes.retain(|pair| pair.1 == NONE || !all.contains(&(pair.0, NONE)));
+            }
             Fault::ConflictByOrder => {
                 if let Some(slot) = Broken::first_conflict(program, slip, &firing.fired) {
                     return Err(refusal(40, slot as usize));
@@ -126,16 +148,22 @@ impl Broken {
             _ => {}
         }
         let mut answer = outcome(program, card, &firing)?;
+        let repeats = |pair: &Pair| card[pair.0 as usize] == pair.1;
         match self.fault {
             Fault::RecordPadding => {
                 let padded = (program.rules.len() + 7) / 8 * 8;
                 firing.fired.extend(program.rules.len()..padded);
                 answer.fired = record(padded, &firing.fired);
             }
-            Fault::CardReturned => answer.card = crate::cards::card_bytes(card),
-            Fault::RepeatsLeftOut => {
-                let new = firing.changes.iter().copied().filter(|pair| card[pair.0 as usize] != pair.1);
-                answer.changes = slip_bytes(&new.collect::<Vec<Pair>>());
+            Fault::CardReturned => answer.card = card_bytes(card),
+            Fault::WithdrawnKept => {
+                let brought = firing.changes.iter().copied().filter(|pair| pair.1 != NONE).collect();
+                answer.card = card_bytes(&new_card(card, &brought));
+            }
+            Fault::RepeatsLeftOut => answer.changes = kept_changes(&firing.changes, |pair| !repeats(pair)),
+            Fault::WithdrawalsLeftOut => answer.changes = kept_changes(&firing.changes, |pair| pair.1 != NONE),
+            Fault::EmptyWithdrawalsLeftOut => {
+                answer.changes = kept_changes(&firing.changes, |pair| pair.1 != NONE || !repeats(pair));
             }
             Fault::LeastBitFirst => {
                 answer.card = bits_reversed(&answer.card);
@@ -264,7 +292,8 @@ impl Engine for Broken {
     }
 
     fn value_name(&mut self, text: &[u8], table: &Table, slot: u8, value: u8) -> Result<Name, Refusal> {
-        Second.value_name(text, table, slot, value)
+        let shown = if self.fault == Fault::NoneShown { value.max(1) } else { value };
+        Second.value_name(text, table, slot, shown)
     }
 
     fn unpack_card(&mut self, table: &Table, card: &[u8]) -> Result<Vec<u8>, Refusal> {
@@ -285,6 +314,9 @@ impl Engine for Broken {
             Fault::ManyChanges => self.changes(&program, changes).map(|_| Vec::new()),
             _ => Err(refusal(24, 0)),
         })?;
+        if let (Fault::PackedWithdrawalRefused, Some(at)) = (self.fault, withdrawals(changes).next()) {
+            return Err(refusal(27, at));
+        }
         if self.fault == Fault::PackingRoom && output.len() < 37 {
             return Err(refusal(30, 2));
         }

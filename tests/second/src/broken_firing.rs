@@ -4,19 +4,24 @@ use std::collections::BTreeSet;
 
 use crate::fault::Fault;
 use crate::response::{self, conflict, Changes, Firing};
-use crate::table::{Literal, Pair, Program, Rule};
+use crate::table::{Literal, Pair, Program, Rule, NONE};
 
 /// Whether a rule is enabled by the fault.
 fn enabled(fault: Fault, card: &[u8], changes: &Changes, rule: &Rule) -> bool {
     let had = |pair: &Pair| card[pair.0 as usize] == pair.1;
-    let empty = |pair: &Pair| card[pair.0 as usize] == 0;
+    let empty = |pair: &Pair| card[pair.0 as usize] == NONE;
     let trigger = Literal { becomes: true, negated: false, pair: rule.trigger };
     let holds = |literal: &Literal| match fault {
         Fault::HadBecomes if literal.becomes && had(&literal.pair) => {
             changes.contains(&literal.pair) != literal.negated
         }
         Fault::EmptyNeverBecomes if literal.becomes && empty(&literal.pair) => literal.negated,
-        Fault::EmptyNeverNegated if !literal.becomes && empty(&literal.pair) => false,
+        Fault::EmptyNeverNegated if !literal.becomes && literal.negated && empty(&literal.pair) => false,
+        Fault::EmptyWithdrawn if literal.becomes && literal.pair.1 == NONE && empty(&literal.pair) => {
+            changes.contains(&literal.pair) != literal.negated
+        }
+        Fault::NoneNeverBecomes if literal.becomes && literal.pair.1 == NONE => literal.negated,
+        Fault::EmptyNeverNone if !literal.becomes && literal.pair.1 == NONE => literal.negated,
         _ => response::holds(card, changes, literal),
     };
     match fault {

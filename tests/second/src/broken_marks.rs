@@ -6,7 +6,7 @@ use crate::marks::{self, and, had, not, Mark, Marks, Moment, Truth};
 use crate::read::{read, read_unlayered};
 use crate::response::{self, answered, counted, enabled, fire, outcome, Answer, Firing, Outputs};
 use crate::strata::strata;
-use crate::table::{Literal, Pair, Program, Rule, Table};
+use crate::table::{Literal, Pair, Program, Rule, Table, NONE};
 use crate::table31::{tested, tested_for_marks, unlayered};
 use crate::{refusal, Refusal};
 
@@ -39,9 +39,11 @@ fn program(fault: Fault, table: &Table) -> Result<Program, Refusal> {
 
 /// The truth of `s *= v` by the fault.
 fn becomes(fault: Fault, card: &[u8], marks: &Marks, pair: Pair) -> Truth {
+    let empty = pair.1 == NONE && had(card, pair) == Truth::True;
+    let by_mark = fault == Fault::HadByMark || fault == Fault::EmptyByMark && empty;
     match (fault, marks.of(pair)) {
-        (Fault::HadByMark, Mark::Positive) => Truth::True,
-        (Fault::HadByMark, Mark::Unknown) => Truth::Unknown,
+        (_, Mark::Positive) if by_mark => Truth::True,
+        (_, Mark::Unknown) if by_mark => Truth::Unknown,
         (Fault::UnknownAsFalse, Mark::Unknown) => Truth::False,
         _ => marks::becomes(card, marks, pair),
     }
@@ -49,7 +51,11 @@ fn becomes(fault: Fault, card: &[u8], marks: &Marks, pair: Pair) -> Truth {
 
 /// The truth of a literal by the fault.
 fn truth(fault: Fault, card: &[u8], marks: &Marks, literal: &Literal) -> Truth {
-    let plain = if literal.becomes { becomes(fault, card, marks, literal.pair) } else { had(card, literal.pair) };
+    let plain = match literal.becomes {
+        true => becomes(fault, card, marks, literal.pair),
+        false if fault == Fault::MarkedNeverNone && literal.pair.1 == NONE => Truth::False,
+        false => had(card, literal.pair),
+    };
     match (fault, plain) {
         (Fault::UnknownLiteralFalse, Truth::Unknown) => Truth::False,
         (Fault::UnknownNotTrue, Truth::Unknown) if literal.negated => Truth::True,
@@ -129,14 +135,32 @@ fn never(fault: Fault, rules: &[Rule], card: &[u8], moment: &mut Moment) {
 
 /// Marks pairs positive by the fault.
 fn bring(fault: Fault, moment: &mut Moment, pairs: &[Pair]) {
-    let alone = fault == Fault::RivalsUnknown || fault == Fault::SlipRivalsUnknown && moment.fired.is_empty();
+    let unfired = moment.fired.is_empty();
     for pair in pairs {
-        let clash = match alone {
-            true => moment.marks.update(*pair, Mark::Positive).is_err(),
-            false => moment.marks.bring(*pair).is_err(),
-        };
-        moment.clash |= clash && fault != Fault::ClashIgnored;
+        let slot = moment.marks.slot(pair.0);
+        let rivals = slot.iter().filter(|other| *other != pair && !is_no_rival(fault, unfired, *pair, **other));
+        let marks = std::iter::once((*pair, Mark::Positive)).chain(rivals.map(|other| (*other, Mark::Negative)));
+        let clashes = marks.filter(|(pair, mark)| moment.marks.update(*pair, *mark).is_err()).count();
+        moment.clash |= clashes > 0 && fault != Fault::ClashIgnored;
     }
+}
+
+/// Whether the fault leaves another pair of a slot as it is where one becomes positive, given whether nothing has fired yet.
+fn is_no_rival(fault: Fault, unfired: bool, pair: Pair, other: Pair) -> bool {
+    match fault {
+        Fault::RivalsUnknown => true,
+        Fault::SlipRivalsUnknown => unfired,
+        Fault::NoneNoRival => other.1 == NONE,
+        Fault::NoneWithoutRivals => pair.1 == NONE,
+        _ => false,
+    }
+}
+
+/// Rules out NONE of each slot in which the card has no value and the slip does not withdraw it.
+fn rule_out_empty(card: &[u8], moment: &mut Moment) {
+    let empty =
+        moment.marks.with(Mark::Unknown).into_iter().filter(|pair| pair.1 == NONE && had(card, *pair) == Truth::True);
+    empty.for_each(|pair| moment.rule_out(pair));
 }
 
 /// The end of one order of selection by the fault.
@@ -144,6 +168,9 @@ fn selection(fault: Fault, program: &Program, card: &[u8], slip: &[Pair]) -> Mom
     let rules = &program.rules;
     let mut moment = Moment { marks: Marks::unknown(program), fired: Vec::new(), clash: false };
     bring(fault, &mut moment, slip);
+    if fault == Fault::EmptyRuledOut {
+        rule_out_empty(card, &mut moment);
+    }
     loop {
         never(fault, rules, card, &mut moment);
         let may_fire = |at: &usize| {
@@ -167,8 +194,9 @@ fn decided(fault: Fault, mut end: Moment) -> Result<Firing, Refusal> {
     let unknown = end.marks.with(Mark::Unknown);
     match fault {
         Fault::UnknownBeforeClash if !unknown.is_empty() => Err(refusal(42, 0)),
-        Fault::UnknownNegative => {
-            unknown.into_iter().for_each(|pair| end.rule_out(pair));
+        Fault::UnknownNegative | Fault::NoneUnmarked => {
+            let taken = unknown.into_iter().filter(|pair| fault == Fault::UnknownNegative || pair.1 == NONE);
+            taken.for_each(|pair| end.rule_out(pair));
             marks::decided(&end)
         }
         Fault::UnknownNamed if !end.clash && !unknown.is_empty() => Err(refusal(42, unknown[0].0.into())),

@@ -6,7 +6,8 @@ use crate::fault::Fault;
 use crate::print::{self, lines};
 use crate::raw::PRINT_BYTES;
 use crate::read::{is_value_in_rule, meaning, read, read_rules, walk, Placed, Walk, Want, GRAMMAR, NAME};
-use crate::table::{Name, Rule, SlotLine};
+use crate::table::{Name, Pair, SlotLine, NONE};
+use crate::table31::named_pairs;
 use crate::text::Kind;
 use crate::{refusal, Refusal};
 
@@ -18,6 +19,7 @@ fn stays(fault: Fault, statement: &[Placed], at: usize) -> bool {
         (Fault::TruePrinted, Want::Condition, Kind::True) => true,
         (Fault::TruePrinted, Want::TrueOver, Kind::And) => true,
         (Fault::TrueUnprinted, _, Kind::True) => false,
+        (Fault::NoneUnprinted, _, Kind::None) => false,
         (Fault::OneInBraces, Want::Assignments, Kind::Open) => true,
         (Fault::OneInBraces, Want::ListedOver, Kind::Close) => true,
         (Fault::TwoWithoutBraces, Want::Assignments, Kind::Open) => false,
@@ -37,15 +39,16 @@ fn between(fault: Fault, last: Kind, next: Kind) -> &'static str {
     }
 }
 
-/// The names of values in rules, in their order, each the one of its number in the first slot that has so many.
-fn of_first_slots(slots: &[SlotLine], rules: &[Rule]) -> Vec<Name> {
-    let mut names = Vec::new();
-    for rule in rules {
-        let literals = rule.literals.iter().map(|literal| literal.pair);
-        let pairs = std::iter::once(rule.trigger).chain(literals).chain(rule.assignments.iter().copied());
-        names.extend(pairs.filter_map(|(_, value)| slots.iter().find_map(|slot| slot.values.get(value as usize - 1))));
+/// The name that the fault has for a value in a rule, where it is another: the one of its number in the first slot that has so many, or for NONE the first of its slot.
+fn other_name(fault: Fault, slots: &[SlotLine], pair: Pair) -> Option<Name> {
+    match (fault, pair) {
+        (Fault::ValueOfFirstSlot, (_, value)) => {
+            let at = usize::from(value).checked_sub(1)?;
+            slots.iter().find_map(|slot| slot.values.get(at)).copied()
+        }
+        (Fault::NonePrintedAsFirst, (slot, NONE)) => Some(slots[usize::from(slot)].values[0]),
+        _ => None,
     }
-    names
 }
 
 /// The walk of an accepted text, its names placed as the fault has them.
@@ -56,11 +59,14 @@ fn walked(fault: Fault, text: &[u8]) -> Walk {
             let names = walk.placed.iter_mut().filter(|at| at.token.kind == Kind::Name);
             names.for_each(|at| at.token.size = at.token.size.min(NAME - 1));
         }
-        Fault::ValueOfFirstSlot => {
+        Fault::ValueOfFirstSlot | Fault::NonePrintedAsFirst => {
             let (slots, rules) = meaning(text, &walk);
             let values = walk.placed.iter_mut().filter(|at| is_value_in_rule(at));
-            let named = values.zip(of_first_slots(&slots, &rules));
-            named.for_each(|(at, name)| (at.token.start, at.token.size) = (name.range().start, name.range().len()));
+            for (at, pair) in values.zip(named_pairs(&rules)) {
+                if let Some(name) = other_name(fault, &slots, pair) {
+                    (at.token.start, at.token.size) = (name.range().start, name.range().len());
+                }
+            }
         }
         _ => {}
     }

@@ -3,17 +3,48 @@
 use crate::broken_strata::strata;
 use crate::fault::Fault;
 use crate::read::{completed, meaning, refusals, walk, AtToken, Production, Walk, Want, GRAMMAR, TEXT};
-use crate::table::{table_of, LiteralPlace, Rule, SlotLine, Table};
-use crate::text::Kind;
+use crate::table::{table_of, LiteralPlace, Pair, Rule, SlotLine, Table};
+use crate::text::{tokens, Kind};
 use crate::{refusal, Refusal};
 
 /// The grammar that the fault has.
 fn grammar(fault: Fault) -> Vec<Production> {
     let mut grammar = GRAMMAR.to_vec();
-    if fault == Fault::TrueAfterAnd {
-        grammar.push((Want::Literal, Kind::True, Want::TrueOver));
+    match fault {
+        Fault::TrueAfterAnd => grammar.push((Want::Literal, Kind::True, Want::TrueOver)),
+        Fault::NoneAsValueName => grammar.push((Want::ValueName, Kind::None, Want::ValueOver)),
+        Fault::NoneAsSlotName => {
+            let of_slots = GRAMMAR.iter().filter(|production| production.1 == Kind::Name && is_slot(production.0));
+            grammar.extend(of_slots.map(|(want, _, next)| (*want, Kind::None, *next)));
+        }
+        _ => {}
     }
     grammar
+}
+
+/// Whether the name that is wanted is a slot's.
+fn is_slot(want: Want) -> bool {
+    let values = [Want::ValueName, Want::TriggerValue, Want::LiteralValue, Want::OnlyValue, Want::ListedValue];
+    !values.contains(&want)
+}
+
+/// The text with each `none`, of whatever letters, in capitals.
+fn in_capitals(text: &[u8]) -> Vec<u8> {
+    let mut capitals = text.to_vec();
+    for token in tokens(text).iter().filter(|token| token.word(text).eq_ignore_ascii_case(b"NONE")) {
+        capitals[token.start..token.start + token.size].make_ascii_uppercase();
+    }
+    capitals
+}
+
+/// Reads NONE in a rule as the first value.
+fn none_as_first(rules: &mut [Rule]) {
+    let first = |pair: &mut Pair| pair.1 = pair.1.max(1);
+    for rule in rules {
+        first(&mut rule.trigger);
+        rule.literals.iter_mut().for_each(|literal| first(&mut literal.pair));
+        rule.assignments.iter_mut().for_each(first);
+    }
 }
 
 /// The refusals at tokens that the fault leaves or moves.
@@ -25,6 +56,10 @@ fn bent_refusals(fault: Fault, text: &[u8], walk: &Walk) -> Vec<AtToken> {
         Fault::AssignedTwice => found.retain(|at| at.number != 17),
         Fault::DeclaredTwice => found.retain(|at| at.number != 14 || is_slot_name(walk, at.position)),
         Fault::UndeclaredValue => found.retain(|at| at.number != 16 || !is_value(walk, at.position)),
+        Fault::NoneUndeclared => {
+            let nones = walk.placed.iter().filter(|at| at.token.kind == Kind::None);
+            found.extend(nones.map(|at| AtToken { position: at.position, number: 16 }));
+        }
         Fault::NinthLiteralLate => {
             for at in found.iter_mut().filter(|at| at.number == 15 && token(at).kind == Kind::Not) {
                 let rest = walk.tokens[at.position..].iter();
@@ -71,7 +106,13 @@ fn read_rules(fault: Fault, text: &[u8]) -> Result<(Vec<SlotLine>, Vec<Rule>), R
     if text.len() > TEXT - usize::from(fault == Fault::LongestTextRefused) {
         return Err(refusal(10, 0));
     }
+    let capitals = (fault == Fault::NoneInAnyCase).then(|| in_capitals(text));
+    let text = capitals.as_deref().unwrap_or(text);
     let mut walk = walk(text, &grammar(fault));
+    if fault == Fault::NoneAsSlotName {
+        let slots = walk.placed.iter_mut().filter(|at| at.token.kind == Kind::None && is_slot(at.want));
+        slots.for_each(|at| at.token.kind = Kind::Name);
+    }
     let found = bent_refusals(fault, text, &walk);
     if let Some(at) = counting(fault, &found) {
         return Err(refusal(at.number, second_number(fault, &walk, at.position)));
@@ -85,7 +126,11 @@ fn read_rules(fault: Fault, text: &[u8]) -> Result<(Vec<SlotLine>, Vec<Rule>), R
         }
         _ => {}
     }
-    Ok(meaning(text, &walk))
+    let (lines, mut rules) = meaning(text, &walk);
+    if fault == Fault::NoneReadAsFirst {
+        none_as_first(&mut rules);
+    }
+    Ok((lines, rules))
 }
 
 /// Reads a text with a fault.

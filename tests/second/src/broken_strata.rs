@@ -4,8 +4,8 @@ use crate::fault::Fault;
 use crate::other_strata::{each_number, falling, on_any_circle, on_simple_circle};
 use crate::rule_set::RuleSet;
 use crate::strata::{least, on_circle, reached, waits, Waits};
-use crate::table::{Literal, LiteralPlace, Program, Rule, Table};
-use crate::table31::{tested, tested_for_marks, unlayered};
+use crate::table::{Literal, LiteralPlace, Program, Rule, Table, NONE, VALUES};
+use crate::table31::{named_pairs, tested, tested_for_marks, unlayered};
 use crate::{refusal, Refusal};
 
 /// The rules as the fault's strata see them.
@@ -19,6 +19,12 @@ fn bent_rules(fault: Fault, rules: &[Rule]) -> Vec<Rule> {
             Fault::TriggerFree => rule.trigger = (u8::MAX, 0),
             Fault::TriggerFalls => {
                 rule.literals.push(Literal { becomes: true, negated: true, pair: rule.trigger });
+            }
+            Fault::NoneFree => {
+                rule.literals.retain(|literal| literal.pair.1 != NONE);
+                if rule.trigger.1 == NONE {
+                    rule.trigger.0 = u8::MAX;
+                }
             }
             Fault::SlotsBind => {
                 rule.trigger.1 = 1;
@@ -100,6 +106,18 @@ fn unused_literals(table: &Table) -> bool {
     used.flat_map(|rule| rule.literals.iter().skip(rule.tested.into())).any(|place| *place != zero)
 }
 
+/// Whether a program names NONE where the fault does not take it.
+fn none_refused(fault: Fault, program: &Program) -> bool {
+    let mut rules = program.rules.iter();
+    match fault {
+        Fault::NoneTriggerLacking => rules.any(|rule| rule.trigger.1 == NONE),
+        Fault::NoneTestLacking => rules.any(|rule| rule.literals.iter().any(|literal| literal.pair.1 == NONE)),
+        Fault::NoneAssignmentLacking => rules.any(|rule| rule.assignments.iter().any(|pair| pair.1 == NONE)),
+        _ => named_pairs(&program.rules)
+            .any(|(slot, value)| value == NONE && usize::from(program.lasts[usize::from(slot)]) == VALUES),
+    }
+}
+
 /// The test 31 with a fault.
 pub fn program(fault: Fault, table: &Table) -> Result<Program, Refusal> {
     let program = unlayered(table)?;
@@ -118,6 +136,9 @@ pub fn program(fault: Fault, table: &Table) -> Result<Program, Refusal> {
         Fault::ZeroTaken => tested_for_marks(table).is_ok(),
         Fault::UnusedTested => tested(table).is_ok() && !unused_literals(table),
         Fault::NoAssignments => tested(table).is_ok() && program.rules.iter().all(|rule| !rule.assignments.is_empty()),
+        Fault::NoneTriggerLacking | Fault::NoneTestLacking | Fault::NoneAssignmentLacking | Fault::NoneCounted => {
+            tested(table).is_ok() && !none_refused(fault, &program)
+        }
         _ => strata(fault, &program.rules).as_ref() == Ok(&program.strata),
     };
     if passes {

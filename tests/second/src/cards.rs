@@ -97,7 +97,7 @@ pub fn change_fault(program: &Program, before: Option<Pair>, change: Pair) -> Op
     if before.map_or(false, |before| change.0 <= before.0) {
         return Some(26);
     }
-    (!(1..=*last).contains(&change.1)).then_some(27)
+    (change.1 > *last).then_some(27)
 }
 
 /// The number of each change that is faulty, with its position.

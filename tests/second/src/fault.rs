@@ -37,6 +37,16 @@ faults! {
     NinthLiteralLate,
     /// An undeclared value is let through, and the table comes back empty.
     UndeclaredValue,
+    /// NONE in a rule is 16.
+    NoneUndeclared,
+    /// NONE in a slot line is the name of a value.
+    NoneAsValueName,
+    /// NONE is a slot's name where one may stand.
+    NoneAsSlotName,
+    /// `none` and `None` are taken for NONE.
+    NoneInAnyCase,
+    /// NONE is read as the first value.
+    NoneReadAsFirst,
     /// 18 names the highest rule on a circle through a NOT.
     HighestOnCircle,
     /// 18 names the lowest rule that gets no stratum, on a circle through a NOT or behind one.
@@ -69,6 +79,8 @@ faults! {
     TriggerFree,
     /// A test of a slot binds to all its values.
     SlotsBind,
+    /// A test of NONE binds nothing.
+    NoneFree,
     /// Each stratum is one too high.
     StrataTooHigh,
     /// A refused reading gives the table all the same.
@@ -79,6 +91,8 @@ faults! {
     NameAtEnd,
     /// Names are shown only from tables that pass 31.
     NameTested,
+    /// The name of value 0 is shown, as that of the first value.
+    NoneShown,
     /// Any numbers are let through as strata.
     StrataUntested,
     /// Any strata are let through, the least or not.
@@ -93,6 +107,14 @@ faults! {
     UnusedTested,
     /// A table's rule without assignments is 31.
     NoAssignments,
+    /// Value 0 in a trigger is 31.
+    NoneTriggerLacking,
+    /// Value 0 in a literal is 31.
+    NoneTestLacking,
+    /// Value 0 in an assignment is 31.
+    NoneAssignmentLacking,
+    /// A slot of 15 values is 31 where a rule names its NONE.
+    NoneCounted,
     /// Fields are packed least significant bit first.
     LeastBitFirst,
     /// A card's padding is not tested.
@@ -109,8 +131,10 @@ faults! {
     SlotNotBelow,
     /// Of all faulty changes the smallest number counts, wherever it stands.
     NumberBeforePosition,
-    /// A change to value 0 is accepted.
-    ZeroChange,
+    /// A change to value 0 is 27.
+    WithdrawalRefused,
+    /// Packing refuses a change to value 0 with 27.
+    PackedWithdrawalRefused,
     /// The slip is tested before the card.
     SlipFirst,
     /// Packing a slip needs 37 bytes.
@@ -125,6 +149,12 @@ faults! {
     EmptyNeverBecomes,
     /// `NOT s |= v` is false where the card has no value in s.
     EmptyNeverNegated,
+    /// `s *= NONE` holds where the card has no value in s and the withdrawal is in C.
+    EmptyWithdrawn,
+    /// `s *= NONE` never holds.
+    NoneNeverBecomes,
+    /// `s |= NONE` never holds.
+    EmptyNeverNone,
     /// A rule's first false literal is ignored.
     FirstFalseIgnored,
     /// Rules are fired in number order, strata are not looked at.
@@ -143,14 +173,24 @@ faults! {
     StopsAtConflict,
     /// A later value of C wins and nothing is 40.
     NoConflict,
+    /// A withdrawal beside a value is no conflict, and the value wins.
+    WithdrawalOverruled,
+    /// A withdrawal beside a value is no conflict, and the withdrawal wins.
+    WithdrawalOverrules,
     /// The fired record has the last rule first.
     RecordReversed,
     /// The padding of the fired record is ones.
     RecordPadding,
     /// The new card is the card that was given.
     CardReturned,
+    /// The new card keeps a value that is withdrawn.
+    WithdrawnKept,
     /// The changes are without those that repeat the card's value.
     RepeatsLeftOut,
+    /// The changes are without withdrawals.
+    WithdrawalsLeftOut,
+    /// The changes are without withdrawals of what is not there.
+    EmptyWithdrawalsLeftOut,
     /// Nothing fires.
     NothingFires,
     /// Outputs are cleared beyond what is written.
@@ -261,6 +301,18 @@ faults! {
     TrueAndUnknown,
     /// By marks, `s *= v` goes by the mark alone where the card has v.
     HadByMark,
+    /// By marks, `s *= NONE` goes by the mark alone where the card has no value in s.
+    EmptyByMark,
+    /// By marks, `s |= NONE` never holds.
+    MarkedNeverNone,
+    /// 42 does not look at NONE; where it stays unknown it is taken as negative.
+    NoneUnmarked,
+    /// A positive value leaves NONE of its slot unknown.
+    NoneNoRival,
+    /// A positive NONE leaves the values of its slot unknown.
+    NoneWithoutRivals,
+    /// NONE is ruled out from the start where the card has no value.
+    EmptyRuledOut,
     /// A pair is ruled out though the last rule that assigns it is not false.
     AssignerUnseen,
     /// A rule's trigger is not looked at where a pair is ruled out.
@@ -315,6 +367,10 @@ faults! {
     LongNameCut,
     /// A value in a rule is printed as the value of its number in the first slot that has so many.
     ValueOfFirstSlot,
+    /// NONE is not printed.
+    NoneUnprinted,
+    /// NONE is printed as the first value of its slot.
+    NonePrintedAsFirst,
     /// `|=` is printed as `*=`.
     WasAsChangesTo,
     /// Slots are printed in the order of their names.

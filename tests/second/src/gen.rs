@@ -3,10 +3,10 @@
 use crate::cards::{card_bytes, card_length, slip_bytes, slip_length};
 use crate::gen_print::long_print;
 use crate::gen_rules::{chain, sketch, Ranks, SHAPES};
-use crate::gen_text::{crowd, damage_bytes, damage_condition, damage_near, damage_tokens, double};
+use crate::gen_text::{crowd, damage_bytes, damage_condition, damage_near, damage_none, damage_tokens, double};
 use crate::gen_text::{join, sketch_tokens, Sketch};
 use crate::read::TEXT;
-use crate::table::Pair;
+use crate::table::{Pair, NONE};
 
 /// A seeded xorshift generator.
 pub struct Rng(u64);
@@ -92,6 +92,7 @@ fn damage_file(rng: &mut Rng, tokens: &mut Vec<String>, way: usize) {
     match way {
         2 | 3 => (0..1 + rng.below(2)).for_each(|_| damage_tokens(rng, tokens)),
         4 => damage_condition(rng, tokens),
+        7 => damage_none(rng, tokens),
         _ => {}
     }
     if way < 5 && rng.chance(if way == 0 { 2 } else { 1 }, 3) {
@@ -141,7 +142,7 @@ pub fn card_values(rng: &mut Rng, sketch: &Sketch) -> Vec<u8> {
     sketch.likely.iter().zip(sketch.lasts()).map(value).collect()
 }
 
-/// Changes of rising slots, often those that rules wait for; now and then one alone, if it can be one that no rule makes.
+/// Changes of rising slots, often those that rules wait for, withdrawals among them; now and then one alone, if it can be one that no rule makes.
 pub fn slip_changes(rng: &mut Rng, sketch: &Sketch) -> Vec<Pair> {
     let often = 1 + rng.below(6);
     let mut changes = Vec::new();
@@ -150,7 +151,7 @@ pub fn slip_changes(rng: &mut Rng, sketch: &Sketch) -> Vec<Pair> {
             sketch.rules.iter().filter(|rule| rule.trigger.0 == slot as u8).map(|rule| rule.trigger.1).collect();
         if rng.chance(often + usize::from(!awaited.is_empty()), 6) {
             let value = if awaited.is_empty() || rng.chance(1, 4) {
-                1 + rng.below(last as usize) as u8
+                rng.below(last as usize + 1) as u8
             } else {
                 *rng.pick(&awaited)
             };
@@ -222,7 +223,7 @@ pub fn slip(rng: &mut Rng, sketch: &Sketch) -> Vec<u8> {
     bytes
 }
 
-/// Repeats, swaps or changes changes, once or twice.
+/// Repeats, swaps or changes changes, or makes them withdrawals, once or more.
 pub fn damage_changes(rng: &mut Rng, changes: &mut Vec<Pair>) {
     for _ in 0..1 + rng.below(3) {
         let (at, other) = (rng.below(changes.len().max(1)), rng.below(changes.len().max(1)));
@@ -232,7 +233,7 @@ pub fn damage_changes(rng: &mut Rng, changes: &mut Vec<Pair>) {
             1 => changes.swap(at, other),
             2 => changes[at].0 = rng.below(32) as u8,
             3 => changes[at].1 = rng.below(16) as u8,
-            _ => changes[at].1 = 0,
+            _ => changes[at].1 = NONE,
         }
     }
 }

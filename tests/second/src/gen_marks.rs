@@ -3,7 +3,7 @@
 use std::collections::HashSet;
 
 use crate::gen::{plain_file, File, Rng};
-use crate::gen_rules::{chain, sketch, Ranks, Shape};
+use crate::gen_rules::{chain, pairs_of, sketch, Ranks, Shape};
 use crate::gen_text::{names, Sketch};
 use crate::table::{Literal, Pair, Rule, LITERALS, RULES, VALUES};
 
@@ -25,11 +25,8 @@ impl Ground {
         let empty = rng.below(3);
         let card = |last: &u8| if rng.chance(empty, 2) { 0 } else { rng.below(usize::from(*last) + 1) as u8 };
         let likely: Vec<u8> = lasts.iter().map(card).collect();
-        let all = |slot: usize| (1..=lasts[slot]).map(move |value| (slot as u8, value));
-        let (starting, brought): (Vec<usize>, Vec<usize>) =
-            (0..lasts.len()).partition(|slot| *slot == 0 || slot + 4 < lasts.len());
-        let mut starts: Vec<Pair> = starting.into_iter().flat_map(all).collect();
-        let mut pairs: Vec<Pair> = brought.into_iter().flat_map(all).collect();
+        let (mut starts, mut pairs): (Vec<Pair>, Vec<Pair>) =
+            pairs_of(rng, lasts).into_iter().partition(|pair| pair.0 == 0 || usize::from(pair.0) + 4 < lasts.len());
         rng.shuffle(&mut pairs);
         if pairs.is_empty() {
             pairs = starts.clone();
@@ -189,11 +186,12 @@ pub fn small(rng: &mut Rng) -> Sketch {
     sketch(rng, &shape)
 }
 
-/// A sketch whose rules share a trigger and are one chain, up to the limit of rules, of which no slip need bring the first pair: pairs are ruled out one after another, or under NOT brought and ruled out in turn. In this order, in the other, or in any.
+/// A sketch whose rules share a trigger and are one chain, up to the limit of rules, of which no slip need bring the first pair: pairs are ruled out one after another, or under NOT brought and ruled out in turn. In this order, in the other, or in any. Of each slot the pairs begin with a value or with NONE; the slots then have their last value, which no pair of the chain has.
 fn fading(rng: &mut Rng) -> Sketch {
     let slots = 2 + rng.below(17);
     let trigger = (slots as u8 - 1, 1);
-    let pair = |link: usize| ((link / VALUES) as u8, (link % VALUES) as u8 + 1);
+    let first = rng.below(2);
+    let pair = |link: usize| ((link / VALUES) as u8, (link % VALUES + first) as u8);
     let nots = *rng.pick(&[0, 0, 1, 8]);
     let link = |link: usize| Rule {
         trigger,
@@ -208,7 +206,8 @@ fn fading(rng: &mut Rng) -> Sketch {
     }
     let slot_names = names(rng, slots);
     let names = slot_names.into_iter().map(|name| (name, names(rng, VALUES))).collect();
-    Sketch { names, rules, likely: vec![0; slots] }
+    let had = if first == 0 { VALUES } else { 0 };
+    Sketch { names, rules, likely: vec![had as u8; slots] }
 }
 
 /// A file for the response by marks: small or large, seldom a chain.

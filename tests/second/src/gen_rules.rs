@@ -4,7 +4,7 @@ use std::collections::HashSet;
 
 use crate::gen::Rng;
 use crate::gen_text::{names, Sketch};
-use crate::table::{Literal, Pair, Rule, RULES, SLOTS, VALUES};
+use crate::table::{Literal, Pair, Rule, NONE, RULES, SLOTS, VALUES};
 
 /// What the ranks of pairs hold the rules of a file to.
 #[derive(Clone, Copy, PartialEq, Eq, Debug)]
@@ -39,13 +39,14 @@ pub const SHAPES: [Shape; 5] = [
     Shape { slots: 32, values: 15, rules: 255, literals: 8, assignments: 4, ranks: Ranks::Level },
 ];
 
-/// All pairs of slots and values, in any order.
-fn shuffled_pairs(rng: &mut Rng, lasts: &[u8]) -> Vec<Pair> {
+/// The pairs of slots and values that rules are made of, by slot and value: of so many slots in four also the pair with NONE.
+pub fn pairs_of(rng: &mut Rng, lasts: &[u8]) -> Vec<Pair> {
+    let often = *rng.pick(&[0, 1, 2, 4]);
     let mut pairs: Vec<Pair> = Vec::new();
     for (slot, last) in lasts.iter().enumerate() {
-        pairs.extend((1..=*last).map(|value| (slot as u8, value)));
+        let first = if rng.chance(often, 4) { NONE } else { NONE + 1 };
+        pairs.extend((first..=*last).map(|value| (slot as u8, value)));
     }
-    rng.shuffle(&mut pairs);
     pairs
 }
 
@@ -60,15 +61,15 @@ fn busy_pairs(rng: &mut Rng, pairs: &[Pair]) -> Vec<Pair> {
 }
 
 /// The ranks of pairs by slot and value, rising with their order: each pair has its own or, where rules may stay level, a few ranks are shared by all.
-fn ranks_of(rng: &mut Rng, pairs: &[Pair], ranks: Ranks) -> Vec<[usize; VALUES]> {
+fn ranks_of(rng: &mut Rng, pairs: &[Pair], ranks: Ranks) -> Vec<[usize; VALUES + 1]> {
     let most = match ranks {
         Ranks::Level => pairs.len().min(*rng.pick(&[1, 2, 2, 3, 3, 4, 6])),
         Ranks::Planted => pairs.len().min(1 + rng.below(3)),
         _ => pairs.len(),
     };
-    let mut found = vec![[0; VALUES]; SLOTS];
+    let mut found = vec![[0; VALUES + 1]; SLOTS];
     for (at, (slot, value)) in pairs.iter().enumerate() {
-        found[usize::from(*slot)][usize::from(*value) - 1] = at * most / pairs.len();
+        found[usize::from(*slot)][usize::from(*value)] = at * most / pairs.len();
     }
     found
 }
@@ -78,14 +79,14 @@ struct Ground {
     shape: Shape,
     all: Vec<Pair>,
     busy: Vec<Pair>,
-    ranks: Vec<[usize; VALUES]>,
+    ranks: Vec<[usize; VALUES + 1]>,
     likely: Vec<u8>,
 }
 
 impl Ground {
     /// The rank of a pair.
     fn rank(&self, pair: &Pair) -> usize {
-        self.ranks[usize::from(pair.0)][usize::from(pair.1) - 1]
+        self.ranks[usize::from(pair.0)][usize::from(pair.1)]
     }
 
     /// Whether a rule that assigns no pair below a rank may test a pair by `*=`.
@@ -308,7 +309,8 @@ pub fn sketch(rng: &mut Rng, shape: &Shape) -> Sketch {
     let names: Vec<(String, Vec<String>)> = named.collect();
     let lasts: Vec<u8> = names.iter().map(|slot| slot.1.len() as u8).collect();
     let likely: Vec<u8> = lasts.iter().map(|last| rng.below(*last as usize + 1) as u8).collect();
-    let all = shuffled_pairs(rng, &lasts);
+    let mut all = pairs_of(rng, &lasts);
+    rng.shuffle(&mut all);
     let changing: Vec<Pair> = all.iter().copied().filter(|pair| likely[pair.0 as usize] != pair.1).collect();
     let busy = busy_pairs(rng, if changing.len() > 1 { &changing } else { &all });
     let ranks = ranks_of(rng, &all, shape.ranks);
@@ -318,10 +320,11 @@ pub fn sketch(rng: &mut Rng, shape: &Shape) -> Sketch {
     Sketch { names, rules, likely: ground.likely }
 }
 
-/// A sketch whose rules are one chain, up to the limit of rules: each waits for what the one before assigns, plainly, under NOT with one trigger for all, or the one or the other; in this order, in the other, or in any; the chain now and then closed to a circle.
+/// A sketch whose rules are one chain, up to the limit of rules: each waits for what the one before assigns, plainly, under NOT with one trigger for all, or the one or the other; in this order, in the other, or in any; the chain now and then closed to a circle. Its pairs begin with a value or with NONE, of slots that then have a value which no pair of the chain has.
 pub fn chain(rng: &mut Rng) -> Sketch {
     let count = *rng.pick(&[8, SLOTS - 2, SLOTS - 2, SLOTS - 2, 120, RULES]);
-    let pair = |at: usize| ((at % SLOTS) as u8, (at / SLOTS + 1) as u8);
+    let first = rng.below(2);
+    let pair = |at: usize| ((at % SLOTS) as u8, (at / SLOTS + first) as u8);
     let values = count / SLOTS + 2;
     let trigger = (SLOTS as u8 - 1, values as u8);
     let negated = *rng.pick(&[0, 1, 2, 2]);
@@ -343,5 +346,6 @@ pub fn chain(rng: &mut Rng) -> Sketch {
     }
     let slot_names = names(rng, SLOTS);
     let names = slot_names.into_iter().map(|name| (name, names(rng, values))).collect();
-    Sketch { names, rules, likely: vec![0; SLOTS] }
+    let had = if first == 0 { values - 1 } else { 0 };
+    Sketch { names, rules, likely: vec![had as u8; SLOTS] }
 }

@@ -2,7 +2,7 @@
 
 use crate::gen::Rng;
 use crate::read::{refusals, walk, GRAMMAR};
-use crate::table::{Literal, Pair, Rule};
+use crate::table::{Literal, Pair, Rule, NONE};
 
 /// What a file is to say: names of slots and values, rules by their pairs, and a card that fits many of its conditions.
 #[derive(Clone, Debug)]
@@ -20,7 +20,8 @@ impl Sketch {
 }
 
 /// Words that look reserved and are names.
-const NEARLY_RESERVED: [&str; 8] = ["slot", "IF-", "TRUE0", "WHENx", "Then", "ANDAND", "not", "NONE"];
+const NEARLY_RESERVED: [&str; 11] =
+    ["slot", "IF-", "TRUE0", "WHENx", "Then", "ANDAND", "not", "none", "None", "NONE-", "NONEs"];
 
 /// A name that is not among those given.
 pub fn fresh_name(rng: &mut Rng, taken: &[String]) -> String {
@@ -36,7 +37,7 @@ pub fn fresh_name(rng: &mut Rng, taken: &[String]) -> String {
         if rng.chance(1, 30) {
             name = rng.pick(&NEARLY_RESERVED).to_string();
         }
-        let reserved = ["SLOT", "WHEN", "IF", "THEN", "AND", "NOT", "TRUE"].contains(&name.as_str());
+        let reserved = ["SLOT", "WHEN", "IF", "THEN", "AND", "NOT", "TRUE", "NONE"].contains(&name.as_str());
         if !reserved && !taken.contains(&name) {
             return name;
         }
@@ -134,7 +135,11 @@ fn slot_tokens(slot: &(String, Vec<String>)) -> Vec<String> {
 /// The tokens of a pair with a mark between.
 fn pair_tokens(sketch: &Sketch, pair: Pair, mark: &str) -> Vec<String> {
     let slot = &sketch.names[pair.0 as usize];
-    vec![slot.0.clone(), mark.to_string(), slot.1[pair.1 as usize - 1].clone()]
+    let value = match pair.1 {
+        NONE => "NONE".to_string(),
+        value => slot.1[value as usize - 1].clone(),
+    };
+    vec![slot.0.clone(), mark.to_string(), value]
 }
 
 /// The tokens of a condition: TRUE where it is empty and sometimes before literals, more NOTs than needed now and then.
@@ -181,7 +186,7 @@ pub fn sketch_tokens(rng: &mut Rng, sketch: &Sketch) -> Vec<String> {
 
 /// Swaps, drops, doubles or replaces a token.
 pub fn damage_tokens(rng: &mut Rng, tokens: &mut Vec<String>) {
-    let words = ["SLOT", "WHEN", "IF", "THEN", "AND", "NOT", "TRUE", "{", "}", ",", ";", "*=", "|=", ":="];
+    let words = ["SLOT", "WHEN", "IF", "THEN", "AND", "NOT", "TRUE", "NONE", "{", "}", ",", ";", "*=", "|=", ":="];
     let odd = ["(", "*", "=", "-", "#", "aaaaaaaaaaaaaaaaaaaaaaaa", "aaaaaaaaaaaaaaaaaaaaaaaab", "zz", "\u{7f}"];
     let (at, other) = (rng.below(tokens.len()), rng.below(tokens.len()));
     match rng.below(7) {
@@ -212,6 +217,20 @@ pub fn damage_condition(rng: &mut Rng, tokens: &mut Vec<String>) {
     tokens.splice(at..at, words);
 }
 
+/// Puts NONE in the place of a name, or of what may stand there: of a slot or a value in a slot line or in a rule; or another word in the place of NONE.
+pub fn damage_none(rng: &mut Rng, tokens: &mut [String]) {
+    let places = |fits: &dyn Fn(usize) -> bool| (1..tokens.len()).filter(|at| fits(*at)).collect::<Vec<usize>>();
+    let nones = places(&|at| tokens[at] == "NONE");
+    let last = *rng.pick(&["SLOT", "{", ",", "WHEN", "IF", "NOT", "AND", "THEN", "*=", "|=", ":="]);
+    let after = places(&|at| tokens[at - 1] == last);
+    if !nones.is_empty() && rng.chance(1, 2) {
+        tokens[*rng.pick(&nones)] =
+            rng.pick(&["none", "None", "NONE-", "NONEs", "NON", "TRUE", "NONE NONE"]).to_string();
+    } else if !after.is_empty() {
+        tokens[*rng.pick(&after)] = "NONE".to_string();
+    }
+}
+
 /// Damages a token at the place where the reading is refused, or next to it.
 pub fn damage_near(rng: &mut Rng, tokens: &mut Vec<String>) {
     let text = tokens.join(" ").into_bytes();
@@ -224,7 +243,7 @@ pub fn damage_near(rng: &mut Rng, tokens: &mut Vec<String>) {
     };
     let at = first.position + rng.below(3);
     if at < tokens.len() {
-        let odd = ["(", "TRUE", ";", "zz", "n".repeat(25).as_str(), "SLOT", "NOT", "AND"].map(String::from);
+        let odd = ["(", "TRUE", ";", "zz", "n".repeat(25).as_str(), "SLOT", "NOT", "AND", "NONE"].map(String::from);
         match rng.below(3) {
             0 => tokens.truncate(at),
             1 => tokens[at] = rng.pick(&odd).clone(),

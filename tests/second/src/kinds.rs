@@ -1,10 +1,11 @@
-//! The kinds of rules, responses and tables that strata and circles tell apart, and of calls by their editors, for the tests to hold the generator to.
+//! The kinds of rules, responses and tables that strata and circles tell apart, of texts and responses with NONE, and of calls by their editors, for the tests to hold the generator to.
 
 use std::collections::BTreeSet;
 
 use crate::broken_firing::{one_pass, together};
 use crate::cards::{unpack_card, unpack_slip};
 use crate::fault::Fault;
+use crate::none_kinds::{none_kinds, withdrawal_kinds};
 use crate::other_strata::{each_number, falling, on_any_circle, on_simple_circle};
 use crate::read::read_rules;
 use crate::response::{enabled, fire, Changes, Firing};
@@ -12,12 +13,12 @@ use crate::rule_set::RuleSet;
 use crate::strata::{least, on_circle, reached, waits, Waits};
 use crate::table::{Pair, Program, Rule, Table};
 use crate::table31::{tested, unlayered};
-use crate::{broken_firing, broken_reading};
+use crate::{broken_firing, broken_reading, broken_strata};
 
-/// Makes the enum of kinds and the lists of those of rules, texts, responses and tables.
+/// Makes the enum of kinds and their lists, each of what it tells apart.
 macro_rules! kinds {
     ($($(#[$about:meta])* $list:ident { $($(#[$sentence:meta])* $name:ident,)* })*) => {
-        /// A kind of rules, of a response, of a table or of a call.
+        /// A kind of rules, of a text or its print, of a response, of a table or of a call.
         #[derive(Clone, Copy, PartialEq, Eq, PartialOrd, Ord, Debug)]
         pub enum Kind {
             $($($(#[$sentence])* $name,)*)*
@@ -52,12 +53,46 @@ kinds! {
         WideMixed,
         /// 18: a plain circle has a lower rule than the one named.
         PlainCircleLower,
+        /// Accepted: other strata than if tests of NONE bound nothing.
+        NoneBinds,
+        /// 18, but accepted if tests of NONE bound nothing.
+        NoneCircle,
     }
 
     /// The kinds of a text besides those of its rules.
     TEXT_KINDS {
         /// Accepted, but 18 if an even number of NOTs did not cancel.
         CancelledNots,
+        /// A trigger names NONE.
+        NoneTrigger,
+        /// A literal asks whether a value is withdrawn.
+        NoneAwaited,
+        /// A literal asks under NOT whether a value is withdrawn.
+        NoneBarred,
+        /// A literal asks whether the card has no value.
+        NoneHad,
+        /// A literal asks under NOT whether the card has no value.
+        NoneNotHad,
+        /// A rule assigns NONE.
+        NoneAssigned,
+        /// A name is `none` in other letters, or goes on after it.
+        LikeNone,
+    }
+
+    /// The kinds of a text that is 12 at NONE.
+    NONE_REFUSED_KINDS {
+        /// NONE stands for a slot's name in a slot line.
+        NoneAsSlot,
+        /// NONE stands for a value's name in a slot line.
+        NoneAsValue,
+        /// NONE stands for a slot's name in a rule.
+        NoneAsRuleSlot,
+    }
+
+    /// The kinds of a print.
+    PRINT_KINDS {
+        /// NONE is printed.
+        NonePrinted,
     }
 
     /// The kinds of a response.
@@ -76,6 +111,24 @@ kinds! {
         SecondPass,
         /// One pass over each stratum leaves out 15 rules or more.
         ManyPasses,
+        /// An answer that withdraws what the card has.
+        Withdrawn,
+        /// An answer in which a rule withdraws what the card has, and not the slip.
+        WithdrawnByRule,
+        /// An answer with a withdrawal of what the card does not have.
+        NothingWithdrawn,
+        /// A rule fires that waits for a withdrawal in its trigger.
+        WokenByWithdrawal,
+        /// Other rules fire where a withdrawal of what the card does not have makes `*= NONE` true.
+        UnwokenByNothing,
+        /// A rule fires that asks `|= NONE`.
+        NoneHeld,
+        /// A rule fires that asks `NOT .. |= NONE`.
+        NotNoneHeld,
+        /// A rule fires that asks `NOT .. *= NONE`.
+        UnwithdrawnHeld,
+        /// 40 of a slot with a withdrawal.
+        WithdrawalConflict,
     }
 
     /// The kinds of a table by its strata.
@@ -94,6 +147,8 @@ kinds! {
         Gap,
         /// The least that fall at plain tests too, where they are not the least.
         Falling,
+        /// The least if tests of NONE bound nothing, where they are not the least.
+        NoneUnbound,
         /// One number one too low, but not 0.
         OneTooLow,
         /// A number 0.
@@ -128,6 +183,16 @@ kinds! {
         OutLate,
         /// A pair is ruled out at the thirtieth pass or later.
         OutVeryLate,
+        /// An answer in which a rule withdraws what the card has, and not the slip.
+        MarkWithdrawn,
+        /// An answer in which a rule fires that waits for a withdrawal in its trigger.
+        MarkWoken,
+        /// An answer in which a rule fires that asks `NOT .. *= NONE`, though a rule could withdraw that value.
+        NoneRuledOut,
+        /// 41 where no slot would have two values but for withdrawals.
+        NoneClashes,
+        /// 42 where only withdrawals stay unknown.
+        NoneUnknown,
     }
 
     /// The kinds of a table by its strata, where it is asked by marks.
@@ -206,6 +271,11 @@ fn is_chained(waits: &[Waits]) -> bool {
     on_any_circle(waits).is_empty() && (0..waits.len()).any(second)
 }
 
+/// The strata of rules if tests of NONE bound nothing, or the rule that 18 would name.
+fn without_none(rules: &[Rule]) -> Result<Vec<u8>, usize> {
+    broken_strata::strata(Fault::NoneFree, rules)
+}
+
 /// The kinds of rules.
 pub fn rule_kinds(rules: &[Rule]) -> Vec<Kind> {
     let waits = waits(rules);
@@ -219,6 +289,7 @@ pub fn rule_kinds(rules: &[Rule]) -> Vec<Kind> {
             (Kind::CircleAbove, all().any(|at| size(&rounds[at]) > 1 && numbers[at] > 1)),
             (Kind::PlainChain, is_chained(&waits)),
             (Kind::DeepStrata, numbers.iter().any(|number| *number >= 100)),
+            (Kind::NoneBinds, without_none(rules) != Ok(numbers)),
         ]),
         (None, Some(named)) => {
             let mixed = !on_simple_circle(&waits).contains(named);
@@ -228,6 +299,7 @@ pub fn rule_kinds(rules: &[Rule]) -> Vec<Kind> {
                 (Kind::Mixed, mixed),
                 (Kind::WideMixed, mixed && size(&rounds[*named]) > 4),
                 (Kind::PlainCircleLower, on_any_circle(&waits)[0] < *named),
+                (Kind::NoneCircle, without_none(rules).is_ok()),
             ])
         }
         (None, None) => Vec::new(),
@@ -243,7 +315,7 @@ pub fn text_kinds(text: &[u8]) -> Vec<Kind> {
     let accepted = least(&waits(&rules)).is_some();
     let refused = |fault| broken_reading::read(fault, text).0.is_some();
     let cancelled = holding(&[(Kind::CancelledNots, accepted && refused(Fault::NotsStay))]);
-    [rule_kinds(&rules), cancelled].concat()
+    [rule_kinds(&rules), cancelled, none_kinds(text, &rules)].concat()
 }
 
 /// Whether all rules of a circle have fired, and whether the slip has a pair that they assign.
@@ -279,7 +351,7 @@ pub fn response_kinds(table: &Table, card: &[u8], slip: &[u8]) -> Vec<Kind> {
         let own: Changes = firing.changes.iter().chain(&program.rules[at].assignments).copied().collect();
         !set.has(at) && enabled(&card, &own, &program.rules[at])
     };
-    holding(&[
+    let by_circles = holding(&[
         (Kind::CircleBySlip, circles.contains(&true)),
         (Kind::CircleByRule, circles.contains(&false)),
         (Kind::Uncaused, fired(&together(&program, &card, &slip)) != set),
@@ -287,7 +359,8 @@ pub fn response_kinds(table: &Table, card: &[u8], slip: &[u8]) -> Vec<Kind> {
         (Kind::StrataMatter, unordered != set),
         (Kind::SecondPass, once != set),
         (Kind::ManyPasses, size(&once) + 15 <= size(&set)),
-    ])
+    ]);
+    [by_circles, withdrawal_kinds(&program, &card, &slip, &firing)].concat()
 }
 
 /// The kinds of a table by its strata, where nothing else is 31.
@@ -317,6 +390,7 @@ pub fn table_kinds(table: &Table) -> Vec<Kind> {
         (Kind::CircleLiftedAbove, exact && wrong.iter().any(|at| wanted[*at] > 1)),
         (Kind::Gap, strata && !exact),
         (Kind::Falling, !right && least(&falling(&waits)).as_ref() == Some(given)),
+        (Kind::NoneUnbound, !right && without_none(&program.rules).as_ref() == Ok(given)),
         (Kind::OneTooLow, wrong.len() == 1 && wrong.iter().all(one_lower)),
         (Kind::Zero, zero),
     ])

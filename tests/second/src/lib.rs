@@ -30,6 +30,7 @@ pub mod mark_checks;
 pub mod mark_kinds;
 pub mod mark_lines;
 pub mod marks;
+pub mod none_kinds;
 pub mod orders;
 pub mod other_strata;
 pub mod print;

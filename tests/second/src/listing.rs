@@ -4,7 +4,7 @@ use crate::cards::{card_length, slip_length, unpack_slip, CHANGES};
 use crate::editors::{fresh, is_editor, Caller, Tally};
 use crate::read::read;
 use crate::response::{respond, Outputs};
-use crate::table::{Name, Table, RULES};
+use crate::table::{Name, Pair, Table, NONE, RULES};
 use crate::table31::{slot_name, tested, value_name};
 use crate::{refusal, Refusal};
 
@@ -45,12 +45,16 @@ fn rule_lines(table: &Table, fired: &[u8]) -> String {
     (0..table.count as usize).map(line).collect()
 }
 
-/// A line for each change in slot order.
+/// A line for each change in slot order, the word NONE where a value is withdrawn.
 fn change_lines(text: &[u8], table: &Table, changes: &[u8]) -> Result<String, Refusal> {
     let word = |name: Name| String::from_utf8_lossy(&text[name.range()]).into_owned();
-    let line = |pair: (u8, u8)| {
+    let line = |pair: Pair| {
         let slot = word(slot_name(text, table, pair.0)?);
-        Ok(format!("change {} {}\n", slot, word(value_name(text, table, pair.0, pair.1)?)))
+        let value = match pair.1 {
+            NONE => "NONE".to_string(),
+            value => word(value_name(text, table, pair.0, value)?),
+        };
+        Ok(format!("change {slot} {value}\n"))
     };
     unpack_slip(&tested(table)?, changes)?.into_iter().map(line).collect()
 }

@@ -1,6 +1,6 @@
 //! Sections 3 and 5 of document 02 by experiment: all orders of selection end alike and as the response by marks does; firing orders, the strata response, rearranged files and files with their literals in another order agree with it.
 
-use std::collections::BTreeSet;
+use std::collections::{BTreeMap, BTreeSet};
 
 use crate::cards::{card_bytes, slip_bytes, unpack_slip};
 use crate::engine::{Engine, Way};
@@ -8,6 +8,8 @@ use crate::firing_checks::{check_rearranged, fired_positions, given, given_by, G
 use crate::gen::{card_values, plain_file, slip_changes, File, Rng};
 use crate::gen_marks::small;
 use crate::gen_text::Sketch;
+use crate::kinds::Kind;
+use crate::mark_kinds::mark_kinds;
 use crate::marks::{decided, Mark, Moment};
 use crate::orders::{complete_orders, complete_sets, consistent_ends};
 use crate::other_strata::falling;
@@ -41,7 +43,7 @@ impl Outcomes {
     }
 }
 
-/// What was counted over many checks: responses of files that 18 refuses, of files with strata, and of those with strata in which plain tests fall too; how often all orders of selection were tried, and how often some by chance; of the answers those where a firing order comes to a conflict; of those with 41 those that leave a pair unknown; those with 42 where the strata response answers, and where it gives 40; the files whose literals came into another order.
+/// What was counted over many checks: responses of files that 18 refuses, of files with strata, and of those with strata in which plain tests fall too; how often all orders of selection were tried, and how often some by chance; of the answers those where a firing order comes to a conflict; of those with 41 those that leave a pair unknown; those with 42 where the strata response answers, and where it gives 40; the files whose literals came into another order; the kinds of responses.
 #[derive(Default, Debug)]
 pub struct MarkCounts {
     pub circled: Outcomes,
@@ -54,6 +56,7 @@ pub struct MarkCounts {
     pub unknown_answered: usize,
     pub unknown_conflicts: usize,
     pub moved: usize,
+    pub kinds: BTreeMap<Kind, usize>,
 }
 
 /// A file with what is asked of it: its sketch, its program, its table as read without test 18, and a card and a slip.
@@ -205,6 +208,7 @@ fn check_moved(
 fn check(engine: &mut dyn Engine, asked: &Asked, rng: &mut Rng, counts: &mut MarkCounts) -> Result<(), String> {
     let (card, slip) = asked.packed();
     let given = given_by(engine, Way::Marks, asked.table, &card, &slip);
+    mark_kinds(asked.table, &card, &slip).into_iter().for_each(|kind| *counts.kinds.entry(kind).or_default() += 1);
     check_selections(asked, &given, rng, counts)?;
     check_firing(asked, &given, counts)?;
     check_strata(engine, asked, &given, counts)?;

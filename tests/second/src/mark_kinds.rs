@@ -5,6 +5,7 @@ use crate::cards::{unpack_card, unpack_slip};
 use crate::fault::Fault;
 use crate::kinds::{holding, Kind};
 use crate::marks::{decided, is_true, open_pairs, selection, Mark, Moment};
+use crate::none_kinds::mark_withdrawal_kinds;
 use crate::response::{conflict, enabled, fire};
 use crate::strata::{least, on_circle, waits};
 use crate::table::{Pair, Program, Table};
@@ -55,7 +56,7 @@ pub fn mark_kinds(table: &Table, card: &[u8], slip: &[u8]) -> Vec<Kind> {
         conflict(&fire(&layered, &slip, |changes, rule| enabled(&card, changes, rule)).changes).is_some()
     });
     let (passes, by_firing) = passes(&program, &card, &slip);
-    holding(&[
+    let by_circles = holding(&[
         (Kind::CircleAnswered, number == 0 && circled),
         (Kind::CircleFired, number == 0 && end.fired.iter().any(|at| circle.contains(at))),
         (Kind::OrderConflicts, number == 0 && conflict(&unordered.changes).is_some()),
@@ -68,7 +69,8 @@ pub fn mark_kinds(table: &Table, card: &[u8], slip: &[u8]) -> Vec<Kind> {
         (Kind::OutByFiring, by_firing),
         (Kind::OutLate, passes >= 4),
         (Kind::OutVeryLate, passes >= 30),
-    ])
+    ]);
+    [by_circles, mark_withdrawal_kinds(&program, &card, &slip, &end, number)].concat()
 }
 
 /// The kinds of a table by its strata, where nothing else is 31.

@@ -1,10 +1,10 @@
-//! The response by marks: every declared pair is positive, negative or unknown, by section 6 of the RL paper and section 3 of document 02.
+//! The response by marks: every slot's pairs with its values and with NONE are positive, negative or unknown, by section 6 of the RL paper and sections 3 and 6 of document 02.
 
 use std::collections::BTreeSet;
 
 use crate::editors::Caller;
 use crate::response::{answered, counted, outcome, Answer, Changes, Firing, Outputs};
-use crate::table::{Literal, Pair, Program, Rule, Table};
+use crate::table::{Literal, Pair, Program, Rule, Table, NONE};
 use crate::table31::tested_for_marks;
 use crate::{refusal, Refusal};
 
@@ -28,27 +28,27 @@ pub enum Truth {
 #[derive(Clone, Copy, PartialEq, Eq, Debug)]
 pub struct Clash;
 
-/// The mark of every declared pair, by slot and value.
+/// The mark of every pair, by slot and value, NONE first.
 #[derive(Clone, PartialEq, Eq, PartialOrd, Ord, Debug)]
 pub struct Marks(Vec<Vec<Mark>>);
 
 impl Marks {
     /// Every pair of a program unknown.
     pub fn unknown(program: &Program) -> Marks {
-        Marks(program.lasts.iter().map(|last| vec![Mark::Unknown; usize::from(*last)]).collect())
+        Marks(program.lasts.iter().map(|last| vec![Mark::Unknown; usize::from(*last) + 1]).collect())
     }
 
     /// The mark of a pair.
     pub fn of(&self, pair: Pair) -> Mark {
-        self.0[usize::from(pair.0)][usize::from(pair.1) - 1]
+        self.0[usize::from(pair.0)][usize::from(pair.1)]
     }
 
-    /// The declared pairs of a slot.
+    /// The pairs of a slot.
     pub fn slot(&self, slot: u8) -> Vec<Pair> {
-        (1..=self.0[usize::from(slot)].len() as u8).map(|value| (slot, value)).collect()
+        (NONE..self.0[usize::from(slot)].len() as u8).map(|value| (slot, value)).collect()
     }
 
-    /// The declared pairs with a mark, by slot and value.
+    /// The pairs with a mark, by slot and value.
     pub fn with(&self, mark: Mark) -> Vec<Pair> {
         let all = (0..self.0.len() as u8).flat_map(|slot| self.slot(slot));
         all.filter(|pair| self.of(*pair) == mark).collect()
@@ -56,7 +56,7 @@ impl Marks {
 
     /// Marks a pair, which may be marked so already; a mark changes only from unknown.
     pub fn update(&mut self, pair: Pair, mark: Mark) -> Result<(), Clash> {
-        let old = &mut self.0[usize::from(pair.0)][usize::from(pair.1) - 1];
+        let old = &mut self.0[usize::from(pair.0)][usize::from(pair.1)];
         if *old != Mark::Unknown && *old != mark {
             return Err(Clash);
         }
@@ -64,7 +64,7 @@ impl Marks {
         Ok(())
     }
 
-    /// Marks a pair positive and the other values of its slot negative.
+    /// Marks a pair positive and the other pairs of its slot negative.
     pub fn bring(&mut self, pair: Pair) -> Result<(), Clash> {
         let mark = |other: &Pair| if *other == pair { Mark::Positive } else { Mark::Negative };
         self.slot(pair.0).iter().try_for_each(|other| self.update(*other, mark(other)))
@@ -156,7 +156,7 @@ pub struct Moment {
 }
 
 impl Moment {
-    /// The start of every order: the pairs of the slip positive, the other values of their slots negative, nothing fired.
+    /// The start of every order: the pairs of the slip positive, the other pairs of their slots negative, nothing fired.
     pub fn start(program: &Program, slip: &[Pair]) -> Moment {
         let mut moment = Moment { marks: Marks::unknown(program), fired: Vec::new(), clash: false };
         moment.bring(slip);

@@ -207,7 +207,40 @@ fn editors() -> Vec<Case> {
     files.into_iter().map(by_bytes).chain(refused).chain(unread).collect()
 }
 
-/// All stored cases: those of each question by one editor after another, then those of the editor's file.
+/// Withdrawals: by the slip, which wakes a rule, or does not where there is nothing to withdraw; tests of a slot with a value and without one; by a rule, which wakes another, or beside a value of the slip or of another rule; strata and a circle by NONE; NONE out of place, and names like it.
+fn withdrawn() -> Vec<Asked> {
+    let (without_x, without_y) = (card_bytes(&[0, 1, 1]), card_bytes(&[1, 0, 1]));
+    let (no_x, no_y) = (slip_bytes(&[(0, 0)]), slip_bytes(&[(1, 0)]));
+    let woken = "WHEN x *= NONE IF TRUE THEN z := 1;";
+    let [has, lacks] = ["WHEN x *= 1 IF NOT y |= NONE THEN z := 1;", "WHEN x *= 1 IF y |= NONE THEN z := 1;"];
+    let [empties, barred] = ["WHEN x *= 1 IF TRUE THEN y := NONE;", "WHEN x *= 1 IF NOT y *= NONE THEN z := 1;"];
+    let like = "SLOT none {None, NONE-}; WHEN none *= NONE IF none |= None THEN none := NONE;";
+    vec![
+        rules(&[woken], &ZEROS, &no_x),
+        rules(&[woken], &without_x, &no_x),
+        rules(&[woken], &ZEROS, &slip_bytes(&[(0, 0), (1, 0), (2, 0)])),
+        rules(&[], &ZEROS, &slip_bytes(&[(0, 0), (1, 0), (2, 0)])),
+        rules(&[has, lacks], &ZEROS, &X_TO_1),
+        rules(&[has, lacks], &without_y, &X_TO_1),
+        rules(&[has, lacks], &ZEROS, &slip_bytes(&[(0, 2), (1, 0)])),
+        rules(&[empties, "WHEN y *= NONE IF TRUE THEN z := 1;"], &ZEROS, &X_TO_1),
+        rules(&[empties, "WHEN y *= NONE IF TRUE THEN z := 1;"], &without_y, &X_TO_1),
+        rules(&["WHEN x *= 1 IF TRUE THEN x := NONE;"], &ZEROS, &X_TO_1),
+        rules(&["WHEN y *= NONE IF TRUE THEN y := 1;"], &ZEROS, &no_y),
+        rules(&[empties, "WHEN x *= 1 IF TRUE THEN y := 0;"], &ZEROS, &X_TO_1),
+        rules(&[empties], &ZEROS, &slip_bytes(&[(0, 2), (1, 0)])),
+        rules(&[barred, empties], &ZEROS, &X_TO_1),
+        rules(&[barred, "WHEN z *= 1 IF TRUE THEN y := NONE;"], &ZEROS, &X_TO_1),
+        asked("SLOT x {0, NONE};", &card_bytes(&[0]), &[0]),
+        asked("SLOT NONE {0};", &card_bytes(&[0]), &[0]),
+        rules(&["WHEN NONE *= 1 IF TRUE THEN z := 1;"], &ZEROS, &X_TO_1),
+        rules(&[A, "WHEN x *= 1 IF TRUE THEN NONE := 1;"], &ZEROS, &X_TO_1),
+        rules(&["WHEN x *= none IF TRUE THEN z := 1;"], &ZEROS, &X_TO_1),
+        asked(like, &card_bytes(&[1]), &slip_bytes(&[(0, 0)])),
+    ]
+}
+
+/// All stored cases: those of each question by one editor after another, then those of the editor's file, then withdrawals.
 pub fn cases() -> Vec<Case> {
     let mut asked = lettered();
     asked.extend(limits());
@@ -219,8 +252,8 @@ pub fn cases() -> Vec<Case> {
     asked.extend([full(), wide()]);
     let number = |at: usize| 1 + (6 + 7 * at) % EDITORS;
     let by_number = |(at, asked): (usize, Asked)| by_editor(asked, Kept::Bytes(vec![number(at) as u8]));
-    let asked_by = asked.into_iter().enumerate().map(by_number);
-    asked_by.chain(editors()).collect()
+    let asked_by = |asked: Vec<Asked>| asked.into_iter().enumerate().map(by_number);
+    asked_by(asked).chain(editors()).chain(asked_by(withdrawn())).collect()
 }
 
 /// The folder of a case.

@@ -4,7 +4,7 @@ use std::collections::{HashMap, HashSet};
 
 use crate::strata::strata;
 use crate::table::{table_of, Literal, Name, Rule, SlotLine, Table};
-use crate::table::{ASSIGNMENTS, LITERALS, RULES, SLOTS, VALUES};
+use crate::table::{ASSIGNMENTS, LITERALS, NONE, RULES, SLOTS, VALUES};
 use crate::text::{tokens, Kind, Token};
 use crate::{refusal, Refusal};
 
@@ -49,7 +49,7 @@ pub enum Want {
 /// A production of the grammar: what was wanted, the kind of token that came, what is wanted then.
 pub type Production = (Want, Kind, Want);
 
-/// The slot lines and the appendix's grammar, a `;` after each rule.
+/// The slot lines and the appendix's grammar, a `;` after each rule, NONE wherever a rule names a value.
 pub const GRAMMAR: &[Production] = &[
     (Want::SlotLine, Kind::Slot, Want::SlotName),
     (Want::SlotLine, Kind::When, Want::TriggerSlot),
@@ -63,6 +63,7 @@ pub const GRAMMAR: &[Production] = &[
     (Want::TriggerSlot, Kind::Name, Want::TriggerMark),
     (Want::TriggerMark, Kind::ChangesTo, Want::TriggerValue),
     (Want::TriggerValue, Kind::Name, Want::If),
+    (Want::TriggerValue, Kind::None, Want::If),
     (Want::If, Kind::If, Want::Condition),
     (Want::Condition, Kind::True, Want::TrueOver),
     (Want::Condition, Kind::Not, Want::Negated),
@@ -76,15 +77,18 @@ pub const GRAMMAR: &[Production] = &[
     (Want::LiteralMark, Kind::ChangesTo, Want::LiteralValue),
     (Want::LiteralMark, Kind::Was, Want::LiteralValue),
     (Want::LiteralValue, Kind::Name, Want::LiteralOver),
+    (Want::LiteralValue, Kind::None, Want::LiteralOver),
     (Want::LiteralOver, Kind::And, Want::Literal),
     (Want::LiteralOver, Kind::Then, Want::Assignments),
     (Want::Assignments, Kind::Open, Want::ListedSlot),
     (Want::Assignments, Kind::Name, Want::OnlyMark),
     (Want::OnlyMark, Kind::Becomes, Want::OnlyValue),
     (Want::OnlyValue, Kind::Name, Want::RuleOver),
+    (Want::OnlyValue, Kind::None, Want::RuleOver),
     (Want::ListedSlot, Kind::Name, Want::ListedMark),
     (Want::ListedMark, Kind::Becomes, Want::ListedValue),
     (Want::ListedValue, Kind::Name, Want::ListedOver),
+    (Want::ListedValue, Kind::None, Want::ListedOver),
     (Want::ListedOver, Kind::Comma, Want::ListedSlot),
     (Want::ListedOver, Kind::Close, Want::RuleOver),
     (Want::RuleOver, Kind::Semicolon, Want::Rule),
@@ -154,7 +158,7 @@ fn is_slot_in_rule(at: &Placed) -> bool {
     name && (literal || at.want == Want::TriggerSlot) || is_assigned_slot(at)
 }
 
-/// Whether a token is a value's name in a rule.
+/// Whether a token is a value's name in a rule, or NONE there.
 pub fn is_value_in_rule(at: &Placed) -> bool {
     matches!(at.want, Want::TriggerValue | Want::LiteralValue | Want::OnlyValue | Want::ListedValue)
 }
@@ -209,6 +213,16 @@ struct Declared<'a> {
     values: HashMap<&'a [u8], usize>,
 }
 
+impl Declared<'_> {
+    /// The number of the value that a token names in a rule: NONE's, or that of a value that the slot has.
+    fn value(&self, text: &[u8], token: &Token) -> Option<u8> {
+        match token.kind {
+            Kind::None => Some(NONE),
+            _ => self.values.get(token.word(text)).map(|value| *value as u8),
+        }
+    }
+}
+
 /// The declared slots by their names, where a name recurs the first.
 fn declared<'a>(text: &'a [u8], walk: &Walk) -> HashMap<&'a [u8], Declared<'a>> {
     let mut slots: HashMap<&[u8], Declared> = HashMap::new();
@@ -241,7 +255,7 @@ fn slot_lines(walk: &Walk) -> Vec<SlotLine> {
     lines
 }
 
-/// Refuses with 16 each slot in a rule that is not declared, and each value that its slot lacks.
+/// Refuses with 16 each slot in a rule that is not declared, and each value that its slot lacks; no slot lacks NONE.
 fn undeclared(text: &[u8], walk: &Walk) -> Vec<AtToken> {
     let slots = declared(text, walk);
     let mut slot = None;
@@ -250,7 +264,7 @@ fn undeclared(text: &[u8], walk: &Walk) -> Vec<AtToken> {
             slot = slots.get(at.token.word(text));
             return slot.is_none();
         }
-        is_value_in_rule(at) && slot.map_or(false, |slot| !slot.values.contains_key(at.token.word(text)))
+        is_value_in_rule(at) && slot.map_or(false, |slot| slot.value(text, &at.token).is_none())
     })
 }
 
@@ -295,7 +309,8 @@ pub fn meaning(text: &[u8], walk: &Walk) -> (Vec<SlotLine>, Vec<Rule>) {
         }
         if is_value_in_rule(at) {
             let slot = slot.expect("every slot in a rule is declared");
-            let pair = (slot.slot as u8, slot.values[at.token.word(text)] as u8);
+            let value = slot.value(text, &at.token).expect("every value in a rule is declared or NONE");
+            let pair = (slot.slot as u8, value);
             match at.want {
                 Want::TriggerValue => rules.push(Rule { trigger: pair, literals: Vec::new(), assignments: Vec::new() }),
                 Want::LiteralValue => last(&mut rules).literals.push(Literal { becomes, negated: nots % 2 == 1, pair }),

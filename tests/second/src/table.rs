@@ -3,8 +3,11 @@
 pub use crate::raw::{Assignment as AssignmentPlace, Literal as LiteralPlace, Rule as RulePlace, Slot as SlotPlace};
 pub use crate::raw::{Name, Table, ASSIGNMENTS, LITERALS, RULES, SLOTS, VALUES};
 
-/// A slot and a value, slots from 0 and values from 1.
+/// A slot and a value, slots from 0 and values from 1, or `NONE`.
 pub type Pair = (u8, u8);
+
+/// The number of NONE, which every slot has beside its values; on a card, of no value.
+pub const NONE: u8 = 0;
 
 /// A literal: whether it asks for a change, whether it stands under NOT, and its pair.
 #[derive(Clone, Copy, PartialEq, Eq, Debug)]

@@ -1,8 +1,8 @@
 //! The test 31 of an arbitrary table, and the names a table shows.
 
 use crate::strata::strata;
-use crate::table::{program_in, Name, Pair, Program, RulePlace, SlotPlace, Table};
-use crate::table::{ASSIGNMENTS, LITERALS, RULES, SLOTS, VALUES};
+use crate::table::{program_in, Name, Pair, Program, Rule, RulePlace, SlotPlace, Table};
+use crate::table::{ASSIGNMENTS, LITERALS, NONE, RULES, SLOTS, VALUES};
 use crate::{refusal, Refusal};
 
 /// Whether every count of a table is within its limit.
@@ -15,14 +15,14 @@ fn within_limits(table: &Table) -> bool {
         && table.rules[..count].iter().all(few)
 }
 
-/// Whether a program has the slot and the value of a pair.
-pub fn has_pair(program: &Program, pair: Pair) -> bool {
-    program.lasts.get(pair.0 as usize).map_or(false, |last| (1..=*last).contains(&pair.1))
+/// Whether a program has the slot and the value of a pair; every slot has NONE.
+fn has_pair(program: &Program, pair: Pair) -> bool {
+    program.lasts.get(pair.0 as usize).map_or(false, |last| (NONE..=*last).contains(&pair.1))
 }
 
-/// All pairs that a program's rules name.
-fn named_pairs(program: &Program) -> impl Iterator<Item = Pair> + '_ {
-    program.rules.iter().flat_map(|rule| {
+/// All pairs that rules name, rule by rule: the trigger's, the literals', the assigned ones.
+pub fn named_pairs(rules: &[Rule]) -> impl Iterator<Item = Pair> + '_ {
+    rules.iter().flat_map(|rule| {
         let literals = rule.literals.iter().map(|literal| literal.pair);
         std::iter::once(rule.trigger).chain(literals).chain(rule.assignments.iter().copied())
     })
@@ -39,7 +39,7 @@ fn assigns_once(program: &Program) -> bool {
 /// Whether a program within the limits is without fault, its strata not looked at.
 pub fn well_formed(program: &Program) -> bool {
     program.lasts.iter().all(|last| *last > 0)
-        && named_pairs(program).all(|pair| has_pair(program, pair))
+        && named_pairs(&program.rules).all(|pair| has_pair(program, pair))
         && assigns_once(program)
 }
 
@@ -88,7 +88,7 @@ pub fn slot_name(text: &[u8], table: &Table, slot: u8) -> Result<Name, Refusal> 
     inside(text, slot_place(table, slot)?.name)
 }
 
-/// Where a value's name stands in the text, or 31.
+/// Where a value's name stands in the text, or 31; NONE is declared nowhere.
 pub fn value_name(text: &[u8], table: &Table, slot: u8, value: u8) -> Result<Name, Refusal> {
     let place = slot_place(table, slot)?;
     let used = &place.values[..VALUES.min(place.count as usize)];

@@ -22,6 +22,7 @@ pub enum Kind {
     And,
     Not,
     True,
+    None,
     Name,
     Open,
     Close,
@@ -50,7 +51,7 @@ impl Token {
 }
 
 /// The reserved words.
-const RESERVED: [(&[u8], Kind); 7] = [
+const RESERVED: [(&[u8], Kind); 8] = [
     (b"SLOT", Kind::Slot),
     (b"WHEN", Kind::When),
     (b"IF", Kind::If),
@@ -58,6 +59,7 @@ const RESERVED: [(&[u8], Kind); 7] = [
     (b"AND", Kind::And),
     (b"NOT", Kind::Not),
     (b"TRUE", Kind::True),
+    (b"NONE", Kind::None),
 ];
 
 /// The kind of a whole run of name bytes: a reserved word or a name.

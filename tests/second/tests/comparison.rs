@@ -155,9 +155,16 @@ fn broken_responses_are_not_what_the_firing_orders_come_to() {
         Fault::StopsAtConflict,
         Fault::HadBecomes,
         Fault::EmptyNeverBecomes,
+        Fault::EmptyWithdrawn,
+        Fault::NoneNeverBecomes,
+        Fault::EmptyNeverNone,
         Fault::FirstFalseIgnored,
+        Fault::WithdrawalOverruled,
+        Fault::WithdrawalOverrules,
         Fault::RecordReversed,
         Fault::RepeatsLeftOut,
+        Fault::WithdrawalsLeftOut,
+        Fault::EmptyWithdrawalsLeftOut,
         Fault::FirstOfDay,
     ];
     for fault in faults {

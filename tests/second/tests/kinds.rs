@@ -1,4 +1,4 @@
-//! The generator reaches every kind of rules, responses and tables that strata and circles tell apart, and of calls by their editors.
+//! The generator reaches every kind of rules, responses and tables that strata and circles tell apart, of texts and responses with NONE, and of calls by their editors.
 
 use std::collections::BTreeMap;
 
@@ -7,9 +7,14 @@ use second::editor_kinds::call_kinds;
 use second::editors::Caller;
 use second::engine::{Engine, Second, Way};
 use second::firing_checks::{check_small, Counts};
-use second::kinds::{response_kinds, rule_kinds, table_kinds, text_kinds, Kind};
-use second::kinds::{CALL_KINDS, MARK_KINDS, MARK_TABLE_KINDS, RESPONSE_KINDS, RULE_KINDS, TABLE_KINDS, TEXT_KINDS};
+use second::gen::{any_file, card, slip, Rng};
+use second::gen_editors::editor_file;
+use second::kinds::{holding, response_kinds, rule_kinds, table_kinds, text_kinds, Kind};
+use second::kinds::{CALL_KINDS, MARK_KINDS, MARK_TABLE_KINDS, NONE_REFUSED_KINDS, PRINT_KINDS};
+use second::kinds::{RESPONSE_KINDS, RULE_KINDS, TABLE_KINDS, TEXT_KINDS};
+use second::listing::listing;
 use second::mark_kinds::{mark_kinds, mark_table_kinds};
+use second::none_kinds::refused_kinds;
 use second::response::Outputs;
 use second::table::{Name, Pair, Table};
 use second::table31::{tested, tested_for_marks, unlayered};
@@ -40,6 +45,7 @@ struct Watching {
 impl Engine for Watching {
     fn read(&mut self, text: &[u8]) -> (Option<Refusal>, Box<Table>) {
         meet(&mut self.met, text_kinds(text));
+        meet(&mut self.met, refused_kinds(text));
         Second.read(text)
     }
 
@@ -48,7 +54,12 @@ impl Engine for Watching {
     }
 
     fn print(&mut self, text: &[u8], output: &mut [u8]) -> Result<usize, Refusal> {
-        Second.print(text, output)
+        let printed = Second.print(text, output);
+        let has_none =
+            |print: &[u8]| print.windows(6).any(|part| part.starts_with(b" NONE") && !part[5].is_ascii_alphanumeric());
+        let none = printed.map_or(false, |length| has_none(&output[..length]));
+        meet(&mut self.met, holding(&[(Kind::NonePrinted, none)]));
+        printed
     }
 
     fn strata(&mut self, table: &Table) -> Result<Vec<u8>, Refusal> {
@@ -119,9 +130,21 @@ impl Engine for Watching {
 fn the_comparison_meets_every_kind() {
     let mut watching = Watching::default();
     assert!(compare_seeds(&mut watching, 1, 3_000).0.is_none());
-    let kinds = [RULE_KINDS, TEXT_KINDS, RESPONSE_KINDS, TABLE_KINDS];
+    let kinds = [RULE_KINDS, TEXT_KINDS, NONE_REFUSED_KINDS, PRINT_KINDS, RESPONSE_KINDS, TABLE_KINDS];
     demand(&watching.met, &kinds, 3);
     demand(&watching.met, &[MARK_KINDS, MARK_TABLE_KINDS, CALL_KINDS], 10);
+}
+
+#[test]
+fn the_program_is_asked_for_withdrawals() {
+    let lists = |seed: &u64| {
+        let mut rng = Rng::new(*seed);
+        let file = any_file(&mut rng);
+        let (card, slip) = (card(&mut rng, &file.sketch), slip(&mut rng, &file.sketch));
+        listing(&file.text, &card, &slip, &editor_file(&mut rng)).contains(" NONE\n")
+    };
+    let listed = (1..=2_000).filter(lists).count();
+    assert!(listed > 50, "{listed}");
 }
 
 #[test]

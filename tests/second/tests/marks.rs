@@ -6,6 +6,7 @@ use second::editors::{fresh, Caller, Tally};
 use second::engine::{Engine, Second, Way};
 use second::fault::Fault;
 use second::firing_checks::{given, given_by, Given};
+use second::kinds::Kind;
 use second::mark_checks::{check_small, MarkCounts};
 use second::marks::{and, not, Truth};
 use second::program_cases::{A, B, C, D, E, H, SLOTS, X_TO_1, Y_TO_1, ZEROS, Z_TO_1};
@@ -71,6 +72,38 @@ fn a_plain_circle_without_an_outside_cause_stays_unknown() {
     assert_eq!(outcome(&["WHEN x *= 1 IF TRUE THEN x := 1;"], &ZEROS, &X_TO_1), changed(&[0], 0x80));
     let dead = ["WHEN x *= 1 IF y |= 1 THEN z := 1;", "WHEN z *= 1 IF TRUE THEN x := 1;"];
     assert_eq!(outcome(&dead, &ZEROS, &Y_TO_1), changed(&[1], 0));
+}
+
+#[test]
+fn none_is_one_more_value_of_each_slot() {
+    let back = "WHEN x *= 1 IF TRUE THEN y := NONE;";
+    let withdrawn = |pairs: &[(u8, u8)], fired: u8| Ok((slip_bytes(pairs), fired));
+    assert_eq!(outcome(&[back], &ZEROS, &X_TO_1), withdrawn(&[(0, 2), (1, 0)], 0x80));
+    assert_eq!(outcome(&[back], &EMPTY, &X_TO_1), withdrawn(&[(0, 2), (1, 0)], 0x80));
+    assert_eq!(outcome(&[back], &ZEROS, &slip_bytes(&[(0, 2), (1, 2)])), CLASH);
+    assert_eq!(outcome(&[back], &ZEROS, &slip_bytes(&[(0, 2), (1, 0)])), withdrawn(&[(0, 2), (1, 0)], 0x80));
+    assert_eq!(outcome(&["WHEN x *= 1 IF TRUE THEN x := NONE;"], &ZEROS, &X_TO_1), CLASH);
+    let woken = [back, "WHEN y *= NONE IF NOT z |= NONE THEN z := 1;"];
+    assert_eq!(outcome(&woken, &ZEROS, &X_TO_1), withdrawn(&[(0, 2), (1, 0), (2, 2)], 0xC0));
+    assert_eq!(outcome(&woken, &EMPTY, &X_TO_1), withdrawn(&[(0, 2), (1, 0)], 0x80));
+    assert_eq!(outcome(&[woken[1]], &ZEROS, &slip_bytes(&[(1, 0)])), withdrawn(&[(1, 0), (2, 2)], 0x80));
+}
+
+#[test]
+fn none_is_unknown_until_a_value_comes_or_no_rule_is_left() {
+    let own = "WHEN x *= 1 IF NOT y *= NONE THEN y := NONE;";
+    assert_eq!(circle(&[own]), Some(refusal(18, 1)));
+    assert_eq!(outcome(&[own], &ZEROS, &X_TO_1), UNKNOWN);
+    assert_eq!(outcome(&[own], &ZEROS, &Y_TO_1), changed(&[1], 0));
+    assert_eq!(outcome(&[own], &ZEROS, &slip_bytes(&[(0, 2), (1, 2)])), CLASH);
+    assert_eq!(outcome(&[own], &EMPTY, &X_TO_1), Ok((slip_bytes(&[(0, 2), (1, 0)]), 0x80)));
+    let either = ["WHEN x *= 1 IF NOT y *= NONE THEN z := NONE;", "WHEN x *= 1 IF NOT z *= NONE THEN y := NONE;"];
+    assert_eq!(outcome(&either, &ZEROS, &X_TO_1), UNKNOWN);
+    let kept = slip_bytes(&[(0, 2), (1, 1)]);
+    assert_eq!(outcome(&either, &ZEROS, &kept), Ok((slip_bytes(&[(0, 2), (1, 1), (2, 0)]), 0x80)));
+    let barred = ["WHEN x *= 1 IF NOT y *= 1 THEN z := 1;", "WHEN x *= 1 IF NOT z *= 1 THEN y := 1;"];
+    let withdrawn = slip_bytes(&[(0, 2), (1, 0)]);
+    assert_eq!(outcome(&barred, &ZEROS, &withdrawn), Ok((slip_bytes(&[(0, 2), (1, 0), (2, 2)]), 0x80)));
 }
 
 #[test]
@@ -253,6 +286,8 @@ fn orders_of_selection_and_firing_orders_agree_with_the_response() {
     ];
     assert!(seldom.iter().all(|count| *count >= 10) && counts.all_orders > 3_000, "{counts:?}");
     assert!(counts.moved > 1_000, "{counts:?}");
+    let kinds = [Kind::MarkWithdrawn, Kind::MarkWoken, Kind::NoneRuledOut, Kind::NoneClashes, Kind::NoneUnknown];
+    assert!(kinds.iter().all(|kind| counts.kinds.get(kind) >= Some(&10)), "{counts:?}");
 }
 
 #[test]
@@ -271,6 +306,12 @@ fn broken_responses_are_not_what_the_orders_come_to() {
         Fault::FalseAndUnknown,
         Fault::TrueAndUnknown,
         Fault::HadByMark,
+        Fault::EmptyByMark,
+        Fault::MarkedNeverNone,
+        Fault::NoneUnmarked,
+        Fault::NoneNoRival,
+        Fault::NoneWithoutRivals,
+        Fault::EmptyRuledOut,
         Fault::AssignerUnseen,
         Fault::TriggerUnseen,
         Fault::UnassignedOnly,

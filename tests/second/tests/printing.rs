@@ -86,6 +86,17 @@ fn braces_stand_round_two_assignments_or_more() {
 }
 
 #[test]
+fn none_is_printed_where_a_rule_names_it() {
+    assert_eq!(
+        rule("y|=NONE AND NOT y*=NONE", "{z:=NONE}"),
+        "WHEN x *= 1 IF y |= NONE AND NOT y *= NONE THEN z := NONE;\n"
+    );
+    assert_eq!(rule("NOT NOT y|=NONE", "{z:=NONE,y:=0}"), "WHEN x *= 1 IF y |= NONE THEN { z := NONE, y := 0 };\n");
+    let wanted = "SLOT x { none, None };\nWHEN x *= NONE IF x |= none THEN x := None;\n";
+    assert_eq!(print("SLOT x{none,None};WHEN x*=NONE IF x|=none THEN x:=None;"), wanted);
+}
+
+#[test]
 fn order_and_repeats_stay() {
     let text = format!("{SLOTS_PRINT}WHEN y *= 1 IF z |= 1 AND z |= 1 AND x |= 0 THEN {{ z := 1, x := 0 }};\n");
     assert_eq!(print(&text), text);

@@ -38,10 +38,10 @@ fn tables_that_are_31() {
     assert!(is_31(|table| table.slots[0].count = 16));
     assert!(is_31(|table| table.slots[0].count = 0));
     assert!(is_31(|table| table.slots[0].count = 1));
-    assert!(is_31(|table| table.rules[0].value = 0));
+    assert!(is_31(|table| table.rules[0].value = 3));
+    assert!(is_31(|table| table.rules[0].literals[0].value = 3));
     assert!(is_31(|table| table.rules[0].literals[0].slot = 2));
     assert!(is_31(|table| table.rules[0].tested = 9));
-    assert!(is_31(|table| table.rules[0].tested = 2));
     assert!(is_31(|table| table.rules[0].assigned = 5));
     assert!(is_31(|table| table.rules[0].stratum = 2));
     assert!(is_31(|table| table.rules[1].stratum = 3));
@@ -61,6 +61,10 @@ fn tables_that_are_not_31() {
     assert!(!is_31(|table| table.rules[2].stratum = 9));
     assert!(!is_31(|table| table.slots[0].name = Name { start: u16::MAX, size: u16::MAX }));
     assert!(!is_31(|table| table.rules[1].assigned = 0));
+    assert!(!is_31(|table| table.rules[0].tested = 2));
+    assert!(!is_31(|table| table.rules[0].value = 0));
+    assert!(!is_31(|table| table.rules[0].literals[0].value = 0));
+    assert!(!is_31(|table| table.rules[1].assignments[0].value = 0));
     assert!(!is_31(|table| table.count = 1));
     assert!(!is_31(|table| *table = *Table::empty()));
 }
@@ -88,6 +92,9 @@ fn a_table_carries_the_least_strata() {
     let lowest = "WHEN y *= 0 IF TRUE THEN y := 1;";
     let threes: [&[u8]; 6] = [&[2, 2, 1], &[3, 3, 1], &[1, 1, 1], &[2, 1, 1], &[1, 2, 1], &[3, 3, 2]];
     assert_eq!(passing(&[first, second, lowest], &threes), [[2, 2, 1]]);
+    let [bar, empty] = ["WHEN x *= 1 IF NOT y *= NONE THEN z := 1;", "WHEN x *= 1 IF TRUE THEN y := NONE;"];
+    assert_eq!(passing(&[bar, empty], &pairs), [[2, 1]]);
+    assert_eq!(passing(&["WHEN y *= NONE IF TRUE THEN z := 1;", empty], &pairs), [[1, 1]]);
     let chain: [&[u8]; 6] = [&[1, 1, 1], &[1, 2, 3], &[1, 1, 2], &[2, 2, 2], &[1, 1, 0], &[3, 2, 1]];
     assert_eq!(passing(&[A, B, "WHEN y *= 1 IF TRUE THEN x := 0;"], &chain), [[1, 1, 1]]);
 }
@@ -170,6 +177,7 @@ fn five_inputs_of_tables_show_each_fault_of_strata_and_31() {
         Fault::NegatedLevel,
         Fault::TriggerFree,
         Fault::SlotsBind,
+        Fault::NoneFree,
         Fault::StrataTooHigh,
         Fault::StrataUntested,
         Fault::AnyStrata,
@@ -178,6 +186,10 @@ fn five_inputs_of_tables_show_each_fault_of_strata_and_31() {
         Fault::ZeroStratum,
         Fault::UnusedTested,
         Fault::NoAssignments,
+        Fault::NoneTriggerLacking,
+        Fault::NoneTestLacking,
+        Fault::NoneAssignmentLacking,
+        Fault::NoneCounted,
     ];
     for fault in faults {
         assert!(tables.iter().any(|table| shows(fault, table)), "{fault:?}");

@@ -6,7 +6,7 @@ use second::editors::{Caller, Tally};
 use second::engine::{Engine, Way};
 use second::raw::{self, given, Card, Change, RlName, RlRead, RlResponse, Slip};
 use second::response::{fired_count, Outputs};
-use second::table::{program_in, Literal, Name, Pair, Program, Rule, Table, SLOTS};
+use second::table::{program_in, Literal, Name, Pair, Program, Rule, Table, NONE, SLOTS};
 use second::{refusal, Refusal};
 
 /// The proved engine; it keeps how many rules its last response said to have fired, and the length of that record.
@@ -32,19 +32,26 @@ fn place(name: RlName) -> Result<Name, Refusal> {
     checked(fits, given(name.number, 0, Name { start: number(name.start), size: number(name.size) }))
 }
 
-/// A literal in the rule language, slots and values named by their numbers.
+/// A pair in the rule language with a mark between, slots and values named by their numbers.
+fn pair_text((slot, value): Pair, mark: &str) -> String {
+    match value {
+        NONE => format!("{slot} {mark} NONE"),
+        _ => format!("{slot} {mark} {value}"),
+    }
+}
+
+/// A literal in the rule language.
 fn literal_text(literal: &Literal) -> String {
-    let sign = if literal.becomes { "*=" } else { "|=" };
+    let mark = if literal.becomes { "*=" } else { "|=" };
     let not = if literal.negated { "NOT " } else { "" };
-    format!(" AND {not}{} {sign} {}", literal.pair.0, literal.pair.1)
+    format!(" AND {not}{}", pair_text(literal.pair, mark))
 }
 
 /// A rule in the rule language.
 fn rule_text(rule: &Rule) -> String {
     let condition: String = rule.literals.iter().map(literal_text).collect();
-    let assigned: Vec<String> = rule.assignments.iter().map(|(slot, value)| format!("{slot}:={value}")).collect();
-    let (slot, value) = rule.trigger;
-    format!("WHEN {slot} *= {value} IF TRUE{condition} THEN {{{}}};\n", assigned.join(","))
+    let assigned: Vec<String> = rule.assignments.iter().map(|pair| pair_text(*pair, ":=")).collect();
+    format!("WHEN {} IF TRUE{condition} THEN {{{}}};\n", pair_text(rule.trigger, "*="), assigned.join(","))
 }
 
 /// A file with the rules of a program.
