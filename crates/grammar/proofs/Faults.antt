@@ -3,11 +3,13 @@
 use Prim.Native.Nat.{ℕ, zero, suc, _≤_, _<_}
 use native.Mathlib.Omega.{arith}
 use mathlib.Core.Path.{_≡_, refl, sym, subst, _∙_}
+use mathlib.Core.Bool.{true, false, true≢false}
 use mathlib.Core.List.{List, [], _∷_, _++_, append-assoc}
-use Rattle.text.specs.Tokens.{Token, word, name, long, bad}
+use Rattle.text.specs.Tokens.{Token, word, name, long, bad, NONE}
 use Rattle.grammar.specs.Grammar.{RuleTree, LineTree, spell-rules, spell-lines}
 use Rattle.grammar.specs.Beginnings.{Position, Fault-at, slot-twice, value-twice, too-many-slots, too-many-values, too-many-rules, too-many-literals, too-many-nots, too-many-assignments, no-trigger-slot, no-tested-slot, no-assigned-slot, no-such-value, slot-assigned-twice}
 use Rattle.grammar.specs.Refusals.{Goes-on, Out-of-place, Fault, no-token, no-place, ends-inside, too-long, in-place, Stuck}
+use Rattle.grammar.specs.Reading.{begins-with}
 use Rattle.grammar.proofs.Stopping.{Written}
 use Rattle.grammar.proofs.Parts.{x-name}
 use Rattle.grammar.proofs.Stops.{rule-written, line-written}
@@ -70,6 +72,30 @@ from-fourteen k P t (no-tested-slot e) = (omega arith, omega arith)
 from-fourteen k P t (no-assigned-slot e) = (omega arith, omega arith)
 from-fourteen k P t (no-such-value e) = (omega arith, omega arith)
 from-fourteen k P t (slot-assigned-twice e d) = (omega arith, omega arith)
+
+-- None of them is a fault of NONE.
+not-of-none : (k : ℕ) (P : Position) (t : Token) (later : List Token) → Fault-at k P t → begins-with NONE (t ∷ later) ≡ false
+not-of-none k P t later (slot-twice e) = refl
+not-of-none k P t later (value-twice e) = refl
+not-of-none k P t later (too-many-slots e) = refl
+not-of-none k P t later (too-many-values e) = refl
+not-of-none k P t later (too-many-rules e) = refl
+not-of-none k P t later (too-many-literals e) = refl
+not-of-none k P t later (too-many-nots e) = refl
+not-of-none k P t later (too-many-assignments e) = refl
+not-of-none k P t later (no-trigger-slot e) = refl
+not-of-none k P t later (no-tested-slot e) = refl
+not-of-none k P t later (no-assigned-slot e) = refl
+not-of-none k P t later (no-such-value e) = refl
+not-of-none k P t later (slot-assigned-twice e d) = refl
+
+-- A fault at NONE is 12.
+pub twelve-at-none : (k : ℕ) (before after : List Token) → Fault k before after → begins-with NONE after ≡ true → k ≡ 12
+twelve-at-none k before after no-token e = absurd (true≢false (sym e))
+twelve-at-none k before after (no-place o) e = refl
+twelve-at-none k before after (ends-inside u) e = refl
+twelve-at-none k before after (too-long g) e = absurd (true≢false (sym e))
+twelve-at-none k before after (in-place {later = later} {t = t} {P = P} b f) e = absurd (true≢false (sym e ∙ not-of-none k P t later f))
 
 -- They are faults of a token that is written.
 pub position-written : (k : ℕ) (P : Position) (t : Token) → Fault-at k P t → Is-written t

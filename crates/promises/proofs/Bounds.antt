@@ -1,4 +1,4 @@
--- The pairs of C are pairs that the file has, and so its changes are a slip of the file and its new card is a card of the file.
+-- The pairs of C are pairs that the file has.
 -- Assumes nothing.
 use Prim.Native.Nat.{ℕ, zero, suc, _≤_, _<_}
 use native.Mathlib.Omega.{arith}
@@ -12,22 +12,20 @@ use Rattle.laws.specs.Listed.{Each}
 use Rattle.laws.specs.Numbers.{Numbered}
 use Rattle.laws.proofs.Truth.{or-e, le-or-lt}
 use Rattle.laws.proofs.Listed.{each-at}
-use Rattle.model.specs.Rules.{Pair, Pairs, Literal, same, among}
+use Rattle.model.specs.Rules.{Pair, Literal, same, among}
 use Rattle.model.specs.Orders.{no-rule, rule-at, changes, firing-order}
 use Rattle.model.specs.Strata.{is-becomes, pairs-where, tested}
-use Rattle.model.specs.Result.{pair, value-in, is-changed, new-value, new-card, changes-slip, Bounded}
-use Rattle.model.proofs.Pairs.{same-eq, among-at}
+use Rattle.model.specs.Result.{pair, Bounded}
+use Rattle.model.proofs.Pairs.{same-eq}
 use Rattle.model.proofs.Changes.{cause}
 use Rattle.model.proofs.Orders.{are-rules}
-use Rattle.model.proofs.Results.{value-in-right, slip-e, slip-rising, new-card-length, new-card-at}
 use Rattle.laws.specs.Limits.{row, value-limit}
 use Rattle.grammar.specs.Files.{Slot, File, no-slot, slot-counts}
 use Rattle.grammar.proofs.Declared.{Declared-pair, slot-declared, value-declared, Declared-rule, Valued, Declared-file}
 use Rattle.laws.specs.Answers.{passed}
-use Rattle.cards.specs.Forms.{card-test, slip-test}
-use Rattle.cards.proofs.Tested.{same-count, no-pair}
-use Rattle.cards.proofs.Passed.{Slots, values-pass, card-pass}
-use Rattle.cards.proofs.Having.{Has, tested-has, rising-passes, within-passes}
+use Rattle.cards.specs.Forms.{slip-test}
+use Rattle.cards.proofs.Passed.{Slots}
+use Rattle.cards.proofs.Having.{Has, tested-has}
 
 -- What each of some literals' pairs has, one among those of literals that pass has.
 each-where : (P : Pair → Type 0) (g : Literal → Bool) (ls : List Literal) → Each (λ (l : Literal). P (l .pair)) ls → (p : Pair) → T (among p (pairs-where g ls)) → P p
@@ -93,25 +91,3 @@ module _ (f : File) (declared : Declared-file f) where
       slot-below = λ p t. changes-has p t .below;
       value-below = λ p t. omega (arith, changes-has p t .last, few-values (p .slot));
     }
-
--- Changes that the slots have are a slip that passes its tests,
-pub changes-pass : (counts : List ℕ) (C : Pairs) → ((p : Pair) → T (C p) → Has counts p) → slip-test counts (changes-slip (length counts) row C) ≡ passed
-changes-pass counts C has =
-    rising-passes counts 0 0 ps (λ i l. has (getD ps i no-pair) (slip-e row C (length counts) (getD ps i no-pair) (among-at ps i no-pair l) .1)) (λ l. omega arith) (λ i l. slip-rising row C (length counts) i no-pair l)
-  where
-    ps : List Pair
-    ps = changes-slip (length counts) row C
-
--- and the new card passes, as the old one does.
-pub new-card-passes : (counts : List ℕ) (C : Pairs) (S : List ℕ) → ((p : Pair) → T (C p) → Has counts p) → card-test counts S ≡ passed → card-test counts (new-card (length counts) row C S) ≡ passed
-unfolding new-value
-new-card-passes counts C S has e =
-    same-count counts (new-card (length counts) row C S) passed (new-card-length row C (length counts) S)
-    (within-passes 0 counts (new-card (length counts) row C S) (λ i l. let m : i < length counts = omega (arith, l, new-card-length row C (length counts) S) in rw (new-card-at row C (length counts) i S m) (low i m)))
-  where
-    low : (i : ℕ) → i < length counts → new-value row C S i ≤ getD counts i 0
-    low i m = go (is-changed row C i) (λ t. has (pair i (value-in row C i)) (value-in-right row C i t) .last) (let c = card-pass counts S e in values-pass 0 counts S (c .1) i m (omega (arith, m, c .0)))
-      where
-        go : (b : Bool) → (T b → value-in row C i ≤ getD counts i 0) → getD S i 0 ≤ getD counts i 0 → cond b (value-in row C i) (getD S i 0) ≤ getD counts i 0
-        go true h l = h tt
-        go false h l = l

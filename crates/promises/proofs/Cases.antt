@@ -94,21 +94,21 @@ abbrev text-J : List ℕ
 text-J = after-slots "WHEN x *= 1 IF y |= 0 AND TRUE THEN z := 1;"
 
 -- The bytes of editor 7's file.
-abbrev editor-7 : List ℕ
+abbrev pub editor-7 : List ℕ
 editor-7 = 7 ∷ []
 
 -- The lines of a rule, and of a change.
-abbrev fired : ℕ → RuleLine
+abbrev pub fired : ℕ → RuleLine
 fired n = record { stratum = n; fired = true }
 
-abbrev idle : ℕ → RuleLine
+abbrev pub idle : ℕ → RuleLine
 idle n = record { stratum = n; fired = false }
 
-abbrev change : String → String → ChangeLine
+abbrev pub change : String → String → ChangeLine
 change s v = record { slot = bytes s; value = bytes v }
 
 -- What is listed of an answer to editor 7 on fresh records, which leaves that editor 1 and 0.
-abbrev shows-answer : List RuleLine → List ChangeLine → List ℕ → Listing
+abbrev pub shows-answer : List RuleLine → List ChangeLine → List ℕ → Listing
 shows-answer rs cs card = listed rs cs card 7 (record { answered = 1; refused = 0 })
 
 -- A case: a text, a card and a slip, which editor 7 hands in, what is listed of them, and what the program prints.
@@ -119,7 +119,7 @@ pub record Case : Type 0 where
   pub comes-to : Listing
   pub prints : String
 
-abbrev case : List ℕ → List ℕ → List ℕ → Listing → String → Case
+abbrev pub case : List ℕ → List ℕ → List ℕ → Listing → String → Case
 case text card slip u s = record { text = text; card = card; slip = slip; comes-to = u; prints = s }
 
 -- A: a alone, x to 1: changes x, z. B: b alone: change x only. C: a, b: as the program lists it. D: a, c, y to 1: strata 1, 1; neither fires. E: d, e, y to 1: strata 2, 1; changes x, y; only rule 2 fired.
@@ -146,7 +146,7 @@ unfolding lists
 cases = refl
 
 -- `unfolding runs-prints` opens all that a listing's bytes run.
-unfoldable runs-prints : Unit {0}
+unfoldable pub runs-prints : Unit {0}
 unfolding lists digits decimal hexadecimal fired-word rule-text rules-text change-text changes-text card-text tally-text refusal-text printed bytes bytes-from
 runs-prints = tt
 

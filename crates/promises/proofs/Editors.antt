@@ -77,7 +77,7 @@ module _ (way : Way) (t : Table) (y : Editors) (card slip : List ℕ) (o : Outpu
   came = answer-in way t y card slip rooms
 
   -- An answer tells that the slip could be counted.
-  tells-answer : (a : Answer) → came ≡ taken a → Countable y
+  pub tells-answer : (a : Answer) → came ≡ taken a → Countable y
   tells-answer a e = go (caller-of y)
     where
       go : Caller y → Countable y

@@ -2,6 +2,7 @@ pub mod Cases
 pub mod CasePrints
 pub mod MarkCases
 pub mod TruthCases
+pub mod WithdrawalCases
 pub mod Callers
 pub mod Refusals
 pub mod Judged
@@ -13,6 +14,7 @@ pub mod Conflicts
 pub mod Ends
 pub mod FiredBits
 pub mod Bounds
+pub mod Held
 pub mod Shows
 pub mod Orders
 pub mod Moved
@@ -39,3 +41,4 @@ pub mod ByMarksMoved
 pub mod ByMarksTables
 pub mod ByMarks
 pub mod TruthValues
+pub mod Withdrawals

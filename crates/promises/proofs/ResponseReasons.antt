@@ -7,14 +7,14 @@ use mathlib.Core.Bool.{Bool, true, false, cond}
 use mathlib.Core.List.{List, [], _∷_, map}
 use mathlib.Core.Logic.{⊎-elim}
 use lib.Dec.{T, leb, ltb, leb→le}
-use lib.ListN.{length, getD}
+use lib.ListN.{length, getD, length-map, length-take}
 use borrow.Author.Tests.{ltb-true, ltb-false}
 use Rattle.laws.specs.Truth.{_∧ᵇ_, notᵇ}
 use Rattle.laws.specs.Listed.{all-of}
 use Rattle.laws.specs.Packed.{byte-count}
 use Rattle.laws.specs.Answers.{OrRefused, taken, refused}
 use Rattle.laws.proofs.Truth.{and-l, and-r, or-l, or-r, not-e}
-use Rattle.laws.proofs.Equations.{is-true, from-true}
+use Rattle.laws.proofs.Equations.{from-true}
 use Rattle.laws.proofs.Listed.{all-append}
 use Rattle.model.specs.Rules.{Pair, Pairs, among}
 use Rattle.model.specs.Rules as model
@@ -28,7 +28,7 @@ use Rattle.table.specs.declared.Slot.{Slot}
 use Rattle.table.specs.declared.Table.{Table}
 use Rattle.table.specs.declared.Way.{Way}
 use Rattle.table.specs.declared.Way.the-variants.{Strata, Marks}
-use Rattle.laws.specs.Limits.{value-limit, row}
+use Rattle.laws.specs.Limits.{slot-limit, value-limit, row}
 use Rattle.table.specs.Link.{rule-of, assignments-of, slots-of, used-rules, rules-of, value-counts}
 use Rattle.soundness.specs.Sound.{within-limits, names-its-own, has-pair, named, well-formed, takes}
 use Rattle.soundness.proofs.Taken.{takes-parts}
@@ -38,6 +38,7 @@ use Rattle.marks.specs.Marks.{declared-pairs, is-both, is-unknown}
 use Rattle.marks.specs.Selection.{no-clash, all-known, selection-refusal}
 use Rattle.marks.proofs.Selections.{all-pairs-e}
 use Rattle.cards.specs.Forms.{card-bits, values-in, changes-in, read-card, read-slip}
+use Rattle.cards.proofs.Passed.{Slots}
 use Rattle.cards.proofs.Having.{tested-has, slip-tested}
 use Rattle.response.specs.Ending.{Answer, answer-of, unless-conflict, answer-by-firing, unless-refused, answer-by-marks}
 use Rattle.response.specs.Respond.{_and-then_, Rooms, changes-room, if-room, answer-by, answer-by-rules, answer-by-table}
@@ -88,19 +89,31 @@ module _ (t : Table) (formed : T (well-formed t)) where
   unfolding within-limits value-counts
   few i = few-each (slots-of t) i (and-r (leb (t .width) _) _ (and-l _ _ (and-l _ _ limits)))
 
-  -- Every value in C is one of an array's row.
-  value-small : (slip : List ℕ) (I : List Pair) (ns : List ℕ) → read-slip (value-counts t) slip ≡ taken I → (p : Pair) → T (changes (rules-of t) I ns p) → p .value < row
-  unfolding rules-of rule-at names-its-own among no-rule
-  value-small slip I ns e p m = ⊎-elim of-the-slip (λ c. of-a-rule (c .0) (c .2)) (cause (rules-of t) I ns p m)
-    where
-      of-the-slip : T (among p I) → p .value < row
-      of-the-slip a = omega (arith, tested-has (value-counts t) 0 0 I (slip-tested (value-counts t) slip I e) p a .last, few (p .slot))
+  -- They are slots of the limits.
+  pub table-slots : Slots (value-counts t)
+  unfolding within-limits value-counts
+  table-slots = record {
+    few = omega (arith, leb→le (t .width) slot-limit (and-l (leb (t .width) slot-limit) _ (and-l _ _ (and-l _ _ limits))), length-map (slots-of t) (λ (s : Slot). s .count), length-take (t .width) (t .slots));
+    small = λ i h. few i;
+  }
 
-      of-a-rule : (n : ℕ) → T (among p (rule-at (rules-of t) n .assignments)) → p .value < row
+  -- Every value in C is one that its slot has, or NONE,
+  pub value-within : (slip : List ℕ) (I : List Pair) (ns : List ℕ) → read-slip (value-counts t) slip ≡ taken I → (p : Pair) → T (changes (rules-of t) I ns p) → p .value ≤ getD (value-counts t) (p .slot) 0
+  unfolding rules-of rule-at names-its-own among no-rule
+  value-within slip I ns e p m = ⊎-elim of-the-slip (λ c. of-a-rule (c .0) (c .2)) (cause (rules-of t) I ns p m)
+    where
+      of-the-slip : T (among p I) → p .value ≤ getD (value-counts t) (p .slot) 0
+      of-the-slip a = tested-has (value-counts t) 0 0 I (slip-tested (value-counts t) slip I e) p a .last
+
+      of-a-rule : (n : ℕ) → T (among p (rule-at (rules-of t) n .assignments)) → p .value ≤ getD (value-counts t) (p .slot) 0
       of-a-rule zero a = absurd a
       of-a-rule (suc k) a =
           let h = assigned-by (t .width) (value-counts t) (used-rules t) k p rules-own a in
-          omega (arith, pair-inside (t .width) (value-counts t) p h .2)
+          pair-inside (t .width) (value-counts t) p h .3
+
+  -- and so one of an array's row.
+  value-small : (slip : List ℕ) (I : List Pair) (ns : List ℕ) → read-slip (value-counts t) slip ≡ taken I → (p : Pair) → T (changes (rules-of t) I ns p) → p .value < row
+  value-small slip I ns e p m = omega (arith, value-within slip I ns e p m, few (p .slot))
 
 -- What follows of the reasons, and of what is taken.
 pub judged-more : {A : Type 0} (R R′ : ℕ → ℕ → Type 0) (P Q : A → Type 0) (u : OrRefused A) → Judged R′ P u → ((k s : ℕ) → R′ k s → R k s) → ((a : A) → P a → Q a) → Judged R Q u

@@ -13,4 +13,5 @@ pub mod CalledPrint
 pub mod Selections
 pub mod ByMarks
 pub mod TruthValues
+pub mod Withdrawals
 pub mod Program

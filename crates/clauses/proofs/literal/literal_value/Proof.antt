@@ -1,6 +1,5 @@
 -- `clauses::literal::literal_value` meets its contract.
 -- Assumes nothing.
-use Prim.Native.Nat.{_-_}
 use native.Mathlib.Omega.{arith}
 use mathlib.Core.Path.{ap, subst, _∙_}
 use lib.ListN.{length}
