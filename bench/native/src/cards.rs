@@ -75,7 +75,7 @@ pub fn unpack_slip(lasts: &Lasts, width: usize, slip: &[u8]) -> Result<Changes, 
         if slot < least {
             return Err(refusal(26, at));
         }
-        if value.wrapping_sub(1) >= lasts[slot] {
+        if value > lasts[slot] {
             return Err(refusal(27, at));
         }
         changes[slot % SLOTS] = 1 << value;

@@ -12,7 +12,7 @@ const PLACES: usize = LITERALS + 1;
 const FALSE: u8 = 0x80;
 const MOST: u8 = 0x40;
 
-/// A slot, a bit for each of its values: those declared, the card's, those positive, those negative.
+/// A slot, a bit for NONE and for each of its values: those that it has, the card's, those positive, those negative.
 #[derive(Clone, Copy, Default)]
 struct Slot {
     declared: u16,
@@ -203,7 +203,7 @@ impl Marking<'_> {
 #[inline]
 pub fn mark(rules: &[Rule], lasts: &Lasts, values: &[u8; SLOTS], changes: &mut Changes) -> Result<Fired, u8> {
     let slot = |slot: usize| {
-        let declared = ((2u32 << lasts[slot]) - 2) as u16;
+        let declared = if lasts[slot] == 0 { 0 } else { ((2u32 << lasts[slot]) - 1) as u16 };
         Slot { declared, had: 1 << values[slot], ..Slot::default() }
     };
     let mut marking = Marking {

@@ -67,9 +67,12 @@ impl Pen<'_> {
         self.at += size as usize;
     }
 
-    /// Writes a value's name.
+    /// Writes a value's name, or NONE for 0.
     #[inline]
     fn value(&mut self, slot: u8, value: u8) {
+        if value == 0 {
+            return self.put(b"NONE");
+        }
         let size = self.table.slots[slot as usize].values[value as usize - 1].size;
         self.name(self.names.value_key(slot, value), size);
     }

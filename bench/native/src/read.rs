@@ -118,10 +118,17 @@ impl Reader<'_> {
         self.names.slot(&self.scan.key).ok_or(16)
     }
 
-    /// A value's name in a slot.
+    /// A value of a slot: its name, or NONE, which is 0.
     #[inline]
     fn value(&mut self, slot: u8) -> Result<u8, u8> {
-        self.name()?;
+        let kind = self.scan.token();
+        if kind == Kind::None {
+            return Ok(0);
+        }
+        if kind != Kind::Name {
+            return Err(fault(kind));
+        }
+        self.sized()?;
         self.names.value(slot, &self.scan.key).ok_or(16)
     }
 

@@ -22,10 +22,11 @@ fn lasts(table: &Table) -> Option<Lasts> {
     Some(lasts)
 }
 
-/// Whether the table lacks a pair.
+/// Whether the table lacks a pair: the slot, whose last value is then 0, or the value; NONE, value 0, every slot has.
 #[inline]
 fn lacks(lasts: &Lasts, slot: u8, value: u8) -> bool {
-    value.wrapping_sub(1) >= lasts[slot as usize]
+    let last = lasts[slot as usize];
+    (last == 0) | (value > last)
 }
 
 /// Whether a rule breaks a limit, names a pair that the table lacks, or assigns a slot twice; without branches for its literals.

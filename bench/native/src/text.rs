@@ -17,6 +17,7 @@ pub enum Kind {
     And,
     Not,
     True,
+    None,
     Name,
     Open,
     Close,
@@ -81,6 +82,7 @@ const THEN: u64 = number(b"THEN");
 const AND: u64 = number(b"AND");
 const NOT: u64 = number(b"NOT");
 const TRUE: u64 = number(b"TRUE");
+const NONE: u64 = number(b"NONE");
 
 /// The kind of a word of at most four bytes.
 #[inline]
@@ -93,6 +95,7 @@ fn word_kind(word: u64) -> Kind {
         AND => Kind::And,
         NOT => Kind::Not,
         TRUE => Kind::True,
+        NONE => Kind::None,
         _ => Kind::Name,
     }
 }

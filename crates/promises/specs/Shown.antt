@@ -17,7 +17,7 @@ pub record ShowsName (text : List ℕ) (n : Name) (s : Showing) : Type 0 where
   pub place : s .start ≡ n .start
   pub stands : Stands text n
 
--- The names that an accepted text shows are those that its file declares: every slot's and every value's, values counted from 1; past the last of them it is 31.
+-- The names that an accepted text shows are those that its file declares: every slot's and every value's, values counted from 1; past the last of them it is 31, and for value 0, NONE, which no text declares.
 pub record NamesShown (text : List ℕ) (f : File) : Type 0 where
   pub slot : (s : ℕ) → s < length (f .slots) → ShowsName text (getD (f .slots) s no-slot .name) (show-slot text (reading text .table) s)
   pub value : (s i : ℕ) → s < length (f .slots) → i < length (values-of (f .slots) s)
