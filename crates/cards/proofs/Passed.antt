@@ -92,7 +92,7 @@ card-pass counts vs e = go (eqb (length vs) (length counts)) refl e
     go true d e = (eqb-true (length vs) (length counts) d, e)
     go false d e = absurd (clash 21 0 e)
 
--- Changes that pass name a slot and a value of it.
+-- Changes that pass name a slot, and a value of it or NONE.
 pub changes-pass : (counts : List ℕ) (low at : ℕ) (ps : List Pair) → changes-test counts low at ps ≡ passed → (j : ℕ) → j < length ps
     → (getD ps j no-pair .slot < length counts) × (getD ps j no-pair .value ≤ getD counts (getD ps j no-pair .slot) 0)
 unfolding changes-test

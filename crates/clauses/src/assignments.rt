@@ -1,4 +1,4 @@
-// Assignments: a slot's name, `:=`, a value's name; one of them, or a list in braces.
+// Assignments: a slot's name, `:=`, a value; one of them, or a list in braces.
 ghost use mathlib.Core.Path.{_≡_};
 ghost use mathlib.Core.List.{List, [], _∷_, _++_};
 ghost use Prim.Native.Nat.{ℕ, _+_, _*_, _<_};

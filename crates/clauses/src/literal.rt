@@ -1,4 +1,4 @@
-// Literals: NOTs, a slot's name, `*=` or `|=`, a value's name.
+// Literals: NOTs, a slot's name, `*=` or `|=`, a value.
 ghost use mathlib.Core.Path.{_≡_};
 ghost use mathlib.Core.Bool.{false};
 ghost use mathlib.Core.List.{List};

@@ -13,7 +13,7 @@ use Rattle.text.specs.Tokens.{Name, Token, word, name, long, bad, SLOT, WHEN, I
 use Rattle.model.specs.Rules.{Pair, Literal, Rule, assigns}
 use Rattle.laws.specs.Limits.{text-limit, slot-limit, value-limit, rule-limit, literal-limit, assignment-limit}
 use Rattle.grammar.specs.Files.{Slot, File, place-in, slot-names, values-of}
-use Rattle.grammar.specs.Grammar.{RuleTree, rule, trigger, ValueTree, ConditionTree, and-literal, one-literal, true-alone, LiteralTree, not-literal, becomes-value, holds-value, AssignTree, one-alone, braces, AssignmentListTree, one-assignment, comma-assignment, AssignmentTree, gets-value, ValueListTree, one-value, comma-value, LineTree, line, FileTree, spell, spell-value, spell-literal, spell-condition, spell-assignment, spell-assignments, spell-assign, spell-rule, spell-rules, spell-values, spell-line, spell-lines}
+use Rattle.grammar.specs.Grammar.{RuleTree, rule, trigger, SlotvalTree, ConditionTree, and-literal, one-literal, true-alone, LiteralTree, not-literal, becomes-value, holds-value, AssignTree, one-alone, braces, AssignmentListTree, one-assignment, comma-assignment, AssignmentTree, gets-value, ValueListTree, one-value, comma-value, LineTree, line, FileTree, spell, spell-slotval, spell-literal, spell-condition, spell-assignment, spell-assignments, spell-assign, spell-rule, spell-rules, spell-values, spell-line, spell-lines}
 use Rattle.grammar.specs.Reading.{Part, took, stop, Parsed, accepted, refused, _then_, expects, a-name, new-name, read-slot, read-value, read-target, plain-literal, read-literal, no-literal, read-literals, read-condition, read-assignment, no-assignment, read-assignments, read-assign, read-rule, no-value, read-values, read-line, go-on, read-rules, read-lines, read-tokens, parse}
 use Rattle.model.specs.Result.{pair}
 use Rattle.grammar.specs.Meaning.{Means-slotval, Names, turned, nots, tests-change, tested-slot, tested-value, Means-literal, Means-condition, means-and, means-one, means-true, Means-assignment, means-assignment, Means-assignments, means-first, means-comma, Means-assign, means-alone, means-braces, means-trigger, Means-rule, means-rule, Means-rules, no-rules, more-rules, Means-values, means-value, means-values, Means-line, means-line, Means-lines, no-lines, more-lines, Is-file}
@@ -30,12 +30,12 @@ pub record Literal-found (ts : List Token) (slots : List Slot) (neg : Bool) (m :
 -- The end of a literal: its mark was read, and a value follows.
 value-end : (slots : List Slot) (s : ℕ) (b neg : Bool) (more : List Token) (m : Literal) (rest : List Token)
     → (read-value slots s more then λ v left. took (record { becomes = b; negated = neg; pair = pair s v }) left) ≡ took m rest
-    → (v : ValueTree) × (k : ℕ) × (more ≡ spell-value v ∷ rest) × (m ≡ record { becomes = b; negated = neg; pair = pair s k }) × Means-slotval (values-of slots s) v k
+    → (v : SlotvalTree) × (k : ℕ) × (more ≡ spell-slotval v ∷ rest) × (m ≡ record { becomes = b; negated = neg; pair = pair s k }) × Means-slotval (values-of slots s) v k
 value-end slots s b neg more m rest e =
     let a = then-back (read-value slots s more) _ m rest e in
     let v = value-back slots s more (a .0) (a .1) (a .2) in
     let t = took-same _ m (a .1) rest (a .3) in
-    (v .0, a .0, v .1 ∙ put (spell-value (v .0)) (t .1), sym (t .0), v .2)
+    (v .0, a .0, v .1 ∙ put (spell-slotval (v .0)) (t .1), sym (t .0), v .2)
 
 plain-back : (slots : List Slot) (neg : Bool) (ts : List Token) (m : Literal) (rest : List Token) → plain-literal slots neg ts ≡ took m rest → Literal-found ts slots neg m rest
 unfolding plain-literal
@@ -116,7 +116,7 @@ assignment-back slots ps ts p rest e =
     let v = value-back slots (a .0) (c .1) (d .0) (d .1) (d .2) in
     let t = took-same (pair (a .0) (d .0)) p (d .1) rest (d .3) in (
       gets-value (s .0) (v .0),
-      s .1 ∙ put (name (s .0)) (expects-back GETS (a .1) (c .0) (c .1) (c .2) ∙ put (word GETS) (v .1 ∙ put (spell-value (v .0)) (t .1))),
+      s .1 ∙ put (name (s .0)) (expects-back GETS (a .1) (c .0) (c .1) (c .2) ∙ put (word GETS) (v .1 ∙ put (spell-slotval (v .0)) (t .1))),
       subst (λ (q : Pair). Means-assignment slots (gets-value (s .0) (v .0)) q) (t .0) (means-assignment (record { slot-is = s .2; value-is = v .2 })),
       subst (λ (q : Pair). assigns ps (q .slot) ≡ false) (t .0) (s .3),
     )
@@ -170,13 +170,13 @@ rule-back slots ts r rest e =
   where
     made : (t1 : List Token) (s : ℕ) (t2 : List Token) (v : ℕ) (t3 t4 t5 : List Token) (ls : List Literal) (t6 : List Token) (ps : List Pair) (t7 t8 : List Token)
         → ts ≡ word WHEN ∷ t1 → ((n : Name) × (t1 ≡ name n ∷ t2) × (place-in (slot-names slots) n ≡ suc s)) → t2 ≡ word BECOMES ∷ t3
-        → ((w : ValueTree) × (t3 ≡ spell-value w ∷ t4) × Means-slotval (values-of slots s) w v) → t4 ≡ word IF ∷ t5
+        → ((w : SlotvalTree) × (t3 ≡ spell-slotval w ∷ t4) × Means-slotval (values-of slots s) w v) → t4 ≡ word IF ∷ t5
         → ((d : ConditionTree) × (t5 ≡ spell-condition d (word THEN ∷ t6)) × Means-condition slots d ls × (length ls ≤ literal-limit))
         → ((d : AssignTree) × (t6 ≡ spell-assign d t7) × Means-assign slots d ps × (length ps ≤ assignment-limit)) → t7 ≡ word SEMICOLON ∷ t8
         → (record { trigger = pair s v; literals = ls; assignments = ps } ≡ r) × (t8 ≡ rest) → (t : RuleTree) × (ts ≡ spell-rule t rest) × Means-rule slots t r
     made t1 s t2 v t3 t4 t5 ls t6 ps t7 t8 e1 n e3 m e5 c a e8 e9 = (
       rule (trigger (n .0) (m .0)) (c .0) (a .0),
-      e1 ∙ put (word WHEN) (n .1 ∙ put (name (n .0)) (e3 ∙ put (word BECOMES) (m .1 ∙ put (spell-value (m .0)) (e5 ∙ put (word IF) (c .1
+      e1 ∙ put (word WHEN) (n .1 ∙ put (name (n .0)) (e3 ∙ put (word BECOMES) (m .1 ∙ put (spell-slotval (m .0)) (e5 ∙ put (word IF) (c .1
           ∙ ap (λ (y : List Token). spell-condition (c .0) (word THEN ∷ y)) (a .1 ∙ ap (spell-assign (a .0)) (e8 ∙ put (word SEMICOLON) (e9 .1)))))))),
       subst (λ (q : Rule). Means-rule slots (rule (trigger (n .0) (m .0)) (c .0) (a .0)) q) (e9 .0)
           (means-rule (means-trigger (record { slot-is = n .2; value-is = m .2 })) (c .2) (c .3) (a .2) (a .3)),

@@ -14,7 +14,7 @@ use Rattle.model.specs.Rules.{Pair, Literal, Rule, assigns}
 use Rattle.model.specs.Result.{pair}
 use Rattle.laws.specs.Limits.{slot-limit, value-limit, rule-limit, literal-limit, assignment-limit}
 use Rattle.grammar.specs.Files.{Slot, place-in, slot-names, values-of}
-use Rattle.grammar.specs.Grammar.{trigger, spell-value, spell-literal, spell-condition, spell-assignment, spell-rule, spell-line}
+use Rattle.grammar.specs.Grammar.{trigger, spell-slotval, spell-literal, spell-condition, spell-assignment, spell-rule, spell-line}
 use Rattle.grammar.specs.Meaning.{means-trigger}
 use Rattle.grammar.specs.Reading.{Part, took, stop, refused, _then_, expects, fork, a-name, new, new-name, known-slot, known-value, unassigned, read-slot, read-place, read-value, read-target, read-list, plain-literal, read-literal, no-literal, read-literals, read-condition, read-assignment, no-assignment, read-assignments, read-assign, read-rule, no-value, read-values, read-line, read-rules, read-lines, read-tokens}
 use Rattle.grammar.specs.Beginnings.{Position, next-line, fresh-slot, fresh-value, next-rule, next-trigger, next-condition, next-literal, literal-slot, next-assign, next-listed, assigned-slot, next-value, Before, start, behind-line, behind-slot, behind-open, behind-value, lines-over, behind-rule, behind-when, behind-trigger-slot, behind-if, no-true-first, behind-true, behind-literal, literal-first, behind-not, behind-becomes, behind-has, behind-then, no-brace, behind-brace, behind-assignment, in-braces, behind-gets, Fault-at, slot-twice, value-twice, too-many-slots, too-many-values, too-many-rules, too-many-literals, too-many-nots, too-many-assignments, no-trigger-slot, no-tested-slot, no-assigned-slot, no-such-value, slot-assigned-twice}
@@ -287,8 +287,8 @@ find-rule k lo all mid ts w slots rs b few e =
     (find-value k lo all (mid ++ word WHEN ∷ [] ++ name (n .0) ∷ word BECOMES ∷ []) t3 (on all (mid ++ word WHEN ∷ []) (name (n .0) ∷ word BECOMES ∷ []) t3 t1 w1 (n .1 ∙ put (name (n .0)) q3)) slots s (behind-trigger-slot (n .0) (behind-when b few) (n .2)))
     (λ v t4 x4 e4. let m = value-back slots s t3 v t4 x4 in
     by-word IF t4 _ k lo e4 (λ t5 q5 e5.
-    find-body k lo all (mid ++ word WHEN ∷ [] ++ name (n .0) ∷ word BECOMES ∷ spell-value (m .0) ∷ word IF ∷ []) t5
-    (on all (mid ++ word WHEN ∷ []) (name (n .0) ∷ word BECOMES ∷ spell-value (m .0) ∷ word IF ∷ []) t5 t1 w1 (n .1 ∙ put (name (n .0)) (q3 ∙ put (word BECOMES) (m .1 ∙ put (spell-value (m .0)) q5))))
+    find-body k lo all (mid ++ word WHEN ∷ [] ++ name (n .0) ∷ word BECOMES ∷ spell-slotval (m .0) ∷ word IF ∷ []) t5
+    (on all (mid ++ word WHEN ∷ []) (name (n .0) ∷ word BECOMES ∷ spell-slotval (m .0) ∷ word IF ∷ []) t5 t1 w1 (n .1 ∙ put (name (n .0)) (q3 ∙ put (word BECOMES) (m .1 ∙ put (spell-slotval (m .0)) q5))))
     slots (behind-if {t = trigger (n .0) (m .0)} (behind-when b few) (means-trigger {p = pair s v} (record { slot-is = n .2; value-is = m .2 })))
     _ (λ ms ps t7 e7. by-word SEMICOLON t7 _ k lo e7 (λ t8 q8 e8. not-took k _ t8 e8)) e5)))))
 

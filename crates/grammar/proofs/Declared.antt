@@ -18,11 +18,11 @@ use Rattle.text.proofs.Cut.{place-le}
 use Rattle.text.proofs.Covering.{place-spelled}
 use Rattle.model.specs.Rules.{Pair, Literal, Rule, assigns, each-once}
 use Rattle.laws.specs.Limits.{slot-limit, value-limit, rule-limit, literal-limit, assignment-limit}
-use Rattle.grammar.specs.Files.{Slot, File, spellings, place-in, slot-names, no-slot, values-of, slot-named, written-value, value-written}
-use Rattle.grammar.specs.Grammar.{RuleTree, ValueTree, ConditionTree, AssignTree, AssignmentListTree, AssignmentTree, ValueListTree, LineTree, FileTree, spell-value}
+use Rattle.grammar.specs.Files.{Slot, File, spellings, place-in, slot-names, no-slot, values-of, slot-named, slotval-of, value-written}
+use Rattle.grammar.specs.Grammar.{RuleTree, SlotvalTree, ConditionTree, AssignTree, AssignmentListTree, AssignmentTree, ValueListTree, LineTree, FileTree, spell-slotval}
 use Rattle.grammar.specs.Meaning.{Means-slotval, means-name, means-none, Names, Means-condition, means-and, means-one, means-true, Means-assignment, means-assignment, Means-assignments, means-first, means-comma, Means-assign, means-alone, means-braces, means-trigger, means-rule, Means-rules, no-rules, more-rules, Means-values, means-value, means-values, means-line, Means-lines, no-lines, more-lines, Means, Is-file}
 
--- A pair is declared: its slot and its value have names, by which they are found.
+-- A pair is declared: its slot's name and its value as it is written mean it.
 abbrev pub Declared-pair : List Slot → Pair → Type 0
 Declared-pair slots p = Names slots (slot-named slots p) (value-written slots p) p
 
@@ -33,23 +33,23 @@ found-letters names n k e =
     ∙ ap (λ (ms : List (List ℕ)). getD ms k []) (append-nil (spellings names))
     ∙ List·getD-map (λ (m : Name). m .letters) names k (no-slot .name)
 
-pub slot-letters : (slots : List Slot) (s : Name) (v : ValueTree) (p : Pair) → Names slots s v p → s .letters ≡ slot-named slots p .letters
+pub slot-letters : (slots : List Slot) (s : Name) (v : SlotvalTree) (p : Pair) → Names slots s v p → s .letters ≡ slot-named slots p .letters
 slot-letters slots s v p n = found-letters (slot-names slots) s (p .slot) (n .slot-is) ∙ ap (λ (m : Name). m .letters) (List·getD-map (λ (x : Slot). x .name) slots (p .slot) no-slot)
 
 -- A value that means a number is written as that number is, but for the place of its name.
-slotval-letters : (names : List Name) (v : ValueTree) (k : ℕ) → Means-slotval names v k → moved (λ i. 0) (spell-value v) ≡ moved (λ i. 0) (spell-value (written-value names k))
+slotval-letters : (names : List Name) (v : SlotvalTree) (k : ℕ) → Means-slotval names v k → moved (λ i. 0) (spell-slotval v) ≡ moved (λ i. 0) (spell-slotval (slotval-of names k))
 slotval-letters names v k (means-name {n = n} {k = i} e) = ap (λ (l : List ℕ). name (record { start = 0; letters = l })) (found-letters names n i e)
 slotval-letters names v k means-none = refl
 
-pub value-letters : (slots : List Slot) (s : Name) (v : ValueTree) (p : Pair) → Names slots s v p → moved (λ i. 0) (spell-value v) ≡ moved (λ i. 0) (spell-value (value-written slots p))
+pub value-letters : (slots : List Slot) (s : Name) (v : SlotvalTree) (p : Pair) → Names slots s v p → moved (λ i. 0) (spell-slotval v) ≡ moved (λ i. 0) (spell-slotval (value-written slots p))
 value-letters slots s v p n = slotval-letters (values-of slots (p .slot)) v (p .value) (n .value-is)
 
 -- As it is written, a number means itself.
-slotval-written : (names : List Name) (v : ValueTree) (k : ℕ) → Means-slotval names v k → Means-slotval names (written-value names k) k
+slotval-written : (names : List Name) (v : SlotvalTree) (k : ℕ) → Means-slotval names v k → Means-slotval names (slotval-of names k) k
 slotval-written names v k (means-name {n = n} {k = i} e) = means-name (ap (λ (l : List ℕ). place l (spellings names)) (sym (found-letters names n i e)) ∙ e)
 slotval-written names v k means-none = means-none
 
-named-declared : (slots : List Slot) (s : Name) (v : ValueTree) (p : Pair) → Names slots s v p → Declared-pair slots p
+named-declared : (slots : List Slot) (s : Name) (v : SlotvalTree) (p : Pair) → Names slots s v p → Declared-pair slots p
 named-declared slots s v p n = record {
   slot-is = ap (λ (l : List ℕ). place l (spellings (slot-names slots))) (sym (slot-letters slots s v p n)) ∙ n .slot-is;
   value-is = slotval-written (values-of slots (p .slot)) v (p .value) (n .value-is);
@@ -64,7 +64,7 @@ slot-declared slots p n =
 pub value-declared : (slots : List Slot) (p : Pair) → Declared-pair slots p → p .value ≤ length (values-of slots (p .slot))
 value-declared slots p n = slotval-le (values-of slots (p .slot)) (value-written slots p) (p .value) (n .value-is)
   where
-    slotval-le : (names : List Name) (v : ValueTree) (k : ℕ) → Means-slotval names v k → k ≤ length names
+    slotval-le : (names : List Name) (v : SlotvalTree) (k : ℕ) → Means-slotval names v k → k ≤ length names
     slotval-le names v k (means-name {n = m} {k = i} e) =
         let l : length (spellings names) ≡ length names = rw length-map in
         omega (arith, l, e, place-le (m .letters) (spellings names))

@@ -7,20 +7,20 @@ use mathlib.Core.List.{List, [], _∷_, _++_}
 use Rattle.text.specs.Tokens.{Token, word, name, SLOT, WHEN, IF, THEN, AND, NOT, OPEN, CLOSE, COMMA, SEMICOLON, BECOMES, HAS, GETS, tokens-from}
 use Rattle.text.specs.Cut.{No-semi, Free, before-semi, past-semi}
 use Rattle.text.proofs.Cut.{tokens-free, before-free, past-free}
-use Rattle.grammar.specs.Grammar.{RuleTree, rule, trigger, ValueTree, value-name, value-none, ConditionTree, and-literal, one-literal, true-alone, LiteralTree, not-literal, becomes-value, holds-value, AssignTree, one-alone, braces, AssignmentListTree, one-assignment, comma-assignment, AssignmentTree, gets-value, ValueListTree, one-value, comma-value, LineTree, line, spell-value, spell-literal, spell-condition, spell-assignment, spell-assignments, spell-assign, spell-trigger, spell-rule, spell-values, spell-line}
+use Rattle.grammar.specs.Grammar.{RuleTree, rule, trigger, SlotvalTree, slotval-name, slotval-none, ConditionTree, and-literal, one-literal, true-alone, LiteralTree, not-literal, becomes-value, holds-value, AssignTree, one-alone, braces, AssignmentListTree, one-assignment, comma-assignment, AssignmentTree, gets-value, ValueListTree, one-value, comma-value, LineTree, line, spell-slotval, spell-literal, spell-condition, spell-assignment, spell-assignments, spell-assign, spell-trigger, spell-rule, spell-values, spell-line}
 
 -- The tokens before the first `;`, followed by `;` and others.
 abbrev pub refit : List Token → List Token → List Token
 refit ts us = before-semi ts ++ word SEMICOLON ∷ us
 
 -- A value is no `;`.
-value-past : (v : ValueTree) (rest : List Token) → past-semi (spell-value v ∷ rest) ≡ past-semi rest
-value-past (value-name n) rest = refl
-value-past value-none rest = refl
+value-past : (v : SlotvalTree) (rest : List Token) → past-semi (spell-slotval v ∷ rest) ≡ past-semi rest
+value-past (slotval-name n) rest = refl
+value-past slotval-none rest = refl
 
-value-refit : (v : ValueTree) (rest us : List Token) → refit (spell-value v ∷ rest) us ≡ spell-value v ∷ refit rest us
-value-refit (value-name n) rest us = refl
-value-refit value-none rest us = refl
+value-refit : (v : SlotvalTree) (rest us : List Token) → refit (spell-slotval v ∷ rest) us ≡ spell-slotval v ∷ refit rest us
+value-refit (slotval-name n) rest us = refl
+value-refit slotval-none rest us = refl
 
 -- What a statement derives has one `;`, its last token: what follows it is `rest`, and may be anything else.
 literal-past : (l : LiteralTree) (rest : List Token) → past-semi (spell-literal l rest) ≡ past-semi rest

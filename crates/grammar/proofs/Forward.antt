@@ -11,7 +11,7 @@ use Rattle.text.specs.Tokens.{Name, Token, word, name, SLOT, WHEN, IF, THEN, AN
 use Rattle.model.specs.Rules.{Pair, Literal, Rule, assigns}
 use Rattle.laws.specs.Limits.{text-limit, slot-limit, value-limit, rule-limit, literal-limit, assignment-limit}
 use Rattle.grammar.specs.Files.{Slot, File, place-in, slot-names, values-of}
-use Rattle.grammar.specs.Grammar.{RuleTree, rule, trigger, ValueTree, ConditionTree, LiteralTree, not-literal, becomes-value, holds-value, AssignTree, AssignmentListTree, AssignmentTree, gets-value, ValueListTree, LineTree, line, FileTree, spell, spell-value, spell-literal, spell-condition, spell-assignment, spell-assignments, spell-assign, spell-rule, spell-rules, spell-values, spell-line, spell-lines}
+use Rattle.grammar.specs.Grammar.{RuleTree, rule, trigger, SlotvalTree, ConditionTree, LiteralTree, not-literal, becomes-value, holds-value, AssignTree, AssignmentListTree, AssignmentTree, gets-value, ValueListTree, LineTree, line, FileTree, spell, spell-slotval, spell-literal, spell-condition, spell-assignment, spell-assignments, spell-assign, spell-rule, spell-rules, spell-values, spell-line, spell-lines}
 use Rattle.grammar.specs.Reading.{Part, took, stop, accepted, refused, _then_, expects, fork, a-name, begins-with, if-next, new, new-name, known-slot, known-value, unassigned, read-slot, read-place, read-value, read-target, read-list, plain-literal, read-literal, no-literal, read-literals, read-condition, read-assignment, no-assignment, read-assignments, read-assign, read-rule, no-value, read-values, read-line, go-on, read-rules, read-lines, read-tokens, parse}
 use Rattle.grammar.specs.Meaning.{Means-slotval, means-name, means-none, Names, turned, nots, tests-change, tested-slot, tested-value, Means-literal, Means-condition, means-and, means-one, means-true, Means-assignment, means-assignment, Means-assignments, means-first, means-comma, Means-assign, means-alone, means-braces, means-trigger, Means-rule, means-rule, Means-rules, no-rules, more-rules, Means-values, means-value, means-values, Means-line, means-line, Means-lines, no-lines, more-lines, Means, Is-file}
 
@@ -23,20 +23,20 @@ pub expects-here : (w : ℕ) (ts : List Token) → expects w (word w ∷ ts) ≡
 unfolding expects
 expects-here w ts = ap (λ (t : Bool). cond t (took tt ts) (stop 12)) (eq-eqb w w refl)
 
-slot-here : (slots : List Slot) (s : Name) (v : ValueTree) (p : Pair) (ts : List Token) → Names slots s v p → read-slot slots (name s ∷ ts) ≡ took (p .slot) ts
+slot-here : (slots : List Slot) (s : Name) (v : SlotvalTree) (p : Pair) (ts : List Token) → Names slots s v p → read-slot slots (name s ∷ ts) ≡ took (p .slot) ts
 unfolding read-slot a-name _then_ known-slot
 slot-here slots s v p ts n = ap (λ (k : ℕ). known-slot k ts) (n .slot-is)
 
 -- A value that means a number is taken as that number.
-slotval-here : (slots : List Slot) (s : ℕ) (v : ValueTree) (k : ℕ) (ts : List Token) → Means-slotval (values-of slots s) v k → read-value slots s (spell-value v ∷ ts) ≡ took k ts
+slotval-here : (slots : List Slot) (s : ℕ) (v : SlotvalTree) (k : ℕ) (ts : List Token) → Means-slotval (values-of slots s) v k → read-value slots s (spell-slotval v ∷ ts) ≡ took k ts
 unfolding read-value read-place if-next a-name _then_ known-value
 slotval-here slots s v k ts (means-name e) = ap (λ (i : ℕ). known-value i ts) e
 slotval-here slots s v k ts means-none = refl
 
-pub value-here : (slots : List Slot) (s : Name) (v : ValueTree) (p : Pair) (ts : List Token) → Names slots s v p → read-value slots (p .slot) (spell-value v ∷ ts) ≡ took (p .value) ts
+pub value-here : (slots : List Slot) (s : Name) (v : SlotvalTree) (p : Pair) (ts : List Token) → Names slots s v p → read-value slots (p .slot) (spell-slotval v ∷ ts) ≡ took (p .value) ts
 value-here slots s v p ts n = slotval-here slots (p .slot) v (p .value) ts (n .value-is)
 
-target-here : (slots : List Slot) (ps : List Pair) (s : Name) (v : ValueTree) (p : Pair) (ts : List Token) → Names slots s v p → assigns ps (p .slot) ≡ false
+target-here : (slots : List Slot) (ps : List Pair) (s : Name) (v : SlotvalTree) (p : Pair) (ts : List Token) → Names slots s v p → assigns ps (p .slot) ≡ false
     → read-target slots ps (name s ∷ ts) ≡ took (p .slot) ts
 unfolding read-target unassigned
 target-here slots ps s v p ts n e = rw (slot-here slots s v p ts n, took-then) (ap (λ (t : Bool). unassigned t (p .slot) ts) e)

@@ -8,13 +8,13 @@ use Rattle.text.specs.Tokens.{Name, Token, word, name, WHEN, IF, THEN, AND, NOT
 use Rattle.text.specs.Cut.{moved-name, moved}
 use Rattle.model.specs.Rules.{Pair, Literal, Rule}
 use Rattle.grammar.specs.Files.{Slot}
-use Rattle.grammar.specs.Grammar.{RuleTree, rule, TriggerTree, trigger, ValueTree, value-name, value-none, ConditionTree, and-literal, one-literal, true-alone, LiteralTree, not-literal, becomes-value, holds-value, AssignTree, one-alone, braces, AssignmentListTree, one-assignment, comma-assignment, AssignmentTree, gets-value, spell-value, spell-literal, spell-condition, spell-assignment, spell-assignments, spell-assign, spell-trigger, spell-rule}
+use Rattle.grammar.specs.Grammar.{RuleTree, rule, TriggerTree, trigger, SlotvalTree, slotval-name, slotval-none, ConditionTree, and-literal, one-literal, true-alone, LiteralTree, not-literal, becomes-value, holds-value, AssignTree, one-alone, braces, AssignmentListTree, one-assignment, comma-assignment, AssignmentTree, gets-value, spell-slotval, spell-literal, spell-condition, spell-assignment, spell-assignments, spell-assign, spell-trigger, spell-rule}
 use Rattle.grammar.specs.Meaning.{Means-slotval, means-name, means-none, Names, turned, nots, tests-change, tested-slot, tested-value, Means-literal, Means-condition, means-and, means-one, means-true, Means-assignment, means-assignment, Means-assignments, means-first, means-comma, Means-assign, means-alone, means-braces, Means-trigger, means-trigger, Means-rule, means-rule}
 
 module _ (f : ℕ → ℕ) where
-  abbrev moved-value : ValueTree → ValueTree
-  moved-value (value-name n) = value-name (moved-name f n)
-  moved-value value-none = value-none
+  abbrev moved-value : SlotvalTree → SlotvalTree
+  moved-value (slotval-name n) = slotval-name (moved-name f n)
+  moved-value slotval-none = slotval-none
 
   abbrev moved-literal : LiteralTree → LiteralTree
   moved-literal (not-literal l) = not-literal (moved-literal l)
@@ -47,12 +47,12 @@ module _ (f : ℕ → ℕ) where
   abbrev all-moved : List Token → List Token
   all-moved ts = map (moved f) ts
 
-  value-moved : (v : ValueTree) → moved f (spell-value v) ≡ spell-value (moved-value v)
-  value-moved (value-name n) = refl
-  value-moved value-none = refl
+  value-moved : (v : SlotvalTree) → moved f (spell-slotval v) ≡ spell-slotval (moved-value v)
+  value-moved (slotval-name n) = refl
+  value-moved slotval-none = refl
 
   -- A slot's name, a mark and a value.
-  test-moved : (s : Name) (w : ℕ) (v : ValueTree) (rest : List Token) → all-moved (name s ∷ word w ∷ spell-value v ∷ rest) ≡ name (moved-name f s) ∷ word w ∷ spell-value (moved-value v) ∷ all-moved rest
+  test-moved : (s : Name) (w : ℕ) (v : SlotvalTree) (rest : List Token) → all-moved (name s ∷ word w ∷ spell-slotval v ∷ rest) ≡ name (moved-name f s) ∷ word w ∷ spell-slotval (moved-value v) ∷ all-moved rest
   test-moved s w v rest = ap (λ (t : Token). name (moved-name f s) ∷ word w ∷ t ∷ all-moved rest) (value-moved v)
 
   literal-moved : (l : LiteralTree) (rest : List Token) → all-moved (spell-literal l rest) ≡ spell-literal (moved-literal l) (all-moved rest)
@@ -90,11 +90,11 @@ module _ (f : ℕ → ℕ) where
       (condition-moved c (word THEN ∷ spell-assign a (word SEMICOLON ∷ rest))
       ∙ ap (λ (y : List Token). spell-condition (moved-condition c) (word THEN ∷ y)) (assign-moved a (word SEMICOLON ∷ rest))))
 
-  slotval-moved : {names : List Name} {v : ValueTree} {k : ℕ} → Means-slotval names v k → Means-slotval names (moved-value v) k
+  slotval-moved : {names : List Name} {v : SlotvalTree} {k : ℕ} → Means-slotval names v k → Means-slotval names (moved-value v) k
   slotval-moved (means-name e) = means-name e
   slotval-moved means-none = means-none
 
-  names-moved : {slots : List Slot} {s : Name} {v : ValueTree} {p : Pair} → Names slots s v p → Names slots (moved-name f s) (moved-value v) p
+  names-moved : {slots : List Slot} {s : Name} {v : SlotvalTree} {p : Pair} → Names slots s v p → Names slots (moved-name f s) (moved-value v) p
   names-moved n = record { slot-is = n .slot-is; value-is = slotval-moved (n .value-is) }
 
   literal-names : (slots : List Slot) (l : LiteralTree) (p : Pair) → Names slots (tested-slot l) (tested-value l) p → Names slots (tested-slot (moved-literal l)) (tested-value (moved-literal l)) p

@@ -11,7 +11,7 @@ use borrow.Author.Tests.{eqb-true}
 use Rattle.text.specs.Tokens.{Name, Token, word, name, long, bad, THEN, AND, NOT, NONE, BECOMES, HAS}
 use Rattle.model.specs.Rules.{Pair, Literal, assigns}
 use Rattle.grammar.specs.Files.{Slot, place-in, slot-names, values-of}
-use Rattle.grammar.specs.Grammar.{ValueTree, value-name, value-none, LiteralTree, not-literal, becomes-value, holds-value, spell-value, spell-literal}
+use Rattle.grammar.specs.Grammar.{SlotvalTree, slotval-name, slotval-none, LiteralTree, not-literal, becomes-value, holds-value, spell-slotval, spell-literal}
 use Rattle.grammar.specs.Reading.{Part, took, stop, _then_, a-name, begins-with, new, new-name, known-slot, known-value, unassigned, read-slot, read-place, read-value, read-target, plain-literal, read-literal, no-literal, read-literals, no-assignment, no-value}
 use Rattle.model.specs.Result.{pair}
 use Rattle.grammar.proofs.Forward.{literal-read}
@@ -78,33 +78,33 @@ abbrev pub x-name : Name
 x-name = record { start = 0; letters = 120 ∷ [] }
 
 -- A value: NONE, or a name.
-pub value-tokens : (v : ValueTree) (rest : List Token) → Written rest → Written (spell-value v ∷ rest)
-value-tokens (value-name n) rest h = h
-value-tokens value-none rest h = h
+pub value-tokens : (v : SlotvalTree) (rest : List Token) → Written rest → Written (spell-slotval v ∷ rest)
+value-tokens (slotval-name n) rest h = h
+value-tokens slotval-none rest h = h
 
 abbrev pub a-value : Language
-a-value = record { Tree = ValueTree; spells = λ v rest. spell-value v ∷ rest; append = λ v xs ys. refl; written = value-tokens; some-tree = value-name x-name }
+a-value = record { Tree = SlotvalTree; spells = λ v rest. spell-slotval v ∷ rest; append = λ v xs ys. refl; written = value-tokens; some-tree = slotval-name x-name }
 
 abbrev value-parts : Language
 value-parts = perhaps NONE nothing a-single-name
 
-value-from : value-parts .Tree → ValueTree
-value-from (inl u) = value-none
-value-from (inr n) = value-name n
+value-from : value-parts .Tree → SlotvalTree
+value-from (inl u) = slotval-none
+value-from (inr n) = slotval-name n
 
-value-from-spelled : (x : value-parts .Tree) (rest : List Token) → value-parts .spells x rest ≡ spell-value (value-from x) ∷ rest
+value-from-spelled : (x : value-parts .Tree) (rest : List Token) → value-parts .spells x rest ≡ spell-slotval (value-from x) ∷ rest
 unfolding value-from
 value-from-spelled (inl u) rest = refl
 value-from-spelled (inr n) rest = refl
 
-value-parts-of : ValueTree → value-parts .Tree
-value-parts-of (value-name n) = inr n
-value-parts-of value-none = inl tt
+value-parts-of : SlotvalTree → value-parts .Tree
+value-parts-of (slotval-name n) = inr n
+value-parts-of slotval-none = inl tt
 
-value-parts-spelled : (v : ValueTree) (rest : List Token) → spell-value v ∷ rest ≡ value-parts .spells (value-parts-of v) rest
+value-parts-spelled : (v : SlotvalTree) (rest : List Token) → spell-slotval v ∷ rest ≡ value-parts .spells (value-parts-of v) rest
 unfolding value-parts-of
-value-parts-spelled (value-name n) rest = refl
-value-parts-spelled value-none rest = refl
+value-parts-spelled (slotval-name n) rest = refl
+value-parts-spelled slotval-none rest = refl
 
 pub reader-value : (slots : List Slot) (s : ℕ) → Reader a-value (read-value slots s)
 unfolding read-value
@@ -125,7 +125,7 @@ literal-written (becomes-value s v) rest h = value-tokens v rest h
 literal-written (holds-value s v) rest h = value-tokens v rest h
 
 abbrev pub a-literal : Language
-a-literal = record { Tree = LiteralTree; spells = spell-literal; append = literal-append; written = literal-written; some-tree = holds-value x-name (value-name x-name) }
+a-literal = record { Tree = LiteralTree; spells = spell-literal; append = literal-append; written = literal-written; some-tree = holds-value x-name (slotval-name x-name) }
 
 -- A literal without NOT.
 abbrev a-plain-literal : Language
@@ -134,7 +134,7 @@ a-plain-literal = both a-single-name (either BECOMES HAS (both a-value nothing) 
 abbrev literal-from : a-plain-literal .Tree → LiteralTree
 literal-from x = elim (x .1) as (λ y. LiteralTree) [ inl y ↦ becomes-value (x .0) (y .0) | inr y ↦ holds-value (x .0) (y .0) ]
 
-literal-from-spelled : (n : Name) (y : (ValueTree × Unit {0}) ⊎ (ValueTree × Unit {0})) (rest : List Token) → a-plain-literal .spells (n, y) rest ≡ spell-literal (literal-from (n, y)) rest
+literal-from-spelled : (n : Name) (y : (SlotvalTree × Unit {0}) ⊎ (SlotvalTree × Unit {0})) (rest : List Token) → a-plain-literal .spells (n, y) rest ≡ spell-literal (literal-from (n, y)) rest
 literal-from-spelled n (inl y) rest = refl
 literal-from-spelled n (inr y) rest = refl
 
@@ -183,7 +183,7 @@ literal-stops (name n ∷ ts) slots neg k e =
     (Begins a-literal) (λ us. read-literal us slots neg ≡ stop 12) (λ us. read-literal us slots neg ≡ stop k) NOT false plain-begins
     (λ us off z. literal-plain slots neg us (nothing-next NOT us off) ∙ z) (λ t us off z. literal-plain slots neg (t ∷ us) off ∙ z) (name n ∷ ts) k refl (reader-plain slots neg .stops (name n ∷ ts) k e)
 literal-stops (long ∷ ts) slots neg k e =
-    stop-here a-literal (λ us. read-literal us slots neg) (long ∷ ts) 13 k refl refl (long-name (λ n rest. (holds-value n (value-name x-name), word HAS ∷ name x-name ∷ rest, refl)))
+    stop-here a-literal (λ us. read-literal us slots neg) (long ∷ ts) 13 k refl refl (long-name (λ n rest. (holds-value n (slotval-name x-name), word HAS ∷ name x-name ∷ rest, refl)))
     (follows-long (λ us. read-literal us slots neg ≡ stop 13) 13 ts (λ later. refl) (λ z n later. absurd (omega arith))) e
 literal-stops (bad ∷ ts) slots neg k e =
     stop-here a-literal (λ us. read-literal us slots neg) (bad ∷ ts) 11 k refl refl bad-token (follows-same (λ us. read-literal us slots neg ≡ stop 11) 11 bad ts refl (λ later. refl)) e
@@ -213,7 +213,7 @@ no-literal-fits sofar (becomes-value s v) more rest = omega arith
 no-literal-fits sofar (holds-value s v) more rest = omega arith
 
 name-begins-literals : (n : Name) → Begins literals (name n ∷ [])
-name-begins-literals n rest = ((holds-value n (value-name x-name), []), word HAS ∷ name x-name ∷ word THEN ∷ rest, refl)
+name-begins-literals n rest = ((holds-value n (slotval-name x-name), []), word HAS ∷ name x-name ∷ word THEN ∷ rest, refl)
 
 no-literal-stops : (sofar : List Literal) (ts : List Token) (k : ℕ) → no-literal sofar ts ≡ stop k → Stops-at literals (no-literal sofar) ts k
 unfolding no-literal
@@ -226,7 +226,7 @@ no-literal-stops sofar (word w ∷ ts) k e = go (eqb w NOT) refl
     go : (t : Bool) → eqb w NOT ≡ t → Stops-at literals (no-literal sofar) (word w ∷ ts) k
     go true q =
         stop-here literals (no-literal sofar) (word w ∷ ts) 15 k refl (at-word true q ts)
-        (later-fault (omega arith) (λ rest. ((not-literal (holds-value x-name (value-name x-name)), []), name x-name ∷ word HAS ∷ name x-name ∷ word THEN ∷ rest, ap (λ (i : ℕ). word i ∷ name x-name ∷ word HAS ∷ name x-name ∷ word THEN ∷ rest) (sym (eqb-true w NOT q)))))
+        (later-fault (omega arith) (λ rest. ((not-literal (holds-value x-name (slotval-name x-name)), []), name x-name ∷ word HAS ∷ name x-name ∷ word THEN ∷ rest, ap (λ (i : ℕ). word i ∷ name x-name ∷ word HAS ∷ name x-name ∷ word THEN ∷ rest) (sym (eqb-true w NOT q)))))
         (follows-same (λ us. no-literal sofar us ≡ stop 15) 15 (word w) ts refl (at-word true q)) e
     go false q =
         stop-here literals (no-literal sofar) (word w ∷ ts) 12 k refl (at-word false q ts) (wrong-token refl)

@@ -12,7 +12,7 @@ use lib.ListN.{length, length-append}
 use Rattle.text.specs.Tokens.{Name, Token, word, name, long, bad, NONE}
 use Rattle.model.specs.Rules.{Pair, assigns}
 use Rattle.grammar.specs.Files.{Slot, place-in, slot-names, values-of}
-use Rattle.grammar.specs.Grammar.{ValueTree, value-name, value-none, spell-value}
+use Rattle.grammar.specs.Grammar.{SlotvalTree, slotval-name, slotval-none, spell-slotval}
 use Rattle.grammar.specs.Meaning.{Means-slotval, means-name, means-none}
 use Rattle.grammar.specs.Reading.{Part, took, stop, _then_, expects, fork, a-name, begins-with, if-next, new, new-name, known-slot, known-value, unassigned, read-slot, read-place, read-value, read-target, read-list}
 use Rattle.grammar.proofs.Forward.{after-part}
@@ -141,13 +141,13 @@ if-next-back {B} w f g ts b e = go (begins-with w ts) refl e
 
 -- A value that was read: NONE, or the name of one.
 pub value-back : (slots : List Slot) (s : ℕ) (ts : List Token) (v : ℕ) (rest : List Token) → read-value slots s ts ≡ took v rest
-    → (t : ValueTree) × (ts ≡ spell-value t ∷ rest) × Means-slotval (values-of slots s) t v
+    → (t : SlotvalTree) × (ts ≡ spell-slotval t ∷ rest) × Means-slotval (values-of slots s) t v
 unfolding read-value read-place
 value-back slots s ts v rest e =
-    ⊎-elim (λ x. let t = took-same 0 v (x .0) rest (x .2) in (value-none, x .1 ∙ put (word NONE) (t .1), subst (Means-slotval (values-of slots s) value-none) (t .0) means-none))
+    ⊎-elim (λ x. let t = took-same 0 v (x .0) rest (x .2) in (slotval-none, x .1 ∙ put (word NONE) (t .1), subst (Means-slotval (values-of slots s) slotval-none) (t .0) means-none))
     (λ x. let a = then-back (a-name ts) _ v rest x in
     let b = known-value-back (place-in (values-of slots s) (a .0)) (a .1) v rest (a .3) in
-    (value-name (a .0), name-back ts (a .0) (a .1) (a .2) ∙ put (name (a .0)) (b .3), subst (Means-slotval (values-of slots s) (value-name (a .0))) (b .2) (means-name (b .1))))
+    (slotval-name (a .0), name-back ts (a .0) (a .1) (a .2) ∙ put (name (a .0)) (b .3), subst (Means-slotval (values-of slots s) (slotval-name (a .0))) (b .2) (means-name (b .1))))
     (if-next-back NONE _ _ ts (took v rest) e)
 
 -- A list that was read: the tree so far grows by each part, up to the end.

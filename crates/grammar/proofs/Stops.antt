@@ -9,7 +9,7 @@ use Rattle.text.specs.Tokens.{Name, Token, word, name, SLOT, WHEN, IF, THEN, AN
 use Rattle.model.specs.Rules.{Pair}
 use Rattle.laws.specs.Limits.{value-limit, literal-limit, assignment-limit}
 use Rattle.grammar.specs.Files.{Slot, slot-names}
-use Rattle.grammar.specs.Grammar.{RuleTree, rule, trigger, value-name, ConditionTree, and-literal, one-literal, true-alone, LiteralTree, AssignTree, one-alone, braces, AssignmentListTree, one-assignment, comma-assignment, AssignmentTree, gets-value, ValueListTree, one-value, comma-value, LineTree, line, spell-value, spell-literal, spell-condition, spell-assignment, spell-assignments, spell-assign, spell-rule, spell-values, spell-line, grown}
+use Rattle.grammar.specs.Grammar.{RuleTree, rule, trigger, slotval-name, ConditionTree, and-literal, one-literal, true-alone, LiteralTree, AssignTree, one-alone, braces, AssignmentListTree, one-assignment, comma-assignment, AssignmentTree, gets-value, ValueListTree, one-value, comma-value, LineTree, line, spell-slotval, spell-literal, spell-condition, spell-assignment, spell-assignments, spell-assign, spell-rule, spell-values, spell-line, grown}
 use Rattle.grammar.specs.Reading.{took, _then_, expects, fork, new-name, read-slot, read-value, read-target, read-literals, read-condition, read-assignment, no-assignment, read-assignments, read-assign, read-rule, no-value, read-values, read-line}
 use Rattle.model.specs.Result.{pair}
 use Rattle.grammar.proofs.Forward.{no-true, no-open}
@@ -84,7 +84,7 @@ assignment-written : (a : AssignmentTree) (rest : List Token) → Written rest �
 assignment-written (gets-value s v) rest h = a-value .written v rest h
 
 abbrev an-assignment : Language
-an-assignment = record { Tree = AssignmentTree; spells = spell-assignment; append = assignment-append; written = assignment-written; some-tree = gets-value x-name (value-name x-name) }
+an-assignment = record { Tree = AssignmentTree; spells = spell-assignment; append = assignment-append; written = assignment-written; some-tree = gets-value x-name (slotval-name x-name) }
 
 abbrev assignment-parts : Language
 assignment-parts = both a-single-name (both (the-word GETS) (both a-value nothing))
@@ -110,13 +110,13 @@ abbrev assignments : Language
 assignments = list-of an-assignment COMMA CLOSE
 
 first-of-assignments : (a : AssignmentTree) (more : List Token) → (n : Name) × (rest : List Token) × (spell-assignment a more ≡ name n ∷ rest)
-first-of-assignments (gets-value s v) more = (s, word GETS ∷ spell-value v ∷ more, refl)
+first-of-assignments (gets-value s v) more = (s, word GETS ∷ spell-slotval v ∷ more, refl)
 
 reader-assignments : (slots : List Slot) (room : ℕ) (sofar : List Pair) → Reader assignments (read-assignments slots room sofar)
 unfolding read-assignments
 reader-assignments slots room sofar =
     reader-list an-assignment COMMA CLOSE (read-assignment slots) no-assignment (reader-assignment slots)
-    (λ ps. reader-full assignments (no-assignment ps) (full-assignment-read ps) (λ n rest. ((gets-value n (value-name x-name), []), word GETS ∷ name x-name ∷ word CLOSE ∷ rest, refl))
+    (λ ps. reader-full assignments (no-assignment ps) (full-assignment-read ps) (λ n rest. ((gets-value n (slotval-name x-name), []), word GETS ∷ name x-name ∷ word CLOSE ∷ rest, refl))
     (λ x rest. first-of-assignments (x .0) _) (no-assignment-back ps)) (λ z. omega arith) room sofar
 
 -- What follows THEN.
@@ -137,7 +137,7 @@ assign-written (one-alone a) rest h = assignment-written a rest h
 assign-written (braces l) rest h = assignments-written l (word CLOSE ∷ rest) h
 
 abbrev an-assign : Language
-an-assign = record { Tree = AssignTree; spells = spell-assign; append = assign-append; written = assign-written; some-tree = one-alone (gets-value x-name (value-name x-name)) }
+an-assign = record { Tree = AssignTree; spells = spell-assign; append = assign-append; written = assign-written; some-tree = one-alone (gets-value x-name (slotval-name x-name)) }
 
 abbrev assign-parts : Language
 assign-parts = perhaps OPEN assignments (both an-assignment nothing)
@@ -190,7 +190,7 @@ pub rule-written : (t : RuleTree) (rest : List Token) → Written rest → Writt
 rule-written t rest h = subst Written (sym (rule-of-spelled t rest)) (rule-parts .written (rule-of t) rest h)
 
 abbrev pub a-rule : Language
-a-rule = record { Tree = RuleTree; spells = spell-rule; append = rule-append; written = rule-written; some-tree = rule (trigger x-name (value-name x-name)) true-alone (one-alone (gets-value x-name (value-name x-name))) }
+a-rule = record { Tree = RuleTree; spells = spell-rule; append = rule-append; written = rule-written; some-tree = rule (trigger x-name (slotval-name x-name)) true-alone (one-alone (gets-value x-name (slotval-name x-name))) }
 
 -- The reader of a rule.
 pub reader-rule : (slots : List Slot) → Reader a-rule (read-rule slots)

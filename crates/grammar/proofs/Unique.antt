@@ -6,7 +6,7 @@ use mathlib.Core.Path.{_≡_, refl, sym, ap, ap₂, _∙_}
 use mathlib.Core.List.{List, [], _∷_}
 use lib.ListN.{drop}
 use Rattle.text.specs.Tokens.{Name, Token, word, name, SLOT, WHEN, IF, THEN, AND, NOT, TRUE, NONE, OPEN, CLOSE, COMMA, SEMICOLON, BECOMES, HAS, GETS}
-use Rattle.grammar.specs.Grammar.{RuleTree, rule, TriggerTree, trigger, ValueTree, value-name, value-none, ConditionTree, and-literal, LiteralTree, not-literal, becomes-value, holds-value, AssignTree, one-alone, braces, AssignmentListTree, one-assignment, comma-assignment, AssignmentTree, gets-value, ValueListTree, one-value, comma-value, LineTree, line, FileTree, spell, spell-value, spell-literal, spell-condition, spell-assignment, spell-assignments, spell-assign, spell-trigger, spell-rule, spell-rules, spell-values, spell-line, spell-lines, grown}
+use Rattle.grammar.specs.Grammar.{RuleTree, rule, TriggerTree, trigger, SlotvalTree, slotval-name, slotval-none, ConditionTree, and-literal, LiteralTree, not-literal, becomes-value, holds-value, AssignTree, one-alone, braces, AssignmentListTree, one-assignment, comma-assignment, AssignmentTree, gets-value, ValueListTree, one-value, comma-value, LineTree, line, FileTree, spell, spell-slotval, spell-literal, spell-condition, spell-assignment, spell-assignments, spell-assign, spell-trigger, spell-rule, spell-rules, spell-values, spell-line, spell-lines, grown}
 use Rattle.grammar.proofs.Leftmost.{spell-more, Opening, with-literal, with-true, opened, condition-leftmost, spells-condition, assignments-leftmost, spells-assignments, spell-name, values-leftmost, spells-values}
 
 pub other-word : {C : Type 0} (v w : ℕ) (xs ys : List Token) → word v ∷ xs ≡ word w ∷ ys → (v ≡ w → ⊥) → C
@@ -27,18 +27,18 @@ more-same {A} spell-one sep end inj d (a ∷ xs) (b ∷ ys) r s e =
     let g = more-same spell-one sep end inj d xs ys r s (h .1) in
     (ap₂ (λ (x : A) (y : List A). x ∷ y) (h .0) (g .0), g .1)
 
-one-value-tree : (v w : ValueTree) → spell-value v ≡ spell-value w → v ≡ w
-one-value-tree (value-name m) (value-name n) e = let z : m ≡ n = cc in ap value-name z
-one-value-tree (value-name n) value-none e = word-name NONE n [] [] (ap (λ (t : Token). t ∷ []) (sym e))
-one-value-tree value-none (value-name n) e = word-name NONE n [] [] (ap (λ (t : Token). t ∷ []) e)
-one-value-tree value-none value-none e = refl
+one-value-tree : (v w : SlotvalTree) → spell-slotval v ≡ spell-slotval w → v ≡ w
+one-value-tree (slotval-name m) (slotval-name n) e = let z : m ≡ n = cc in ap slotval-name z
+one-value-tree (slotval-name n) slotval-none e = word-name NONE n [] [] (ap (λ (t : Token). t ∷ []) (sym e))
+one-value-tree slotval-none (slotval-name n) e = word-name NONE n [] [] (ap (λ (t : Token). t ∷ []) e)
+one-value-tree slotval-none slotval-none e = refl
 
 -- A slot's name, a mark and a value with the same tokens are the same.
-one-test : {T : Type 0} (test : Name → ValueTree → T) (w : ℕ) (a c : Name) (b d : ValueTree) (r s : List Token) → name a ∷ word w ∷ spell-value b ∷ r ≡ name c ∷ word w ∷ spell-value d ∷ s
+one-test : {T : Type 0} (test : Name → SlotvalTree → T) (w : ℕ) (a c : Name) (b d : SlotvalTree) (r s : List Token) → name a ∷ word w ∷ spell-slotval b ∷ r ≡ name c ∷ word w ∷ spell-slotval d ∷ s
     → (test a b ≡ test c d) × (r ≡ s)
 one-test test w a c b d r s e =
     let x : a ≡ c = cc in
-    let y : spell-value b ≡ spell-value d = cc in
+    let y : spell-slotval b ≡ spell-slotval d = cc in
     (ap₂ test x (one-value-tree b d y), ap (drop 3) e)
 
 one-literal-tree : (l m : LiteralTree) (r s : List Token) → spell-literal l r ≡ spell-literal m s → (l ≡ m) × (r ≡ s)

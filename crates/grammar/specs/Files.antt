@@ -4,7 +4,7 @@ use mathlib.Core.List.{List, [], map}
 use lib.ListN.{length, getD}
 use Rattle.text.specs.Tokens.{Name, place}
 use Rattle.model.specs.Rules.{Pair, Rule}
-use Rattle.grammar.specs.Grammar.{ValueTree, value-name, value-none}
+use Rattle.grammar.specs.Grammar.{SlotvalTree, slotval-name, slotval-none}
 
 -- A slot as declared: its name, and the names of its values, numbered from 1 in declared order.
 pub record Slot : Type 0 where
@@ -41,13 +41,13 @@ abbrev pub slot-named : List Slot → Pair → Name
 slot-named slots p = getD slots (p .slot) no-slot .name
 
 -- The value of a number as a rule writes it, by the declared names of its slot's values: NONE for 0, and names from 1 on.
-abbrev pub written-value : List Name → ℕ → ValueTree
-written-value names zero = value-none
-written-value names (suc k) = value-name (getD names k (no-slot .name))
+abbrev pub slotval-of : List Name → ℕ → SlotvalTree
+slotval-of names zero = slotval-none
+slotval-of names (suc k) = slotval-name (getD names k (no-slot .name))
 
 -- The value of a pair as a rule writes it.
-abbrev pub value-written : List Slot → Pair → ValueTree
-value-written slots p = written-value (values-of slots (p .slot)) (p .value)
+abbrev pub value-written : List Slot → Pair → SlotvalTree
+value-written slots p = slotval-of (values-of slots (p .slot)) (p .value)
 
 -- How many values each slot has.
 abbrev pub slot-counts : List Slot → List ℕ

@@ -9,12 +9,12 @@ mutual
 
   -- r_trig ::= slot-name *= slotval
   pub data TriggerTree : Type 0 where
-    trigger : Name → ValueTree → TriggerTree
+    trigger : Name → SlotvalTree → TriggerTree
 
   -- slotval ::= name | NONE
-  pub data ValueTree : Type 0 where
-    value-name : Name → ValueTree
-    value-none : ValueTree
+  pub data SlotvalTree : Type 0 where
+    slotval-name : Name → SlotvalTree
+    slotval-none : SlotvalTree
 
   -- r_cond ::= r_cond AND r_literal | r_literal | TRUE
   pub data ConditionTree : Type 0 where
@@ -25,8 +25,8 @@ mutual
   -- r_literal ::= NOT r_literal | slot-name *= slotval | slot-name |= slotval
   pub data LiteralTree : Type 0 where
     not-literal : LiteralTree → LiteralTree
-    becomes-value : Name → ValueTree → LiteralTree
-    holds-value : Name → ValueTree → LiteralTree
+    becomes-value : Name → SlotvalTree → LiteralTree
+    holds-value : Name → SlotvalTree → LiteralTree
 
   -- r_assign ::= assignment | { assignment-list }
   pub data AssignTree : Type 0 where
@@ -40,7 +40,7 @@ mutual
 
   -- assignment ::= slot-name := slotval
   pub data AssignmentTree : Type 0 where
-    gets-value : Name → ValueTree → AssignmentTree
+    gets-value : Name → SlotvalTree → AssignmentTree
 
 -- value-list ::= name | value-list , name
 pub data ValueListTree : Type 0 where
@@ -62,15 +62,15 @@ grown grow t [] = t
 grown grow t (a ∷ xs) = grown grow (grow t a) xs
 
 -- The token that a value derives.
-abbrev pub spell-value : ValueTree → Token
-spell-value (value-name n) = name n
-spell-value value-none = word NONE
+abbrev pub spell-slotval : SlotvalTree → Token
+spell-slotval (slotval-name n) = name n
+spell-slotval slotval-none = word NONE
 
 -- The tokens that a literal derives, followed by `rest`.
 abbrev pub spell-literal : LiteralTree → List Token → List Token
 spell-literal (not-literal l) rest = word NOT ∷ spell-literal l rest
-spell-literal (becomes-value s v) rest = name s ∷ word BECOMES ∷ spell-value v ∷ rest
-spell-literal (holds-value s v) rest = name s ∷ word HAS ∷ spell-value v ∷ rest
+spell-literal (becomes-value s v) rest = name s ∷ word BECOMES ∷ spell-slotval v ∷ rest
+spell-literal (holds-value s v) rest = name s ∷ word HAS ∷ spell-slotval v ∷ rest
 
 -- Those of a condition.
 abbrev pub spell-condition : ConditionTree → List Token → List Token
@@ -80,7 +80,7 @@ spell-condition true-alone rest = word TRUE ∷ rest
 
 -- Those of an assignment.
 abbrev pub spell-assignment : AssignmentTree → List Token → List Token
-spell-assignment (gets-value s v) rest = name s ∷ word GETS ∷ spell-value v ∷ rest
+spell-assignment (gets-value s v) rest = name s ∷ word GETS ∷ spell-slotval v ∷ rest
 
 -- Those of a list of assignments.
 abbrev pub spell-assignments : AssignmentListTree → List Token → List Token
@@ -94,7 +94,7 @@ spell-assign (braces l) rest = word OPEN ∷ spell-assignments l (word CLOSE ∷
 
 -- Those of a trigger.
 abbrev pub spell-trigger : TriggerTree → List Token → List Token
-spell-trigger (trigger s v) rest = name s ∷ word BECOMES ∷ spell-value v ∷ rest
+spell-trigger (trigger s v) rest = name s ∷ word BECOMES ∷ spell-slotval v ∷ rest
 
 -- Those of a rule.
 abbrev pub spell-rule : RuleTree → List Token → List Token

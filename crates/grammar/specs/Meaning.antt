@@ -8,15 +8,15 @@ use Rattle.text.specs.Tokens.{Name, tokens}
 use Rattle.model.specs.Rules.{Pair, Literal, Rule, assigns}
 use Rattle.laws.specs.Limits.{text-limit, slot-limit, value-limit, rule-limit, literal-limit, assignment-limit}
 use Rattle.grammar.specs.Files.{Slot, File, place-in, slot-names, values-of}
-use Rattle.grammar.specs.Grammar.{RuleTree, rule, TriggerTree, trigger, ValueTree, value-name, value-none, ConditionTree, and-literal, one-literal, true-alone, LiteralTree, not-literal, becomes-value, holds-value, AssignTree, one-alone, braces, AssignmentListTree, one-assignment, comma-assignment, AssignmentTree, gets-value, ValueListTree, one-value, comma-value, LineTree, line, FileTree, spell}
+use Rattle.grammar.specs.Grammar.{RuleTree, rule, TriggerTree, trigger, SlotvalTree, slotval-name, slotval-none, ConditionTree, and-literal, one-literal, true-alone, LiteralTree, not-literal, becomes-value, holds-value, AssignTree, one-alone, braces, AssignmentListTree, one-assignment, comma-assignment, AssignmentTree, gets-value, ValueListTree, one-value, comma-value, LineTree, line, FileTree, spell}
 
 -- A value means a number, among the declared names of a slot's values: a name its place there, from 1; NONE 0.
-pub data Means-slotval (names : List Name) : ValueTree → ℕ → Type 0 where
-  means-name : {n : Name} {k : ℕ} → place-in names n ≡ suc k → Means-slotval names (value-name n) (suc k)
-  means-none : Means-slotval names value-none 0
+pub data Means-slotval (names : List Name) : SlotvalTree → ℕ → Type 0 where
+  means-name : {n : Name} {k : ℕ} → place-in names n ≡ suc k → Means-slotval names (slotval-name n) (suc k)
+  means-none : Means-slotval names slotval-none 0
 
 -- A slot's name and a value mean a pair: the slot is declared, and the value is declared in it or NONE.
-pub record Names (slots : List Slot) (s : Name) (v : ValueTree) (p : Pair) : Type 0 where
+pub record Names (slots : List Slot) (s : Name) (v : SlotvalTree) (p : Pair) : Type 0 where
   pub slot-is : place-in (slot-names slots) s ≡ suc (p .slot)
   pub value-is : Means-slotval (values-of slots (p .slot)) v (p .value)
 
@@ -44,7 +44,7 @@ tested-slot (becomes-value s v) = s
 tested-slot (holds-value s v) = s
 
 -- The value in a literal.
-abbrev pub tested-value : LiteralTree → ValueTree
+abbrev pub tested-value : LiteralTree → SlotvalTree
 tested-value (not-literal l) = tested-value l
 tested-value (becomes-value s v) = v
 tested-value (holds-value s v) = v
@@ -64,7 +64,7 @@ pub data Means-condition (slots : List Slot) : ConditionTree → List Literal �
 
 -- An assignment: a declared slot, and a value of it or NONE.
 pub data Means-assignment (slots : List Slot) : AssignmentTree → Pair → Type 0 where
-  means-assignment : {s : Name} {v : ValueTree} {p : Pair} → Names slots s v p → Means-assignment slots (gets-value s v) p
+  means-assignment : {s : Name} {v : SlotvalTree} {p : Pair} → Names slots s v p → Means-assignment slots (gets-value s v) p
 
 -- Assignments in order: none of a slot that one before it assigns.
 pub data Means-assignments (slots : List Slot) : AssignmentListTree → List Pair → Type 0 where
@@ -79,7 +79,7 @@ pub data Means-assign (slots : List Slot) : AssignTree → List Pair → Type 0 
 
 -- A trigger: a declared slot, and a value of it or NONE.
 pub data Means-trigger (slots : List Slot) : TriggerTree → Pair → Type 0 where
-  means-trigger : {s : Name} {v : ValueTree} {p : Pair} → Names slots s v p → Means-trigger slots (trigger s v) p
+  means-trigger : {s : Name} {v : SlotvalTree} {p : Pair} → Names slots s v p → Means-trigger slots (trigger s v) p
 
 -- A rule, with its literals and assignments within the limits.
 pub data Means-rule (slots : List Slot) : RuleTree → Rule → Type 0 where

@@ -35,18 +35,14 @@ use Rattle.cards.proofs.FieldForms.{slip-bits-sum, slip-field-widths, slip-read
 use Rattle.tally.specs.declared.Tally.{Tally}
 use Rattle.tally.specs.Counting.{is-full}
 use Rattle.response.specs.Ending.{Answer, fired-record, answer-of, unless-conflict, answer-by-firing}
-use Rattle.response.specs.Respond.{_and-then_, Rooms, changes-room, if-room, answer-by, answer-by-rules, answer-by-table, answer-at}
+use Rattle.response.specs.Respond.{Rooms, changes-room, if-room, answer-by, answer-by-rules, answer-by-table, answer-at}
+use Rattle.response.proofs.RespondLaws.{then-taken}
 use Rattle.response.proofs.AnswerLaws.{new-card-length, listed-fits}
 use Rattle.listing.specs.inner.AnswerLines.{ChangesWhole}
 
 -- What is taken in the end was taken at each step.
 not-taken : {A : Type 0} (k s : ℕ) (x : A) → _≡_ {A = OrRefused A} (refused k s) (taken x) → ⊥
 not-taken k s x e = let z : _≡_ {A = ℕ} 0 1 = cc in omega arith
-
-then-taken : {A B : Type 0} (u : OrRefused A) (f : A → OrRefused B) (b : B) → (u and-then f) ≡ taken b → (a : A) × (f a ≡ taken b)
-unfolding _and-then_
-then-taken (taken a) f b e = (a, e)
-then-taken (refused k s) f b e = absurd (not-taken k s b e)
 
 cond-taken : {A : Type 0} (c : Bool) (k s : ℕ) (u : OrRefused A) (a : A) → cond c (refused k s) u ≡ taken a → u ≡ taken a
 cond-taken true k s u a e = absurd (not-taken k s a e)
@@ -63,11 +59,11 @@ by-rules : (counts : List ℕ) (rs : List Rule) (card slip : List ℕ) (rooms : 
 unfolding answer-by-rules answer-by answer-by-firing unless-conflict if-room
 by-rules counts rs card slip rooms a e =
     let c = then-taken (read-card counts card) _ a e in
-    let s = then-taken (read-slip counts slip) _ a (c .1) in
+    let s = then-taken (read-slip counts slip) _ a (c .2) in
     let ns = response weak rs (c .0) (s .0) in
     let C = changes rs (s .0) ns in
     let r = cond-taken (ltb (rooms .for-fired) (byte-count (length rs))) 30 3 _ a
-    (cond-taken (ltb (rooms .for-changes) changes-room) 30 2 _ a (cond-taken (ltb (rooms .for-card) (byte-count (card-bits (length counts)))) 30 1 _ a (s .1))) in
+    (cond-taken (ltb (rooms .for-changes) changes-room) 30 2 _ a (cond-taken (ltb (rooms .for-card) (byte-count (card-bits (length counts)))) 30 1 _ a (s .2))) in
     let z : taken (answer-of (length counts) (length rs) (c .0) C ns) ≡ taken a = cond-taken (ltb (conflict-slot (length counts) row C) (length counts)) 40 (conflict-slot (length counts) row C) _ a r in
     record { S = c .0; C = C; ns = ns; is-answer = (let w : answer-of (length counts) (length rs) (c .0) C ns ≡ a = cc in w) }
 

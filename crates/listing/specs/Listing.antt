@@ -59,7 +59,7 @@ rule-line t a n = record { stratum = stratum-at t n; fired = bit-of (a .fired) n
 abbrev pub value-listed : ℕ → List ℕ → List ℕ
 value-listed value name = cond (eqb value 0) (bytes "NONE") name
 
--- The line of a change, by the names in the text.
+-- The line of a change, by the names in the text, and NONE.
 abbrev pub change-line : List ℕ → Table → Pair → ChangeLine
 change-line text t p = record { slot = show-slot text t (p .slot) .part; value = value-listed (p .value) (show-value text t (p .slot) (p .value) .part) }
 

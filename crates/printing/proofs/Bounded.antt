@@ -13,7 +13,7 @@ use Rattle.text.specs.Covering.{spelling}
 use Rattle.model.specs.Rules.{Pair, Literal, Rule}
 use Rattle.laws.specs.Limits.{name-limit}
 use Rattle.grammar.specs.Files.{Slot, File, spellings, slot-named, value-written}
-use Rattle.grammar.specs.Grammar.{ValueTree, value-name, value-none, spell-value}
+use Rattle.grammar.specs.Grammar.{SlotvalTree, slotval-name, slotval-none, spell-slotval}
 use Rattle.grammar.specs.Meaning.{Is-file}
 use Rattle.grammar.proofs.Declared.{Declared-pair, Declared-rule, Valued, file-declared}
 use Rattle.laws.specs.Listed.{Each}
@@ -53,10 +53,10 @@ separated-le {A} sep m part (x ∷ xs) h =
     omega arith
 
 -- A value takes no more bytes than a name.
-value-short : (v : ValueTree) → Printable (spell-value v) → length (token-bytes (spell-value v)) ≤ name-limit
+value-short : (v : SlotvalTree) → Printable (spell-slotval v) → length (token-bytes (spell-slotval v)) ≤ name-limit
 unfolding token-bytes spelling reserved
-value-short (value-name n) h = h .short
-value-short value-none h = omega arith
+value-short (slotval-name n) h = h .short
+value-short slotval-none h = omega arith
 
 module _ (slots : List Slot) (formed : Each Well-named slots) where
   pair-le : (mark : List ℕ) (p : Pair) → Declared-pair slots p → length (pair-bytes slots mark p) ≤ name-limit + length mark + name-limit
@@ -64,8 +64,8 @@ module _ (slots : List Slot) (formed : Each Well-named slots) where
   pair-le mark p d =
       let s = slot-formed slots formed p d .0 .short in
       let v = value-short (value-written slots p) (value-formed slots formed p d) in
-      let a = length-append (slot-named slots p .letters) (mark ++ token-bytes (spell-value (value-written slots p))) in
-      let b = length-append mark (token-bytes (spell-value (value-written slots p))) in
+      let a = length-append (slot-named slots p .letters) (mark ++ token-bytes (spell-slotval (value-written slots p))) in
+      let b = length-append mark (token-bytes (spell-slotval (value-written slots p))) in
       omega arith
 
   literal-le : (m : Literal) → Declared-pair slots (m .pair) → length (literal-bytes (pair-bytes slots) m) ≤ pair-most + 4

@@ -17,8 +17,8 @@ use Rattle.text.specs.Covering.{spelling}
 use Rattle.model.specs.Rules.{Pair, Literal, Rule}
 use Rattle.model.specs.Result.{pair}
 use Rattle.laws.specs.Limits.{value-limit, row}
-use Rattle.grammar.specs.Files.{Slot, File, spellings, slot-names, values-of, no-slot, written-value}
-use Rattle.grammar.specs.Grammar.{spell-value}
+use Rattle.grammar.specs.Files.{Slot, File, spellings, slot-names, values-of, no-slot, slotval-of}
+use Rattle.grammar.specs.Grammar.{spell-slotval}
 use Rattle.grammar.specs.Meaning.{Is-file}
 use Rattle.grammar.proofs.Accepts.{accepts-iff}
 use Rattle.grammar.proofs.Stands.{file-stands}
@@ -149,7 +149,7 @@ module _ (text : List ℕ) (o : reading text .outcome ≡ Accepted) where
         ∙ spanned-at text (row-of vs s) (values-of (file .slots) s) j (I .values s (omega (arith, tabled .few))) k
 
     -- A value as it is written, by its span.
-    written-spelled : (s k : ℕ) → s < length (file .slots) → k ≤ length (values-of (file .slots) s) → spelled-value text vs (pair s k) ≡ token-bytes (spell-value (written-value (values-of (file .slots) s) k))
+    written-spelled : (s k : ℕ) → s < length (file .slots) → k ≤ length (values-of (file .slots) s) → spelled-value text vs (pair s k) ≡ token-bytes (spell-slotval (slotval-of (values-of (file .slots) s) k))
     unfolding spelled-value bytes bytes-from token-bytes spelling reserved
     written-spelled s zero h l = refl
     written-spelled s (suc k) h l =

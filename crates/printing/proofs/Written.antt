@@ -11,7 +11,7 @@ use Rattle.text.specs.Tokens.{Name, Token, word, name, IF, THEN, AND, CLOSE, CO
 use Rattle.text.specs.Covering.{spelling}
 use Rattle.model.specs.Rules.{Pair, Literal, Rule}
 use Rattle.grammar.specs.Files.{Slot, File, spellings, slot-named, value-written}
-use Rattle.grammar.specs.Grammar.{ValueTree, value-name, value-none, and-literal, one-literal, LiteralTree, not-literal, becomes-value, holds-value, one-assignment, comma-assignment, one-value, comma-value, LineTree, spell-value, spell-literal, spell-condition, spell-assignment, spell-assignments, spell-assign, spell-rule, spell-rules, spell-values, spell-lines, grown}
+use Rattle.grammar.specs.Grammar.{SlotvalTree, slotval-name, slotval-none, and-literal, one-literal, LiteralTree, not-literal, becomes-value, holds-value, one-assignment, comma-assignment, one-value, comma-value, LineTree, spell-slotval, spell-literal, spell-condition, spell-assignment, spell-assignments, spell-assign, spell-rule, spell-rules, spell-values, spell-lines, grown}
 use Rattle.grammar.specs.Meaning.{Is-file}
 use Rattle.grammar.proofs.Leftmost.{spell-more, spell-name, spells-grown}
 use Rattle.grammar.proofs.Declared.{Declared-rule, file-declared}
@@ -64,33 +64,33 @@ more-names [] r = refl
 more-names (n ∷ ns) r = ap (λ (y : List ℕ). 44 ∷ 32 ∷ (n .letters ++ y)) (more-names ns r) ∙ ap (λ (y : List ℕ). 44 ∷ 32 ∷ y) (sym (append-assoc (n .letters) (followed (bytes ", ") (spellings ns)) (following r)))
 
 -- A slot's name, a mark and a value.
-abbrev value-bytes : ValueTree → List ℕ
-value-bytes v = token-bytes (spell-value v)
+abbrev value-bytes : SlotvalTree → List ℕ
+value-bytes v = token-bytes (spell-slotval v)
 
-becomes-laid : (n : Name) (v : ValueTree) (r : List Token) → layout (name n ∷ word BECOMES ∷ spell-value v ∷ r) ≡ n .letters ++ ((bytes " *= " ++ value-bytes v) ++ following r)
+becomes-laid : (n : Name) (v : SlotvalTree) (r : List Token) → layout (name n ∷ word BECOMES ∷ spell-slotval v ∷ r) ≡ n .letters ++ ((bytes " *= " ++ value-bytes v) ++ following r)
 unfolding laying following
-becomes-laid n (value-name m) r = refl
-becomes-laid n value-none r = refl
+becomes-laid n (slotval-name m) r = refl
+becomes-laid n slotval-none r = refl
 
-holds-laid : (n : Name) (v : ValueTree) (r : List Token) → layout (name n ∷ word HAS ∷ spell-value v ∷ r) ≡ n .letters ++ ((bytes " |= " ++ value-bytes v) ++ following r)
+holds-laid : (n : Name) (v : SlotvalTree) (r : List Token) → layout (name n ∷ word HAS ∷ spell-slotval v ∷ r) ≡ n .letters ++ ((bytes " |= " ++ value-bytes v) ++ following r)
 unfolding laying following
-holds-laid n (value-name m) r = refl
-holds-laid n value-none r = refl
+holds-laid n (slotval-name m) r = refl
+holds-laid n slotval-none r = refl
 
-gets-laid : (n : Name) (v : ValueTree) (r : List Token) → layout (name n ∷ word GETS ∷ spell-value v ∷ r) ≡ n .letters ++ ((bytes " := " ++ value-bytes v) ++ following r)
+gets-laid : (n : Name) (v : SlotvalTree) (r : List Token) → layout (name n ∷ word GETS ∷ spell-slotval v ∷ r) ≡ n .letters ++ ((bytes " := " ++ value-bytes v) ++ following r)
 unfolding laying following
-gets-laid n (value-name m) r = refl
-gets-laid n value-none r = refl
+gets-laid n (slotval-name m) r = refl
+gets-laid n slotval-none r = refl
 
 module _ (slots : List Slot) where
   pair-laid : (mark : List ℕ) (p : Pair) (y : List ℕ) → slot-named slots p .letters ++ ((mark ++ value-bytes (value-written slots p)) ++ y) ≡ pair-bytes slots mark p ++ y
   unfolding pair-bytes
   pair-laid mark p y = sym (append-assoc (slot-named slots p .letters) (mark ++ value-bytes (value-written slots p)) y)
 
-  becomes-pair : (p : Pair) (r : List Token) → layout (name (slot-named slots p) ∷ word BECOMES ∷ spell-value (value-written slots p) ∷ r) ≡ pair-bytes slots (bytes " *= ") p ++ following r
+  becomes-pair : (p : Pair) (r : List Token) → layout (name (slot-named slots p) ∷ word BECOMES ∷ spell-slotval (value-written slots p) ∷ r) ≡ pair-bytes slots (bytes " *= ") p ++ following r
   becomes-pair p r = becomes-laid (slot-named slots p) (value-written slots p) r ∙ pair-laid (bytes " *= ") p (following r)
 
-  holds-pair : (p : Pair) (r : List Token) → layout (name (slot-named slots p) ∷ word HAS ∷ spell-value (value-written slots p) ∷ r) ≡ pair-bytes slots (bytes " |= ") p ++ following r
+  holds-pair : (p : Pair) (r : List Token) → layout (name (slot-named slots p) ∷ word HAS ∷ spell-slotval (value-written slots p) ∷ r) ≡ pair-bytes slots (bytes " |= ") p ++ following r
   holds-pair p r = holds-laid (slot-named slots p) (value-written slots p) r ∙ pair-laid (bytes " |= ") p (following r)
 
   literal-laid : (m : Literal) (r : List Token) → layout (spell-literal (literal-tree slots m) r) ≡ literal-bytes (pair-bytes slots) m ++ following r

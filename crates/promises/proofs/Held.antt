@@ -59,28 +59,28 @@ module _ (counts : List ℕ) (slots : Slots counts) (C : Pairs) (within : (p : P
     pub card-unpacks : read-card counts (card-bytes (new-card width row C S)) ≡ taken (new-card width row C S)
     card-unpacks = card-reads-back counts (new-card width row C S) slots new-card-passes
 
-    module _ (one : (s v w : ℕ) → s < width → T (C (pair s v)) → T (C (pair s w)) → v ≡ w) where
-      -- A slot has C's value where C has one, and else the old card's.
-      pub value-new : (s v : ℕ) → s < width → T (C (pair s v)) → getD (new-card width row C S) s 0 ≡ v
-      value-new s v l t = new-card-at row C width s S l ∙ new-value-is row C S s v (small (pair s v) l t) t (λ w u. one s w v l u t)
+    -- A slot that C has no value for has the old card's,
+    pub value-old : (s : ℕ) → s < width → ((v : ℕ) → ¬ T (C (pair s v))) → getD (new-card width row C S) s 0 ≡ getD S s 0
+    value-old s l lacks = new-card-at row C width s S l ∙ new-value-kept row C S s (λ v h. lacks v)
 
-      pub value-old : (s : ℕ) → s < width → ((v : ℕ) → ¬ T (C (pair s v))) → getD (new-card width row C S) s 0 ≡ getD S s 0
-      value-old s l lacks = new-card-at row C width s S l ∙ new-value-kept row C S s (λ v h. lacks v)
+    -- and one that C has one value for has that.
+    pub value-new : ((s v w : ℕ) → s < width → T (C (pair s v)) → T (C (pair s w)) → v ≡ w) → (s v : ℕ) → s < width → T (C (pair s v)) → getD (new-card width row C S) s 0 ≡ v
+    value-new one s v l t = new-card-at row C width s S l ∙ new-value-is row C S s v (small (pair s v) l t) t (λ w u. one s w v l u t)
 
-      -- It keeps what it held, a value or none, unless C has another for it.
-      pub value-kept : (s : ℕ) → s < width → ((v : ℕ) → ¬ (v ≡ getD S s 0) → ¬ T (C (pair s v))) → getD (new-card width row C S) s 0 ≡ getD S s 0
-      value-kept s l h = go (C (pair s (getD S s 0))) refl
-        where
-          go : (b : Bool) → C (pair s (getD S s 0)) ≡ b → getD (new-card width row C S) s 0 ≡ getD S s 0
-          go true e = value-new s (getD S s 0) l (from-true _ e)
-          go false e = value-old s l (λ v t. h v (λ q. subst T (ap (λ (x : ℕ). C (pair s x)) q ∙ e) t) t)
-
-    -- The changes show the pairs that C has for these slots.
-    pub pairs-shown : ((s v w : ℕ) → s < width → T (C (pair s v)) → T (C (pair s w)) → v ≡ w) → (p : Pair) → p .slot < width → C p ≡ among p (changes-slip width row C)
-    pairs-shown one p l = bool-ext (C p) (among p (changes-slip width row C)) there (λ t. slip-e row C width p t .1)
+    -- It keeps what it held, a value or none, unless C has another for it.
+    pub value-kept : ((s v w : ℕ) → s < width → T (C (pair s v)) → T (C (pair s w)) → v ≡ w) → (s : ℕ) → s < width → ((v : ℕ) → ¬ (v ≡ getD S s 0) → ¬ T (C (pair s v))) → getD (new-card width row C S) s 0 ≡ getD S s 0
+    value-kept one s l h = go (C (pair s (getD S s 0))) refl
       where
-        there : T (C p) → T (among p (changes-slip width row C))
-        there t =
-            let c : T (is-changed row C (p .slot)) = is-changed-i row C (p .slot) (p .value) (small p l t) t in
-            let v : value-in row C (p .slot) ≡ p .value = one (p .slot) (value-in row C (p .slot)) (p .value) l (value-in-right row C (p .slot) c) t in
-            subst (λ (x : ℕ). T (among (pair (p .slot) x) (changes-slip width row C))) v (slip-i row C width (p .slot) l c)
+        go : (b : Bool) → C (pair s (getD S s 0)) ≡ b → getD (new-card width row C S) s 0 ≡ getD S s 0
+        go true e = value-new one s (getD S s 0) l (from-true _ e)
+        go false e = value-old s l (λ v t. h v (λ q. subst T (ap (λ (x : ℕ). C (pair s x)) q ∙ e) t) t)
+
+  -- The changes show the pairs that C has for these slots.
+  pub pairs-shown : ((s v w : ℕ) → s < width → T (C (pair s v)) → T (C (pair s w)) → v ≡ w) → (p : Pair) → p .slot < width → C p ≡ among p (changes-slip width row C)
+  pairs-shown one p l = bool-ext (C p) (among p (changes-slip width row C)) there (λ t. slip-e row C width p t .1)
+    where
+      there : T (C p) → T (among p (changes-slip width row C))
+      there t =
+          let c : T (is-changed row C (p .slot)) = is-changed-i row C (p .slot) (p .value) (small p l t) t in
+          let v : value-in row C (p .slot) ≡ p .value = one (p .slot) (value-in row C (p .slot)) (p .value) l (value-in-right row C (p .slot) c) t in
+          subst (λ (x : ℕ). T (among (pair (p .slot) x) (changes-slip width row C))) v (slip-i row C width (p .slot) l c)

@@ -154,3 +154,23 @@ packed-slip-judged counts ps room =
     judged-after (PackedSlipReason counts ps room) (FirstFaulty counts ps) (ChangesRight counts ps) _ (slip-test counts ps) _ (changes-judged counts ps) (λ k s r. packed-change f r)
     (λ v. judged-if (PackedSlipReason counts ps room) _ (ltb room (byte-count (slip-bits (length ps)))) (refused 30 2) (taken (slip-bytes ps))
     (λ r. packed-slip-room f v (ltb-true room _ r)) (λ r. (refl, record { few = f; changes-right = v; enough = ltb-false room _ r }))))
+
+-- The reasons of a card and of a slip have numbers below 30.
+values-below : (counts vs : List ℕ) (k s : ℕ) → ValuesReason counts vs k s → k < 30
+values-below counts vs k s (another-count n) = omega arith
+values-below counts vs k s (value-above n f) = omega arith
+
+pub card-below : (counts ys : List ℕ) (k s : ℕ) → CardReason counts ys k s → k < 30
+card-below counts ys k s (card-length n) = omega arith
+card-below counts ys k s (values-refused l r) = values-below counts _ k s r
+card-below counts ys k s (card-padding l v n) = omega arith
+
+change-below : (counts : List ℕ) (ps : List Pair) (j k : ℕ) → ChangeFault counts ps j k → k < 30
+change-below counts ps j k (slot-lacking l) = omega arith
+change-below counts ps j k (not-rising l i q f) = omega arith
+change-below counts ps j k (value-beyond l q f) = omega arith
+
+pub slip-below : (counts ys : List ℕ) (k s : ℕ) → SlipReason counts ys k s → k < 30
+slip-below counts ys k s (slip-length n) = omega arith
+slip-below counts ys k s (slip-change l f) = change-below counts _ s k (f .faulty)
+slip-below counts ys k s (slip-padding l v n) = omega arith

@@ -33,35 +33,14 @@ use Rattle.response.specs.Ending.{Answer}
 use Rattle.response.specs.Respond.{Rooms, answer-to, counted, tally-after, records-after}
 use Rattle.listing.specs.Listing.{RuleLine, ChangeLine, listed, refusal, program-rooms, editor-number, program-editors, list-response, list-reading, listing}
 use Rattle.listing.proofs.Callers.{program-record, own-fresh, program-after, listing-read, listing-44}
-use Rattle.promises.specs.Reasons.{ValuesReason, another-count, value-above, CardReason, card-length, values-refused, card-padding, ChangeFault, slot-lacking, not-rising, value-beyond, SlipReason, slip-length, slip-change, slip-padding}
 use Rattle.promises.specs.Reasons.{TableReason, not-passed, of-others, RoomReason, card-short, changes-short, fired-short, RoomRight, EndReason, conflict, clash, unknown, RulesReason, of-card, of-slip, of-room, of-end, RulesRight, HasRecord, NotFull, Countable}
 use Rattle.promises.specs.Refusals.{Passes}
 use Rattle.promises.specs.Program.{NoneOfCaller, OneEditor, EditorFirst}
 use Rattle.promises.proofs.Callers.{has-record-e}
-use Rattle.promises.proofs.Judged.{Judged}
+use Rattle.promises.proofs.Judged.{Judged, card-below, slip-below}
 use Rattle.promises.proofs.ResponseReasons.{table-judged}
 use Rattle.promises.proofs.Outcomes.{text-comes}
 use Rattle.promises.proofs.Engines.{only-44, comes-by-table, fresh-no-32, reading-no-31}
-
--- No reason of a card, of a slip or of a conflict has number 30.
-values-not : (counts vs : List ℕ) (k s : ℕ) → ValuesReason counts vs k s → ¬ (k ≡ 30)
-values-not counts vs k s (another-count n) e = omega (arith, e)
-values-not counts vs k s (value-above n f) e = omega (arith, e)
-
-card-not : (counts ys : List ℕ) (k s : ℕ) → CardReason counts ys k s → ¬ (k ≡ 30)
-card-not counts ys k s (card-length n) e = omega (arith, e)
-card-not counts ys k s (values-refused l r) e = values-not counts _ k s r e
-card-not counts ys k s (card-padding l v n) e = omega (arith, e)
-
-change-not : (counts : List ℕ) (ps : List Pair) (j k : ℕ) → ChangeFault counts ps j k → ¬ (k ≡ 30)
-change-not counts ps j k (slot-lacking l) e = omega (arith, e)
-change-not counts ps j k (not-rising l i q f) e = omega (arith, e)
-change-not counts ps j k (value-beyond l q f) e = omega (arith, e)
-
-slip-not : (counts ys : List ℕ) (k s : ℕ) → SlipReason counts ys k s → ¬ (k ≡ 30)
-slip-not counts ys k s (slip-length n) e = omega (arith, e)
-slip-not counts ys k s (slip-change l f) e = change-not counts _ s k (f .faulty) e
-slip-not counts ys k s (slip-padding l v n) e = omega (arith, e)
 
 -- Outputs that have room give no reason for 30.
 room-not : (width count : ℕ) (rooms : Rooms) (s : ℕ) → RoomRight width count rooms → RoomReason width count rooms s → ⊥
@@ -75,8 +54,8 @@ end-not way counts rs card slip k s (clash p d b) e = omega (arith, e)
 end-not way counts rs card slip k s (unknown n p d b) e = omega (arith, e)
 
 rules-not : (way : Way) (counts : List ℕ) (rs : List Rule) (card slip : List ℕ) (rooms : Rooms) (k s : ℕ) → RoomRight (length counts) (length rs) rooms → RulesReason way counts rs card slip rooms k s → ¬ (k ≡ 30)
-rules-not way counts rs card slip rooms k s h (of-card r) e = card-not counts card k s r e
-rules-not way counts rs card slip rooms k s h (of-slip c r) e = slip-not counts slip k s r e
+rules-not way counts rs card slip rooms k s h (of-card r) e = omega (arith, card-below counts card k s r, e)
+rules-not way counts rs card slip rooms k s h (of-slip c r) e = omega (arith, slip-below counts slip k s r, e)
 rules-not way counts rs card slip rooms k s h (of-room c i r) e = room-not (length counts) (length rs) rooms s h r
 rules-not way counts rs card slip rooms k s h (of-end c i r l) e = end-not way counts rs card slip k s l e
 

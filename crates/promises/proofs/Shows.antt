@@ -71,7 +71,7 @@ module _ (f : File) (declared : Declared-file f) (S : List ℕ) (I : List Pair)
     card-old s lacks =
         ⊎-elim
         (λ (l : width ≤ s). List·getD-eq-default (new-card width row C S) 0 {n = s} (rw (new-card-length row C width S) l) ∙ sym (List·getD-eq-default S 0 {n = s} (rw (card-pass (slot-counts (f .slots)) S card .0) l)))
-        (λ (l : s < width). value-old (slot-counts (f .slots)) (file-slots f declared) C within S card one s l lacks) (le-or-lt width s)
+        (λ (l : s < width). value-old (slot-counts (f .slots)) (file-slots f declared) C within S card s l lacks) (le-or-lt width s)
 
     -- Where no slot is in conflict the answer shows every such order.
     pub shows-alike : (ns : List ℕ) → T (firing-order (f .rules) S I ns) → changes (f .rules) I ns ≡ C → names ns ≡ names ours → Shows f S I (answer-of width (length (f .rules)) S C ours) ns

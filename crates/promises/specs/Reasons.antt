@@ -1,4 +1,4 @@
--- Why something is refused, by its number and its second number: document 01, 'Refusals by who can cause them', and document 02, sections 1 (33, 34), 3 (41, 42) and 4 (44). A reason holds only where none that comes before it does.
+-- Why something is refused, by its number and its second number: document 01, 'Refusals by who can cause them', and document 02, sections 1 (33, 34), 3 (41, 42), 4 (44) and 6 (27). A reason holds only where none that comes before it does.
 use Prim.Native.Nat.{ℕ, suc, _+_, _-_, _≤_, _<_}
 use mathlib.Core.Path.{_≡_}
 use mathlib.Core.Bool.{Bool}
@@ -211,7 +211,7 @@ abbrev pub ends-with : Way → List ℕ → List Rule → List ℕ → List ℕ 
 ends-with way.Strata counts rs card slip = changes rs (changes-in slip) (fired-by way.Strata counts rs card slip)
 ends-with way.Marks counts rs card slip = marks-left counts rs card slip .positive
 
--- How a response ends. By strata, 40: the lowest slot that has two values in C. By marks, 41: a declared pair is both positive and negative; 42: none is, and one is unknown.
+-- How a response ends. By strata, 40: the lowest slot that has two values in C. By marks, 41: a declared pair, NONE of a slot among them, is both positive and negative; 42: none is, and one is unknown.
 pub data EndReason (counts : List ℕ) (rs : List Rule) (card slip : List ℕ) : Way → ℕ → ℕ → Type 0 where
   conflict : {s : ℕ} → LowestConflict (ends-with way.Strata counts rs card slip) s → EndReason counts rs card slip way.Strata 40 s
   clash : (p : Pair) → T (among p (declared-pairs counts)) → T (is-both (marks-left counts rs card slip) p) → EndReason counts rs card slip way.Marks 41 0

@@ -31,7 +31,7 @@ pub record HandedIn (f : File) (y : Editors) (card slip : List ℕ) (rooms : Roo
   pub slip-is : read-slip (slot-counts (f .slots)) slip ≡ taken I
   pub room : RoomRight (length (slot-counts (f .slots))) (length (f .rules)) rooms
 
--- Every declared pair of a file.
+-- Every declared pair of a file, NONE of each slot among them.
 abbrev pub file-pairs : File → List Pair
 file-pairs f = declared-pairs (slot-counts (f .slots))
 

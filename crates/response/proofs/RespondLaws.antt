@@ -52,6 +52,12 @@ use Rattle.response.specs.inner.InOrder.{Kept, InOrder, Ends}
 use Rattle.response.proofs.InOrder.{counts-length}
 use Rattle.response.proofs.Declared.{slip-declared, assigned-declared, tests-declared}
 
+-- What was taken in two steps was taken in each.
+pub then-taken : {A B : Type 0} (u : OrRefused A) (f : A → OrRefused B) (b : B) → (u and-then f) ≡ taken b → (a : A) × (u ≡ taken a) × (f a ≡ taken b)
+unfolding _and-then_
+then-taken (taken a) f b e = (a, refl, e)
+then-taken (refused k s) f b e = absurd (let z : _≡_ {A = ℕ} 0 1 = cc in omega arith)
+
 -- What the code says of a card is what was taken or refused.
 pub card-taken : (u : OrRefused (List ℕ)) (q : CardRead) → q ≡ card-read u → q .outcome ≡ Accepted → (S : List ℕ) × (u ≡ taken S) × (q .card ≡ card-of S)
 unfolding card-read

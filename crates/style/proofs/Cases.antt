@@ -105,7 +105,7 @@ unfolding prints
 case-dialect = refl
 
 -- NONE is printed where a rule names it.
-pub case-none : Printed-as (parse (bytes "SLOT x{0,none};WHEN x*=NONE IF NOT NOT NOT x|=NONE AND x *= none THEN{x:=NONE};"))
+pub case-none-printed : Printed-as (parse (bytes "SLOT x{0,none};WHEN x*=NONE IF NOT NOT NOT x|=NONE AND x *= none THEN{x:=NONE};"))
     (lines ("SLOT x { 0, none };" ∷ "WHEN x *= NONE IF NOT x |= NONE AND x *= none THEN x := NONE;" ∷ []))
 unfolding prints
-case-none = refl
+case-none-printed = refl

@@ -11,7 +11,7 @@ use Rattle.laws.proofs.Lists.{map-append}
 use Rattle.text.specs.Tokens.{Name, Token, word, name, SLOT, WHEN, IF, THEN, AND, NOT, TRUE, OPEN, CLOSE, COMMA, SEMICOLON, BECOMES, HAS, GETS}
 use Rattle.model.specs.Rules.{Pair, Literal, Rule}
 use Rattle.grammar.specs.Files.{Slot, File, slot-named, value-written}
-use Rattle.grammar.specs.Grammar.{RuleTree, ValueTree, ConditionTree, and-literal, one-literal, LiteralTree, not-literal, becomes-value, holds-value, AssignTree, braces, AssignmentListTree, one-assignment, comma-assignment, AssignmentTree, ValueListTree, one-value, comma-value, LineTree, line, FileTree, grown, spell, spell-value, spell-literal, spell-condition, spell-assignment, spell-assignments, spell-assign, spell-rule, spell-rules, spell-values, spell-lines}
+use Rattle.grammar.specs.Grammar.{RuleTree, SlotvalTree, ConditionTree, and-literal, one-literal, LiteralTree, not-literal, becomes-value, holds-value, AssignTree, braces, AssignmentListTree, one-assignment, comma-assignment, AssignmentTree, ValueListTree, one-value, comma-value, LineTree, line, FileTree, grown, spell, spell-slotval, spell-literal, spell-condition, spell-assignment, spell-assignments, spell-assign, spell-rule, spell-rules, spell-values, spell-lines}
 use Rattle.grammar.specs.Meaning.{Names, nots, turned, tests-change, tested-slot, tested-value, Means-literal, Means-condition, means-and, means-one, means-true, Means-assignment, means-assignment, Means-assignments, means-first, means-comma, Means-assign, means-alone, means-braces, means-trigger, Means-rule, means-rule, Means-rules, no-rules, more-rules, Means}
 use Rattle.grammar.proofs.Leftmost.{grown-last}
 use Rattle.grammar.proofs.Declared.{slot-letters, value-letters}
@@ -78,7 +78,7 @@ name-first n m e h = ap₂ (λ (l : List ℕ) (z : List Token). name (record { s
 
 module _ (slots : List Slot) where
   -- A slot's name, a mark and a value.
-  pair-same : (s : Name) (v : ValueTree) (p : Pair) (w : ℕ) → Names slots s v p → Same (λ r. name s ∷ word w ∷ spell-value v ∷ r) (λ r. name (slot-named slots p) ∷ word w ∷ spell-value (value-written slots p) ∷ r)
+  pair-same : (s : Name) (v : SlotvalTree) (p : Pair) (w : ℕ) → Names slots s v p → Same (λ r. name s ∷ word w ∷ spell-slotval v ∷ r) (λ r. name (slot-named slots p) ∷ word w ∷ spell-slotval (value-written slots p) ∷ r)
   pair-same s v p w n r q h =
       name-first s (slot-named slots p) (slot-letters slots s v p n) (word-first w (ap₂ (λ (t : Token) (y : List Token). t ∷ y) (value-letters slots s v p n) h))
 

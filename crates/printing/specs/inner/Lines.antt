@@ -2,7 +2,7 @@
 use Prim.Native.Nat.{ℕ}
 use mathlib.Core.List.{List, _++_, map}
 use Rattle.grammar.specs.Files.{Slot, File, spellings, slot-named, value-written}
-use Rattle.grammar.specs.Grammar.{spell-value}
+use Rattle.grammar.specs.Grammar.{spell-slotval}
 use Rattle.style.specs.Layout.{token-bytes}
 use Rattle.writing.specs.inner.Written.{Pairing, rule-bytes, line-bytes, lines-joined}
 
@@ -12,7 +12,7 @@ slot-bytes s = line-bytes (s .name .letters) (spellings (s .values))
 
 -- A pair by the names of a file's slots.
 unfoldable pub pair-bytes : List Slot → Pairing
-pair-bytes slots mark p = slot-named slots p .letters ++ (mark ++ token-bytes (spell-value (value-written slots p)))
+pair-bytes slots mark p = slot-named slots p .letters ++ (mark ++ token-bytes (spell-slotval (value-written slots p)))
 
 -- A file line by line.
 unfoldable pub file-bytes : File → List ℕ

@@ -5,7 +5,7 @@ use mathlib.Core.List.{List, [], _∷_, _++_, map}
 use Rattle.laws.specs.Quoted.{bytes}
 use Rattle.model.specs.Rules.{Pair, Literal, Rule}
 
--- How a mark between the names of a pair's slot and value is written.
+-- How a pair is written, with a mark between its slot and its value.
 abbrev pub Pairing : Type 0
 Pairing = List ℕ → Pair → List ℕ
 
