@@ -19,6 +19,7 @@ use second::response::Outputs;
 use second::table::{Name, Pair, Table};
 use second::table31::{tested, tested_for_marks, unlayered};
 use second::table_lines::{generated, tables};
+use second::text::{tokens, Kind as TokenKind};
 use second::Refusal;
 
 /// How often each kind was met.
@@ -55,8 +56,7 @@ impl Engine for Watching {
 
     fn print(&mut self, text: &[u8], output: &mut [u8]) -> Result<usize, Refusal> {
         let printed = Second.print(text, output);
-        let has_none =
-            |print: &[u8]| print.windows(6).any(|part| part.starts_with(b" NONE") && !part[5].is_ascii_alphanumeric());
+        let has_none = |print: &[u8]| tokens(print).iter().any(|token| token.kind == TokenKind::None);
         let none = printed.map_or(false, |length| has_none(&output[..length]));
         meet(&mut self.met, holding(&[(Kind::NonePrinted, none)]));
         printed
