@@ -111,12 +111,14 @@ kinds! {
         SecondPass,
         /// One pass over each stratum leaves out 15 rules or more.
         ManyPasses,
-        /// An answer that withdraws what the card has.
+        /// An answer to a slip that withdraws what the card has.
         Withdrawn,
         /// An answer in which a rule withdraws what the card has, and not the slip.
         WithdrawnByRule,
-        /// An answer with a withdrawal of what the card does not have.
+        /// An answer to a slip that withdraws what the card does not have.
         NothingWithdrawn,
+        /// An answer in which a rule withdraws what the card does not have, and not the slip.
+        NothingWithdrawnByRule,
         /// A rule fires that waits for a withdrawal in its trigger.
         WokenByWithdrawal,
         /// Other rules fire where a withdrawal of what the card does not have makes `*= NONE` true.
@@ -183,8 +185,10 @@ kinds! {
         OutLate,
         /// A pair is ruled out at the thirtieth pass or later.
         OutVeryLate,
-        /// An answer in which a rule withdraws what the card has, and not the slip.
+        /// An answer to a slip that withdraws what the card has.
         MarkWithdrawn,
+        /// An answer in which a rule withdraws what the card has, and not the slip.
+        MarkWithdrawnByRule,
         /// An answer in which a rule fires that waits for a withdrawal in its trigger.
         MarkWoken,
         /// An answer in which a rule fires that asks `NOT .. *= NONE`, though a rule could withdraw that value.
