@@ -85,8 +85,14 @@ kinds! {
         NoneAsSlot,
         /// NONE stands for a value's name in a slot line.
         NoneAsValue,
-        /// NONE stands for a slot's name in a rule.
-        NoneAsRuleSlot,
+        /// NONE stands for the slot's name of a trigger.
+        NoneAsTriggerSlot,
+        /// NONE stands for the slot's name of a literal.
+        NoneAsLiteralSlot,
+        /// NONE stands for the slot's name of an assignment.
+        NoneAsAssignedSlot,
+        /// NONE stands where neither a slot's name nor a value's may.
+        NoneAsWord,
     }
 
     /// The kinds of a print.

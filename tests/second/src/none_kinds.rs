@@ -41,21 +41,20 @@ fn wanted(walk: &Walk) -> Want {
     last.map_or(Want::SlotLine, |production| production.2)
 }
 
-/// The kinds of a text that is 12 at NONE.
-pub fn refused_kinds(text: &[u8]) -> Vec<Kind> {
+/// The kind of a text that is 12 at NONE.
+pub fn refused_kind(text: &[u8]) -> Option<Kind> {
     let walk = walk(text, GRAMMAR);
     let is_12 = read_rules(text).map_or_else(|why| why.number == 12, |_| false);
     let first = refusals(text, &walk).into_iter().min();
-    if !is_12 || first.map_or(true, |at| walk.tokens[at.position].kind != TokenKind::None) {
-        return Vec::new();
-    }
-    let rule_slots = [Want::TriggerSlot, Want::Condition, Want::Literal, Want::Negated, Want::Assignments];
-    let want = wanted(&walk);
-    holding(&[
-        (Kind::NoneAsSlot, want == Want::SlotName),
-        (Kind::NoneAsValue, want == Want::ValueName),
-        (Kind::NoneAsRuleSlot, rule_slots.contains(&want) || want == Want::ListedSlot),
-    ])
+    let is_none = first.map_or(false, |at| walk.tokens[at.position].kind == TokenKind::None);
+    (is_12 && is_none).then(|| match wanted(&walk) {
+        Want::SlotName => Kind::NoneAsSlot,
+        Want::ValueName => Kind::NoneAsValue,
+        Want::TriggerSlot => Kind::NoneAsTriggerSlot,
+        Want::Condition | Want::Literal | Want::Negated => Kind::NoneAsLiteralSlot,
+        Want::Assignments | Want::ListedSlot => Kind::NoneAsAssignedSlot,
+        _ => Kind::NoneAsWord,
+    })
 }
 
 /// Whether a pair withdraws what a card has.

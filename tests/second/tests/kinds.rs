@@ -14,7 +14,7 @@ use second::kinds::{CALL_KINDS, MARK_KINDS, MARK_TABLE_KINDS, NONE_REFUSED_KINDS
 use second::kinds::{RESPONSE_KINDS, RULE_KINDS, TABLE_KINDS, TEXT_KINDS};
 use second::listing::listing;
 use second::mark_kinds::{mark_kinds, mark_table_kinds};
-use second::none_kinds::refused_kinds;
+use second::none_kinds::refused_kind;
 use second::response::Outputs;
 use second::table::{Name, Pair, Table};
 use second::table31::{tested, tested_for_marks, unlayered};
@@ -27,7 +27,7 @@ use second::Refusal;
 type Met = BTreeMap<Kind, usize>;
 
 /// Counts kinds.
-fn meet(met: &mut Met, kinds: Vec<Kind>) {
+fn meet(met: &mut Met, kinds: impl IntoIterator<Item = Kind>) {
     kinds.into_iter().for_each(|kind| *met.entry(kind).or_default() += 1);
 }
 
@@ -47,7 +47,7 @@ struct Watching {
 impl Engine for Watching {
     fn read(&mut self, text: &[u8]) -> (Option<Refusal>, Box<Table>) {
         meet(&mut self.met, text_kinds(text));
-        meet(&mut self.met, refused_kinds(text));
+        meet(&mut self.met, refused_kind(text));
         Second.read(text)
     }
 

@@ -1,8 +1,10 @@
 //! NONE: where it may stand in a text, and what a withdrawal comes to; cases of section 6 of document 02.
 
 use second::cards::slip_bytes;
+use second::kinds::Kind;
 use second::listing::listing;
-use second::program_cases::{A, SLOTS, ZEROS};
+use second::none_kinds::refused_kind;
+use second::program_cases::{A, B, SLOTS, ZEROS};
 use second::read::read;
 use second::{refusal, Refusal};
 
@@ -17,7 +19,7 @@ fn refused(text: &[u8]) -> Option<Refusal> {
 }
 
 #[test]
-fn none_stands_for_a_value_in_rules_and_for_nothing_else() {
+fn none_stands_for_a_value_in_rules() {
     for rule in [
         "WHEN x *= NONE IF TRUE THEN y := 1;",
         "WHEN x *= 1 IF y |= NONE AND NOT z *= NONE THEN y := 1;",
@@ -26,20 +28,6 @@ fn none_stands_for_a_value_in_rules_and_for_nothing_else() {
     ] {
         assert_eq!(refused(&text(&[rule])), None, "{rule}");
     }
-    for slots in ["SLOT NONE {0};", "SLOT x {NONE};", "SLOT x {0, NONE};", "SLOT x {0} NONE"] {
-        assert_eq!(refused(slots.as_bytes()), Some(refusal(12, 0)), "{slots}");
-    }
-    for rule in [
-        "WHEN NONE *= 1",
-        "WHEN x *= 1 IF NONE |= 0",
-        "WHEN x *= 1 IF NOT NONE",
-        "WHEN x *= 1 IF TRUE AND NONE",
-        "WHEN x *= 1 IF TRUE THEN NONE := 1",
-        "WHEN x *= 1 IF TRUE THEN {y := 1, NONE",
-        "NONE",
-    ] {
-        assert_eq!(refused(&text(&[A, rule])), Some(refusal(12, 1)), "{rule}");
-    }
     assert_eq!(refused(&text(&["WHEN q *= NONE"])), Some(refusal(16, 0)));
     assert_eq!(refused(&text(&["WHEN x *= none"])), Some(refusal(16, 0)));
     assert_eq!(refused(b"SLOT none {None, NONEs, NONE-}; WHEN none *= None IF none |= NONE THEN none := NONE-;"), None);
@@ -47,6 +35,48 @@ fn none_stands_for_a_value_in_rules_and_for_nothing_else() {
     let full = format!("SLOT x {{{fifteen}}}; WHEN x *= NONE IF TRUE THEN x := 14;");
     let rule = read(full.as_bytes()).unwrap().rules[0];
     assert_eq!((rule.value, rule.assignments[0].value), (0, 15));
+}
+
+#[test]
+fn none_is_12_where_a_slot_or_a_word_is_wanted() {
+    let is_12 = |text: &[u8], second: usize, kind: Kind| {
+        let shown = String::from_utf8_lossy(text);
+        assert_eq!((refused(text), refused_kind(text)), (Some(refusal(12, second)), Some(kind)), "{shown}");
+    };
+    for (slots, kind) in [
+        ("SLOT NONE {0};", Kind::NoneAsSlot),
+        ("SLOT x {0}; SLOT NONE", Kind::NoneAsSlot),
+        ("SLOT x {NONE};", Kind::NoneAsValue),
+        ("SLOT x {0, NONE};", Kind::NoneAsValue),
+        ("SLOT x NONE", Kind::NoneAsWord),
+        ("SLOT x {0 NONE", Kind::NoneAsWord),
+        ("SLOT x {0} NONE", Kind::NoneAsWord),
+        ("NONE", Kind::NoneAsWord),
+    ] {
+        is_12(slots.as_bytes(), 0, kind);
+    }
+    for (rule, kind) in [
+        ("WHEN NONE *= 1", Kind::NoneAsTriggerSlot),
+        ("WHEN x *= 1 IF NONE |= 0", Kind::NoneAsLiteralSlot),
+        ("WHEN x *= 1 IF NOT NONE", Kind::NoneAsLiteralSlot),
+        ("WHEN x *= 1 IF TRUE AND NONE", Kind::NoneAsLiteralSlot),
+        ("WHEN x *= 1 IF TRUE THEN NONE := 1", Kind::NoneAsAssignedSlot),
+        ("WHEN x *= 1 IF TRUE THEN {NONE := 1", Kind::NoneAsAssignedSlot),
+        ("WHEN x *= 1 IF TRUE THEN {y := 1, NONE", Kind::NoneAsAssignedSlot),
+        ("WHEN x NONE", Kind::NoneAsWord),
+        ("WHEN x *= NONE NONE", Kind::NoneAsWord),
+        ("WHEN x *= 1 IF TRUE NONE", Kind::NoneAsWord),
+        ("WHEN x *= 1 IF y NONE", Kind::NoneAsWord),
+        ("WHEN x *= 1 IF y |= NONE NONE", Kind::NoneAsWord),
+        ("WHEN x *= 1 IF TRUE THEN y NONE", Kind::NoneAsWord),
+        ("WHEN x *= 1 IF TRUE THEN {y NONE", Kind::NoneAsWord),
+        ("WHEN x *= 1 IF TRUE THEN {y := NONE NONE", Kind::NoneAsWord),
+        ("WHEN x *= 1 IF TRUE THEN y := NONE NONE", Kind::NoneAsWord),
+        ("NONE", Kind::NoneAsWord),
+    ] {
+        is_12(&text(&[rule]), 0, kind);
+        is_12(&text(&[A, B, rule]), 2, kind);
+    }
 }
 
 #[test]
