@@ -1,5 +1,5 @@
 #!/usr/bin/env python3
-"""The examples of the editors' guide, run by the program, or by the desk in C where they are for the response by marks: each must get the refusal in whose row it stands; every refusal must have its row, the rules that withdraw a dating, those that wake each other and those that 18 refuses do as the guide says, the guide's listings be those of examples/dialect, examples/withdrawn and examples/marks, and its file in the house style the print of the file before it.
+"""The examples of the editors' guide, run by the program, or by the desk in C where they are for the response by marks: each must get the refusal in whose row it stands; every refusal must have its row, the rules that withdraw a dating, those that wake each other and those that 18 refuses do as the guide says, the guide's listings be those of examples/dialect, examples/withdrawn and examples/marks, its card and slip that withdraw a dating those of examples/withdrawn, and its file in the house style the print of the file before it.
 
   tests/editors.py   needs target/bin/rl and target/examples/desk-c, which examples/run makes; exit status 1 where an example comes to something else
 """
@@ -66,6 +66,13 @@ def withdrawing(guide):
     yield (rules, bytes.fromhex('10 44 4C'), bytes.fromhex('08 00 22'), EDITOR), 'refused 40 2\n'
 
 
+def withdrawn():
+    """The card and the slip of examples/withdrawn as the guide gives them."""
+    for name, said in (('card', 'The card is'), ('slip', 'The slip of editor 5 is')):
+        with open(os.path.join(TOP, 'examples', 'withdrawn', f'{name}.bin'), 'rb') as file:
+            yield f'{said} `{file.read().hex(" ").upper()}`, '
+
+
 def by_marks(guide):
     """By marks: the files that the guide tells of, and how the desk's listing ends."""
     rules = '\n'.join(section(guide, 'Files that 18 refuses')[0]).encode()
@@ -126,6 +133,10 @@ def main():
     if not printed((SLOTS, CARD, SLIP, EDITOR)).startswith('change dating before-1900\n'):
         print('the card and the slip of the guide get no answer')
         wrong = 1
+    for said in withdrawn():
+        if said not in guide:
+            print(f'{said!r} is not in the guide')
+            wrong = 1
     for name, lines in indented.items():
         if lines not in guide:
             print(f'examples/{name} is not in the guide')

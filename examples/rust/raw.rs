@@ -59,7 +59,7 @@ pub struct Assignment {
     pub value: u8,
 }
 
-/// A rule: its trigger, its literals and assignments with the numbers used, its stratum (`include/rl.h` says which).
+/// A rule: its trigger `slot *= value`, in which value 0 is NONE too, its literals and assignments with the numbers used, its stratum (`include/rl.h` says which).
 #[repr(C)]
 #[derive(Clone, Copy, PartialEq, Eq, Debug, Default)]
 pub struct Rule {

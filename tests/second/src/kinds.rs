@@ -6,13 +6,13 @@ use crate::broken_firing::{one_pass, together};
 use crate::cards::{unpack_card, unpack_slip};
 use crate::fault::Fault;
 use crate::none_kinds::{none_kinds, withdrawal_kinds};
-use crate::other_strata::{each_number, falling, on_any_circle, on_simple_circle};
+use crate::other_strata::{on_any_circle, on_simple_circle};
 use crate::read::read_rules;
 use crate::response::{enabled, fire, Changes, Firing};
 use crate::rule_set::RuleSet;
 use crate::strata::{least, on_circle, reached, waits, Waits};
 use crate::table::{Pair, Program, Rule, Table};
-use crate::table31::{tested, unlayered};
+use crate::table31::tested;
 use crate::{broken_firing, broken_reading, broken_strata};
 
 /// Makes the enum of kinds and their lists, each of what it tells apart.
@@ -85,8 +85,14 @@ kinds! {
         NoneAsSlot,
         /// NONE stands for a value's name in a slot line.
         NoneAsValue,
-        /// NONE stands for a slot's name in a rule.
-        NoneAsRuleSlot,
+        /// NONE stands for the slot's name of a trigger.
+        NoneAsTriggerSlot,
+        /// NONE stands for the slot's name of a literal.
+        NoneAsLiteralSlot,
+        /// NONE stands for the slot's name of an assignment.
+        NoneAsAssignedSlot,
+        /// NONE stands where neither a slot's name nor a value's may.
+        NoneAsWord,
     }
 
     /// The kinds of a print.
@@ -111,12 +117,14 @@ kinds! {
         SecondPass,
         /// One pass over each stratum leaves out 15 rules or more.
         ManyPasses,
-        /// An answer that withdraws what the card has.
+        /// An answer to a slip that withdraws what the card has.
         Withdrawn,
         /// An answer in which a rule withdraws what the card has, and not the slip.
         WithdrawnByRule,
-        /// An answer with a withdrawal of what the card does not have.
+        /// An answer to a slip that withdraws what the card does not have.
         NothingWithdrawn,
+        /// An answer in which a rule withdraws what the card does not have, and not the slip.
+        NothingWithdrawnByRule,
         /// A rule fires that waits for a withdrawal in its trigger.
         WokenByWithdrawal,
         /// Other rules fire where a withdrawal of what the card does not have makes `*= NONE` true.
@@ -183,8 +191,10 @@ kinds! {
         OutLate,
         /// A pair is ruled out at the thirtieth pass or later.
         OutVeryLate,
-        /// An answer in which a rule withdraws what the card has, and not the slip.
+        /// An answer to a slip that withdraws what the card has.
         MarkWithdrawn,
+        /// An answer in which a rule withdraws what the card has, and not the slip.
+        MarkWithdrawnByRule,
         /// An answer in which a rule fires that waits for a withdrawal in its trigger.
         MarkWoken,
         /// An answer in which a rule fires that asks `NOT .. *= NONE`, though a rule could withdraw that value.
@@ -254,25 +264,25 @@ pub fn holding(kinds: &[(Kind, bool)]) -> Vec<Kind> {
 }
 
 /// For each rule the rules that it comes to and that come back to it, itself among them.
-fn rounds(waits: &[Waits]) -> Vec<RuleSet> {
+pub fn rounds(waits: &[Waits]) -> Vec<RuleSet> {
     let reached = reached(waits);
     let round = |at: usize| reached[at].positions().filter(|other| reached[*other].has(at)).collect();
     (0..waits.len()).map(round).collect()
 }
 
 /// The number of rules in a set.
-fn size(set: &RuleSet) -> usize {
+pub fn size(set: &RuleSet) -> usize {
     set.positions().count()
 }
 
 /// Whether rules have no circle, and one waits plainly for another that waits plainly for a third.
-fn is_chained(waits: &[Waits]) -> bool {
+pub fn is_chained(waits: &[Waits]) -> bool {
     let second = |at: usize| waits[at].plain.positions().any(|next| waits[next].plain != RuleSet::default());
     on_any_circle(waits).is_empty() && (0..waits.len()).any(second)
 }
 
 /// The strata of rules if tests of NONE bound nothing, or the rule that 18 would name.
-fn without_none(rules: &[Rule]) -> Result<Vec<u8>, usize> {
+pub fn without_none(rules: &[Rule]) -> Result<Vec<u8>, usize> {
     broken_strata::strata(Fault::NoneFree, rules)
 }
 
@@ -361,37 +371,4 @@ pub fn response_kinds(table: &Table, card: &[u8], slip: &[u8]) -> Vec<Kind> {
         (Kind::ManyPasses, size(&once) + 15 <= size(&set)),
     ]);
     [by_circles, withdrawal_kinds(&program, &card, &slip, &firing)].concat()
-}
-
-/// The kinds of a table by its strata, where nothing else is 31.
-pub fn table_kinds(table: &Table) -> Vec<Kind> {
-    let program = match unlayered(table) {
-        Ok(program) => program,
-        Err(_) => return Vec::new(),
-    };
-    let (waits, given) = (waits(&program.rules), &program.strata);
-    let rounds = rounds(&waits);
-    let zero = given.contains(&0);
-    let wanted = match least(&waits) {
-        Some(numbers) => numbers,
-        None => return holding(&[(Kind::Zero, zero), (Kind::Circled, !zero)]),
-    };
-    let (right, chained) = (*given == wanted, is_chained(&waits));
-    let strata = each_number(&program, |number, asked| number >= asked);
-    let exact = each_number(&program, |number, asked| number == asked);
-    let wrong: Vec<usize> = (0..given.len()).filter(|at| given[*at] != wanted[*at]).collect();
-    let one_lower = |at: &usize| given[*at] > 0 && wanted[*at].checked_sub(given[*at]) == Some(1);
-    let both_two = |at: &usize| size(&rounds[*at]) == 2 && (wanted[*at], given[*at]) == (1, 2);
-    holding(&[
-        (Kind::ChainLeast, right && chained),
-        (Kind::ChainHigher, strata && !right && chained),
-        (Kind::BothTwo, strata && wrong.len() == 2 && wrong.iter().all(both_two)),
-        (Kind::CircleLifted, exact && !right),
-        (Kind::CircleLiftedAbove, exact && wrong.iter().any(|at| wanted[*at] > 1)),
-        (Kind::Gap, strata && !exact),
-        (Kind::Falling, !right && least(&falling(&waits)).as_ref() == Some(given)),
-        (Kind::NoneUnbound, !right && without_none(&program.rules).as_ref() == Ok(given)),
-        (Kind::OneTooLow, wrong.len() == 1 && wrong.iter().all(one_lower)),
-        (Kind::Zero, zero),
-    ])
 }

@@ -46,6 +46,7 @@ pub mod selections;
 pub mod strata;
 pub mod table;
 pub mod table31;
+pub mod table_kinds;
 pub mod table_lines;
 pub mod text;
 

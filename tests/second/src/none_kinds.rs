@@ -41,26 +41,40 @@ fn wanted(walk: &Walk) -> Want {
     last.map_or(Want::SlotLine, |production| production.2)
 }
 
-/// The kinds of a text that is 12 at NONE.
-pub fn refused_kinds(text: &[u8]) -> Vec<Kind> {
+/// The kind of a text that is 12 at NONE.
+pub fn refused_kind(text: &[u8]) -> Option<Kind> {
     let walk = walk(text, GRAMMAR);
     let is_12 = read_rules(text).map_or_else(|why| why.number == 12, |_| false);
     let first = refusals(text, &walk).into_iter().min();
-    if !is_12 || first.map_or(true, |at| walk.tokens[at.position].kind != TokenKind::None) {
-        return Vec::new();
-    }
-    let rule_slots = [Want::TriggerSlot, Want::Condition, Want::Literal, Want::Negated, Want::Assignments];
-    let want = wanted(&walk);
-    holding(&[
-        (Kind::NoneAsSlot, want == Want::SlotName),
-        (Kind::NoneAsValue, want == Want::ValueName),
-        (Kind::NoneAsRuleSlot, rule_slots.contains(&want) || want == Want::ListedSlot),
-    ])
+    let is_none = first.map_or(false, |at| walk.tokens[at.position].kind == TokenKind::None);
+    (is_12 && is_none).then(|| match wanted(&walk) {
+        Want::SlotName => Kind::NoneAsSlot,
+        Want::ValueName => Kind::NoneAsValue,
+        Want::TriggerSlot => Kind::NoneAsTriggerSlot,
+        Want::Condition | Want::Literal | Want::Negated => Kind::NoneAsLiteralSlot,
+        Want::Assignments | Want::ListedSlot => Kind::NoneAsAssignedSlot,
+        _ => Kind::NoneAsWord,
+    })
 }
 
 /// Whether a pair withdraws what a card has.
 fn withdraws(card: &[u8], pair: &Pair) -> bool {
     pair.1 == NONE && card[usize::from(pair.0)] != NONE
+}
+
+/// Whether one of some pairs withdraws what a card has.
+fn some_withdrawn(card: &[u8], pairs: &[Pair]) -> bool {
+    pairs.iter().any(|pair| withdraws(card, pair))
+}
+
+/// Whether one of some pairs withdraws what a card does not have.
+fn nothing_withdrawn(card: &[u8], pairs: &[Pair]) -> bool {
+    pairs.iter().any(|pair| pair.1 == NONE && !withdraws(card, pair))
+}
+
+/// The pairs that the slip does not have.
+fn beside(slip: &[Pair], pairs: impl IntoIterator<Item = Pair>) -> Vec<Pair> {
+    pairs.into_iter().filter(|pair| !slip.contains(pair)).collect()
 }
 
 /// Whether one of the fired rules passes a test.
@@ -72,15 +86,16 @@ fn some_fired(program: &Program, fired: &[usize], test: impl Fn(&Rule) -> bool) 
 pub fn withdrawal_kinds(program: &Program, card: &[u8], slip: &[Pair], firing: &Firing) -> Vec<Kind> {
     let Firing { changes, fired } = firing;
     let slot = conflict(changes);
-    let withdrawn = || changes.iter().filter(|pair| withdraws(card, pair));
-    let of_nothing = |pair: &Pair| pair.1 == NONE && !withdraws(card, pair);
+    let answered = slot.is_none();
+    let by_rules = beside(slip, changes.iter().copied());
     let woken: BTreeSet<usize> =
         broken_firing::fire(Fault::EmptyWithdrawn, program, card, slip).fired.into_iter().collect();
     let some = |test: &dyn Fn(&Rule) -> bool| some_fired(program, fired, test);
     holding(&[
-        (Kind::Withdrawn, slot.is_none() && withdrawn().next().is_some()),
-        (Kind::WithdrawnByRule, slot.is_none() && withdrawn().any(|pair| !slip.contains(pair))),
-        (Kind::NothingWithdrawn, slot.is_none() && changes.iter().any(of_nothing)),
+        (Kind::Withdrawn, answered && some_withdrawn(card, slip)),
+        (Kind::WithdrawnByRule, answered && some_withdrawn(card, &by_rules)),
+        (Kind::NothingWithdrawn, answered && nothing_withdrawn(card, slip)),
+        (Kind::NothingWithdrawnByRule, answered && nothing_withdrawn(card, &by_rules)),
         (Kind::WokenByWithdrawal, some(&|rule| rule.trigger.1 == NONE)),
         (Kind::UnwokenByNothing, woken != fired.iter().copied().collect()),
         (Kind::NoneHeld, some(&|rule| tests_none(rule, false, false))),
@@ -101,7 +116,7 @@ pub fn mark_withdrawal_kinds(program: &Program, card: &[u8], slip: &[Pair], end:
     let assigned = end.fired.iter().flat_map(|at| &program.rules[*at].assignments);
     let brought: Changes = slip.iter().chain(assigned).copied().collect();
     let values: Changes = brought.iter().copied().filter(|pair| pair.1 != NONE).collect();
-    let positive = end.marks.with(Mark::Positive);
+    let by_rules = beside(slip, end.marks.with(Mark::Positive));
     let unknown = end.marks.with(Mark::Unknown);
     let is_assigned = |pair: &Pair| program.rules.iter().any(|rule| rule.assignments.contains(pair));
     let barred = |rule: &Rule| {
@@ -109,7 +124,8 @@ pub fn mark_withdrawal_kinds(program: &Program, card: &[u8], slip: &[Pair], end:
         rule.literals.iter().any(|literal| bars(literal) && is_assigned(&literal.pair))
     };
     holding(&[
-        (Kind::MarkWithdrawn, number == 0 && positive.iter().any(|pair| withdraws(card, pair) && !slip.contains(pair))),
+        (Kind::MarkWithdrawn, number == 0 && some_withdrawn(card, slip)),
+        (Kind::MarkWithdrawnByRule, number == 0 && some_withdrawn(card, &by_rules)),
         (Kind::MarkWoken, number == 0 && some_fired(program, &end.fired, |rule| rule.trigger.1 == NONE)),
         (Kind::NoneRuledOut, number == 0 && some_fired(program, &end.fired, barred)),
         (Kind::NoneClashes, number == 41 && doubled(&values).is_empty()),

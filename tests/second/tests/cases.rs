@@ -1,6 +1,6 @@
 //! The lettered cases A to L of document 01 and its others.
 
-use second::cards::{slip_bytes, unpack_card, unpack_slip};
+use second::cards::{unpack_card, unpack_slip};
 use second::engine::{Engine, Second};
 use second::firing_checks::{given, Given};
 use second::listing::listing;
@@ -222,58 +222,6 @@ fn declared_once_and_used_as_declared() {
     assert_eq!(refused(b"WHEN x *= 1 IF TRUE THEN x := 1;"), Some(refusal(16, 0)));
     assert_eq!(refused(&text(&["WHEN x *= 2"])), Some(refusal(16, 0)));
     assert_eq!(refused(&text(&[A, "WHEN x *= 1 IF TRUE THEN {x := 0, x"])), Some(refusal(17, 1)));
-}
-
-#[test]
-fn none_stands_for_a_value_in_rules_and_for_nothing_else() {
-    for rule in [
-        "WHEN x *= NONE IF TRUE THEN y := 1;",
-        "WHEN x *= 1 IF y |= NONE AND NOT z *= NONE THEN y := 1;",
-        "WHEN x *= 1 IF TRUE THEN y := NONE;",
-        "WHEN x *= 1 IF TRUE THEN {y := NONE, z := NONE};",
-    ] {
-        assert_eq!(refused(&text(&[rule])), None, "{rule}");
-    }
-    for slots in ["SLOT NONE {0};", "SLOT x {NONE};", "SLOT x {0, NONE};", "SLOT x {0} NONE"] {
-        assert_eq!(refused(slots.as_bytes()), Some(refusal(12, 0)), "{slots}");
-    }
-    for rule in [
-        "WHEN NONE *= 1",
-        "WHEN x *= 1 IF NONE |= 0",
-        "WHEN x *= 1 IF NOT NONE",
-        "WHEN x *= 1 IF TRUE AND NONE",
-        "WHEN x *= 1 IF TRUE THEN NONE := 1",
-        "WHEN x *= 1 IF TRUE THEN {y := 1, NONE",
-        "NONE",
-    ] {
-        assert_eq!(refused(&text(&[A, rule])), Some(refusal(12, 1)), "{rule}");
-    }
-    assert_eq!(refused(&text(&["WHEN q *= NONE"])), Some(refusal(16, 0)));
-    assert_eq!(refused(&text(&["WHEN x *= none"])), Some(refusal(16, 0)));
-    assert_eq!(refused(b"SLOT none {None, NONEs, NONE-}; WHEN none *= None IF none |= NONE THEN none := NONE-;"), None);
-    let fifteen = (0..15).map(|at| at.to_string()).collect::<Vec<String>>().join(",");
-    let full = format!("SLOT x {{{fifteen}}}; WHEN x *= NONE IF TRUE THEN x := 14;");
-    let rule = read(full.as_bytes()).unwrap().rules[0];
-    assert_eq!((rule.value, rule.assignments[0].value), (0, 15));
-}
-
-#[test]
-fn a_withdrawal_is_a_change_like_any_other() {
-    let printed = |rules: &[&str], card: &[u8], slip: &[(u8, u8)]| listing(&text(rules), card, &slip_bytes(slip), &[7]);
-    let woken = ["WHEN x *= NONE IF NOT y |= NONE THEN z := 1;"];
-    let all = "rule 1 stratum 1 fired\nchange x NONE\nchange z 1\ncard 0C0480\ntally 7 1 0\n";
-    assert_eq!(printed(&woken, &ZEROS, &[(0, 0)]), all);
-    let idle = "rule 1 stratum 1 idle\nchange x NONE\ncard 0C0440\ntally 7 1 0\n";
-    assert_eq!(printed(&woken, &[0x0C, 0x04, 0x40], &[(0, 0)]), idle);
-    let unset = "rule 1 stratum 1 idle\nchange x NONE\ncard 0C0040\ntally 7 1 0\n";
-    assert_eq!(printed(&woken, &[0x0C, 0x40, 0x40], &[(0, 0)]), unset);
-    let back = ["WHEN x *= 1 IF TRUE THEN y := NONE;"];
-    let withdrawn = "rule 1 stratum 1 fired\nchange x 1\nchange y NONE\ncard 0C8040\ntally 7 1 0\n";
-    assert_eq!(printed(&back, &ZEROS, &[(0, 2)]), withdrawn);
-    assert_eq!(printed(&back, &ZEROS, &[(0, 2), (1, 0)]), withdrawn);
-    assert_eq!(printed(&back, &ZEROS, &[(0, 2), (1, 1)]), "refused 40 1\n");
-    assert_eq!(printed(&["WHEN x *= 1 IF TRUE THEN x := NONE;"], &ZEROS, &[(0, 2)]), "refused 40 0\n");
-    assert_eq!(printed(&["WHEN x *= NONE IF TRUE THEN x := 1;"], &ZEROS, &[(0, 0)]), "refused 40 0\n");
 }
 
 #[test]

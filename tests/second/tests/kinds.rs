@@ -9,23 +9,25 @@ use second::engine::{Engine, Second, Way};
 use second::firing_checks::{check_small, Counts};
 use second::gen::{any_file, card, slip, Rng};
 use second::gen_editors::editor_file;
-use second::kinds::{holding, response_kinds, rule_kinds, table_kinds, text_kinds, Kind};
+use second::kinds::{holding, response_kinds, rule_kinds, text_kinds, Kind};
 use second::kinds::{CALL_KINDS, MARK_KINDS, MARK_TABLE_KINDS, NONE_REFUSED_KINDS, PRINT_KINDS};
 use second::kinds::{RESPONSE_KINDS, RULE_KINDS, TABLE_KINDS, TEXT_KINDS};
 use second::listing::listing;
 use second::mark_kinds::{mark_kinds, mark_table_kinds};
-use second::none_kinds::refused_kinds;
+use second::none_kinds::refused_kind;
 use second::response::Outputs;
 use second::table::{Name, Pair, Table};
 use second::table31::{tested, tested_for_marks, unlayered};
+use second::table_kinds::table_kinds;
 use second::table_lines::{generated, tables};
+use second::text::{tokens, Kind as TokenKind};
 use second::Refusal;
 
 /// How often each kind was met.
 type Met = BTreeMap<Kind, usize>;
 
 /// Counts kinds.
-fn meet(met: &mut Met, kinds: Vec<Kind>) {
+fn meet(met: &mut Met, kinds: impl IntoIterator<Item = Kind>) {
     kinds.into_iter().for_each(|kind| *met.entry(kind).or_default() += 1);
 }
 
@@ -45,7 +47,7 @@ struct Watching {
 impl Engine for Watching {
     fn read(&mut self, text: &[u8]) -> (Option<Refusal>, Box<Table>) {
         meet(&mut self.met, text_kinds(text));
-        meet(&mut self.met, refused_kinds(text));
+        meet(&mut self.met, refused_kind(text));
         Second.read(text)
     }
 
@@ -55,8 +57,7 @@ impl Engine for Watching {
 
     fn print(&mut self, text: &[u8], output: &mut [u8]) -> Result<usize, Refusal> {
         let printed = Second.print(text, output);
-        let has_none =
-            |print: &[u8]| print.windows(6).any(|part| part.starts_with(b" NONE") && !part[5].is_ascii_alphanumeric());
+        let has_none = |print: &[u8]| tokens(print).iter().any(|token| token.kind == TokenKind::None);
         let none = printed.map_or(false, |length| has_none(&output[..length]));
         meet(&mut self.met, holding(&[(Kind::NonePrinted, none)]));
         printed

@@ -286,7 +286,14 @@ fn orders_of_selection_and_firing_orders_agree_with_the_response() {
     ];
     assert!(seldom.iter().all(|count| *count >= 10) && counts.all_orders > 3_000, "{counts:?}");
     assert!(counts.moved > 1_000, "{counts:?}");
-    let kinds = [Kind::MarkWithdrawn, Kind::MarkWoken, Kind::NoneRuledOut, Kind::NoneClashes, Kind::NoneUnknown];
+    let kinds = [
+        Kind::MarkWithdrawn,
+        Kind::MarkWithdrawnByRule,
+        Kind::MarkWoken,
+        Kind::NoneRuledOut,
+        Kind::NoneClashes,
+        Kind::NoneUnknown,
+    ];
     assert!(kinds.iter().all(|kind| counts.kinds.get(kind) >= Some(&10)), "{counts:?}");
 }
 
