@@ -1,19 +1,20 @@
 -- The tests of a rule: one pair, one literal, one assignment after the other.
 -- Assumes nothing.
-use mathlib.Core.Path.{_≡_, refl}
+use mathlib.Core.Path.{_≡_, refl, _∙_}
 use mathlib.Core.Bool.{Bool, true, false}
 use mathlib.Core.List.{List, [], _∷_, map}
-use Prim.Native.Nat.{ℕ, _≤_, _<_}
-use lib.Dec.{eqb}
+use Prim.Native.Nat.{ℕ, zero, suc, _≤_, _<_}
+use native.Mathlib.Omega.{arith}
+use lib.Dec.{eqb, leb}
 use lib.ListN.{getD}
-use borrow.Author.Tests.{eq-eqb, ne-eqb, le-leb, lt-leb}
+use borrow.Author.Tests.{ne-eqb, le-leb, lt-leb}
 use Rattle.laws.specs.Truth.{_∧ᵇ_, _∨ᵇ_, notᵇ}
 use Rattle.laws.specs.Listed.{all-of}
 use Rattle.laws.proofs.Equations.{and-false}
 use Rattle.laws.proofs.Listed.{all-append}
 use Rattle.model.specs.Rules.{Pair, assigns, each-once}
 use Rattle.table.specs.declared.Rule.{Rule}
-use Rattle.laws.specs.Limits.{literal-limit, assignment-limit}
+use Rattle.laws.specs.Limits.{value-limit, literal-limit, assignment-limit}
 use Rattle.table.specs.Link.{rule-of, literals-of, assignments-of}
 use Rattle.names.specs.Names.{has-slot, has-value}
 use Rattle.soundness.specs.Sound.{has-pair, named}
@@ -27,13 +28,18 @@ pub pair-there : (width : ℕ) (counts : List ℕ) (p : Pair) → has-slot width
 unfolding has-pair _∧ᵇ_
 pair-there width counts p e = rw e
 
-pub pair-none : (width : ℕ) (counts : List ℕ) (p : Pair) → has-slot width (p .slot) ≡ true → p .value ≡ 0 → has-pair width counts p ≡ true
-unfolding has-pair _∧ᵇ_ _∨ᵇ_
-pair-none width counts p e z = rw (e, eq-eqb (p .value) 0 z)
+pub pair-beyond : (width : ℕ) (counts : List ℕ) (p : Pair) → has-slot width (p .slot) ≡ true → value-limit < p .value → has-pair width counts p ≡ false
+unfolding has-pair has-value _∧ᵇ_ _∨ᵇ_
+pair-beyond width counts p e h = rw (e, ne-eqb (p .value) 0 (λ z. omega (arith, h, z)), le-leb 1 (p .value) (omega (arith, h)), lt-leb (p .value) value-limit h)
 
-pub pair-value : (width : ℕ) (counts : List ℕ) (p : Pair) → has-slot width (p .slot) ≡ true → ¬ (p .value ≡ 0) → has-pair width counts p ≡ has-value (getD counts (p .slot) 0) (p .value)
-unfolding has-pair _∧ᵇ_ _∨ᵇ_
-pair-value width counts p e n = rw (e, ne-eqb (p .value) 0 n)
+-- NONE is below every declared value, so one test tells both.
+none-or-value : (count v : ℕ) → v ≤ value-limit → (eqb v 0 ∨ᵇ has-value count v) ≡ leb v count
+unfolding has-value _∧ᵇ_ _∨ᵇ_
+none-or-value count zero h = rw (le-leb 0 count (omega arith))
+none-or-value count (suc v) h = rw (ne-eqb (suc v) 0 (λ z. omega (arith, z)), le-leb 1 (suc v) (omega arith), le-leb (suc v) value-limit h)
+
+pub pair-within : (width : ℕ) (counts : List ℕ) (p : Pair) → has-slot width (p .slot) ≡ true → p .value ≤ value-limit → has-pair width counts p ≡ leb (p .value) (getD counts (p .slot) 0)
+pair-within width counts p e h = pair-there width counts p e ∙ none-or-value (getD counts (p .slot) 0) (p .value) h
 
 pub all-stop : {A : Type 0} (f : A → Bool) (x : A) (xs : List A) → f x ≡ false → all-of f (x ∷ xs) ≡ false
 unfolding all-of _∧ᵇ_

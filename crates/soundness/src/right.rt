@@ -15,6 +15,7 @@ use table::ASSIGNMENTS;
 use table::LITERALS;
 use table::Rule;
 use table::SLOTS;
+use table::VALUES;
 
 // Whether a table with so many slots, of so many values each, has a slot, and the value is NONE or one of that slot's.
 fn has_pair(width: usize, counts: &[usize; SLOTS], slot: u8, value: u8) -> bool
@@ -24,12 +25,12 @@ fn has_pair(width: usize, counts: &[usize; SLOTS], slot: u8, value: u8) -> bool
     if !names::has_slot(width, s) {
         return false;
     }
-    let v = table::wide(value);
-    if v == 0 {
-        return true;
-    }
     let count = counts[s];
-    names::has_value(count, v)
+    let v = table::wide(value);
+    if VALUES < v {
+        return false;
+    }
+    v <= count
 }
 
 // Whether it has the pairs of the literals used.

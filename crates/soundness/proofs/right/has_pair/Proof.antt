@@ -5,7 +5,7 @@ use Rattle.model.specs.Result.{pair}
 use borrow.Author.Tests.{not-true, not-false}
 use Rattle.names.specs.Names.{has-slot}
 use Rattle.names.proofs.Names.{slot-inside}
-use Rattle.soundness.proofs.RuleTests.{pair-lacking, pair-none, pair-value}
+use Rattle.soundness.proofs.RuleTests.{pair-lacking, pair-beyond, pair-within}
 use mathlib.Core.Bool.{true}
 use native.Mathlib.Omega.{arith}
 use borrow.Author.Needs.{needs}
@@ -27,32 +27,27 @@ returns c =
     let s = g .before .before in
     sym (pair-lacking (s .args .width) (s .args .counts .now) (pair (s .args .slot) (s .args .value)) (rw (← (g .before .wide .ensures)) (sym (g .has-slot .ensures) ∙ not-true (g .has-slot .result) (c .if1 .taken))))
 
+mul-count : tie.Need-mul-count
+mul-count c = omega (arith, slot-inside _ _ (there c) .0, c .before .before .wide .ensures)
+
+element-copy-out-count : tie.Need-element-copy-out-count
+element-copy-out-count c = omega (arith, slot-inside _ _ (there c) .0, c .before .before .wide .ensures)
+
 wide-requires-2 : tie.Need-wide-requires-2
 wide-requires-2 c κs = search needs
 
 returns-2 : tie.Need-returns-2
 returns-2 c =
-    let e = c .before .before in
+    let e = c .before .before .before in
     let s = e .before .before .before in
-    sym (pair-none (s .args .width) (s .args .counts .now) (pair (s .args .slot) (s .args .value)) (there e) (rw (← (c .before .wide2 .ensures)) (c .if2 .taken)))
-
-mul-count : tie.Need-mul-count
-mul-count c = let e = c .before .before in omega (arith, slot-inside _ _ (there e) .0, e .before .before .wide .ensures)
-
-element-copy-out-count : tie.Need-element-copy-out-count
-element-copy-out-count c = let e = c .before .before in omega (arith, slot-inside _ _ (there e) .0, e .before .before .wide .ensures)
-
-has-value-requires : tie.Need-has-value-requires
-has-value-requires c κs = search needs
+    sym (pair-beyond (s .args .width) (s .args .counts .now) (pair (s .args .slot) (s .args .value)) (there e) (omega (arith, c .if2 .taken, c .before .wide2 .ensures)))
 
 returns-3 : tie.Need-returns-3
 returns-3 c =
-    let f = c .before .before in
-    let e = f .before .before in
+    let e = c .before .before .before in
     let s = e .before .before .before in
-    c .has-value .ensures
-    ∙ rw (f .before .wide2 .ensures, e .before .before .wide .ensures)
-    (sym (pair-value (s .args .width) (s .args .counts .now) (pair (s .args .slot) (s .args .value)) (there e) (λ z. f .if2 .left (f .before .wide2 .ensures ∙ z))))
+    rw (c .before .wide2 .ensures, e .before .before .wide .ensures)
+    (sym (pair-within (s .args .width) (s .args .counts .now) (pair (s .args .slot) (s .args .value)) (there e) (omega (arith, c .if2 .left, c .before .wide2 .ensures))))
 
 pub has-pair-spec : {M : Type 1} → statement M
 has-pair-spec =
@@ -61,9 +56,8 @@ has-pair-spec =
     wide-requires
     has-slot-requires
     returns
-    wide-requires-2
-    returns-2
     mul-count
     element-copy-out-count
-    has-value-requires
+    wide-requires-2
+    returns-2
     returns-3)
