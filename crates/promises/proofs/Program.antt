@@ -11,7 +11,7 @@ use Rattle.laws.specs.Limits.{slot-limit, rule-limit}
 use Rattle.laws.specs.Answers.{OrRefused, taken, refused}
 use Rattle.laws.proofs.Equations.{is-true, from-true}
 use Rattle.laws.proofs.Numbers.{is-false}
-use Rattle.model.specs.Rules.{Pair, Rule}
+use Rattle.model.specs.Rules.{Rule}
 use Rattle.table.specs.declared.Table.{Table}
 use Rattle.table.specs.declared.Way.{Way}
 use Rattle.table.specs.declared.Way.the-variants.{Strata}

@@ -9,7 +9,7 @@ use mathlib.Core.Logic.{_↔_, _⊎_, inl, inr, ⊎-elim}
 use lib.Dec.{T, eqb, eqb→eq, eqb-refl}
 use borrow.Author.Tests.{eqb-true, eqb-false}
 use lib.ListN.{length, getD}
-use Rattle.laws.specs.Answers.{OrRefused, taken, refused}
+use Rattle.laws.specs.Answers.{taken, refused}
 use Rattle.laws.specs.Limits.{text-limit, row}
 use Rattle.laws.specs.Truth.{notᵇ}
 use Rattle.laws.proofs.Equations.{is-true}
