@@ -37,7 +37,7 @@ pub fn card_bytes(values: &[usize]) -> Vec<u8> {
     bytes
 }
 
-/// The bytes of a slip of slots, from 0, and values, from 1.
+/// The bytes of a slip of slots, from 0, and values, from 1, 0 for NONE.
 pub fn slip_bytes(changes: &[(usize, usize)]) -> Vec<u8> {
     let mut all = [0; SLOTS];
     changes.iter().for_each(|(slot, value)| all[*slot] = 1 << value);

@@ -14,18 +14,28 @@ struct Shape {
     assignments: usize,
     levels: usize,
     longest: usize,
-    /// Whether rules wait for others under NOT too, so that there are as many strata as levels; if not, all rules are in stratum 1.
-    layered: bool,
+    kind: Kind,
+}
+
+/// What sets a text apart from others of its measures.
+#[derive(PartialEq)]
+enum Kind {
+    /// All rules are in stratum 1, and every change is to a value.
+    Plain,
+    /// Rules wait for others under NOT too, so that there are as many strata as levels.
+    Layered,
+    /// Every change is NONE: what the card has is withdrawn.
+    Withdrawn,
 }
 
 /// Shapes from small to the limits.
 const SHAPES: [Shape; 6] = [
-    Shape { slots: 3, values: 2, rules: 2, literals: 1, assignments: 1, levels: 2, longest: 4, layered: false },
-    Shape { slots: 6, values: 3, rules: 8, literals: 2, assignments: 1, levels: 2, longest: 8, layered: false },
-    Shape { slots: 12, values: 4, rules: 32, literals: 3, assignments: 2, levels: 3, longest: 8, layered: false },
-    Shape { slots: 24, values: 8, rules: 96, literals: 4, assignments: 2, levels: 5, longest: 9, layered: false },
-    Shape { slots: 32, values: 15, rules: 192, literals: 6, assignments: 3, levels: 7, longest: 5, layered: false },
-    Shape { slots: 32, values: 15, rules: 255, literals: 8, assignments: 4, levels: 7, longest: 5, layered: false },
+    Shape { slots: 3, values: 2, rules: 2, literals: 1, assignments: 1, levels: 2, longest: 4, kind: Kind::Plain },
+    Shape { slots: 6, values: 3, rules: 8, literals: 2, assignments: 1, levels: 2, longest: 8, kind: Kind::Plain },
+    Shape { slots: 12, values: 4, rules: 32, literals: 3, assignments: 2, levels: 3, longest: 8, kind: Kind::Plain },
+    Shape { slots: 24, values: 8, rules: 96, literals: 4, assignments: 2, levels: 5, longest: 9, kind: Kind::Plain },
+    Shape { slots: 32, values: 15, rules: 192, literals: 6, assignments: 3, levels: 7, longest: 5, kind: Kind::Plain },
+    Shape { slots: 32, values: 15, rules: 255, literals: 8, assignments: 4, levels: 7, longest: 5, kind: Kind::Plain },
 ];
 
 /// A name of letters that is not among those given.
@@ -49,7 +59,7 @@ fn names(rng: &mut Rng, count: usize, longest: usize) -> Vec<String> {
     names
 }
 
-/// What a text is made from: the names, the card, and for each slot the value that it changes to, one that it never changes to but rules test under NOT, and the one that idle rules assign.
+/// What a text is made from: the names, each slot's values behind NONE, the card, and for each slot the value that it changes to, one that it never changes to but rules test under NOT, and the one that idle rules assign.
 struct Plan<'a> {
     shape: &'a Shape,
     slots: Vec<String>,
@@ -111,27 +121,34 @@ impl Plan<'_> {
 fn generated(shape: &Shape, length: usize) -> Input {
     let mut rng = Rng(shape.rules as u64);
     let slots = names(&mut rng, shape.slots, shape.longest);
-    let values = slots.iter().map(|_| names(&mut rng, shape.values, shape.longest)).collect();
-    let card: Vec<usize> = (0..shape.slots).map(|_| rng.below(shape.values)).collect();
-    let after = |steps: usize| -> Vec<usize> { card.iter().map(|value| (value + steps) % shape.values).collect() };
-    let (next, [barred, idle]) = (after(1), (if shape.layered { [2, 2] } else { [0, 1] }).map(after));
+    let values = slots
+        .iter()
+        .map(|_| [vec!["NONE".to_string()], names(&mut rng, shape.values, shape.longest)].concat())
+        .collect();
+    let first: Vec<usize> = (0..shape.slots).map(|_| rng.below(shape.values)).collect();
+    let after = |steps: usize| -> Vec<usize> { first.iter().map(|at| 1 + (at + steps) % shape.values).collect() };
+    let (next, [barred, idle]) = (after(1), (if shape.kind == Kind::Layered { [2, 2] } else { [0, 1] }).map(after));
+    let next = if shape.kind == Kind::Withdrawn { vec![0; shape.slots] } else { next };
     let plan = Plan { shape, slots, values, card: after(0), next, barred, idle };
     let mut lines: Vec<String> = (0..shape.slots)
-        .map(|slot| format!("SLOT {} {{{}}};", plan.slots[slot], plan.values[slot].join(", ")))
+        .map(|slot| format!("SLOT {} {{{}}};", plan.slots[slot], plan.values[slot][1..].join(", ")))
         .collect();
     let mut rules: Vec<String> =
         (0..shape.rules).map(|at| plan.rule(&mut rng, 1 + at % shape.levels, at % 4 == 3 && at >= 32)).collect();
     rng.shuffle(&mut rules);
     lines.extend(rules);
-    let values: Vec<usize> = plan.card.iter().map(|value| value + 1).collect();
-    let changes: Vec<(usize, usize)> = plan.slots_of(0, 1).iter().map(|slot| (*slot, plan.next[*slot] + 1)).collect();
-    let strata = if shape.layered { format!(", {} strata", shape.levels) } else { String::new() };
+    let changes: Vec<(usize, usize)> = plan.slots_of(0, 1).iter().map(|slot| (*slot, plan.next[*slot])).collect();
+    let kind = match shape.kind {
+        Kind::Plain => String::new(),
+        Kind::Layered => format!(", {} strata", shape.levels),
+        Kind::Withdrawn => ", withdrawn".to_string(),
+    };
     Input {
-        name: format!("{} slots, {} rules, {} in a condition{strata}", shape.slots, shape.rules, shape.literals),
+        name: format!("{} slots, {} rules, {} in a condition{kind}", shape.slots, shape.rules, shape.literals),
         text: filled(&lines, length),
-        card: card_bytes(&values),
+        card: card_bytes(&plan.card),
         slip: slip_bytes(&changes),
-        grows: !shape.layered,
+        grows: shape.kind == Kind::Plain,
     }
 }
 
@@ -141,12 +158,13 @@ fn white() -> Input {
     Input { name, text: vec![b' '; TEXT], card: vec![0], slip: vec![0], grows: false }
 }
 
-/// All inputs, the growing ones first; the largest is filled up to the longest text, and so is the same in strata.
+/// All inputs, the growing ones first; the largest is filled up to the longest text, and so is the same in strata and the same with NONE for every change.
 pub fn inputs() -> Vec<Input> {
     let (largest, smaller) = SHAPES.split_last().expect("there are shapes");
     let mut inputs: Vec<Input> = smaller.iter().map(|shape| generated(shape, 0)).collect();
     inputs.push(generated(largest, TEXT));
-    inputs.push(generated(&Shape { layered: true, ..*largest }, TEXT));
+    inputs.push(generated(&Shape { kind: Kind::Layered, ..*largest }, TEXT));
+    inputs.push(generated(&Shape { kind: Kind::Withdrawn, ..*largest }, TEXT));
     inputs.extend(chains());
     inputs.push(white());
     inputs
