@@ -18,7 +18,7 @@ fn run(engine: &mut dyn Engine, seeds: u64, first: u64) -> Result<(Counts, MarkC
 /// Runs both engines.
 fn main() {
     let mut given = std::env::args().skip(1).map(|word| word.parse::<u64>().expect("a number"));
-    let seeds = given.next().unwrap_or(8_000);
+    let seeds = given.next().unwrap_or(4_000);
     let first = given.next().unwrap_or(1);
     let engines: [(&str, &mut dyn Engine); 2] = [("second", &mut Second), ("proved", &mut Proved::default())];
     for (name, engine) in engines {
