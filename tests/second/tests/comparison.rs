@@ -132,7 +132,7 @@ fn orders_and_sets_of_fired_rules_have_the_same_ends() {
 #[test]
 fn firing_orders_agree_with_the_response() {
     let mut counts = Counts::default();
-    (1..600).for_each(|seed| check_small(&mut Second, seed, &mut counts).unwrap());
+    (1..=8_000).for_each(|seed| check_small(&mut Second, seed, &mut counts).unwrap());
     assert!(counts.answered > 1_000 && counts.conflicts > 100 && counts.inconsistent > 0);
 }
 

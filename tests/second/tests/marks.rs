@@ -271,7 +271,7 @@ fn and_is_the_smaller_in_any_order_and_not_is_two_minus() {
 #[test]
 fn orders_of_selection_and_firing_orders_agree_with_the_response() {
     let mut counts = MarkCounts::default();
-    (1..2_500).for_each(|seed| check_small(&mut Second, seed, &mut counts).unwrap());
+    (1..=8_000).for_each(|seed| check_small(&mut Second, seed, &mut counts).unwrap());
     println!("{counts:?}");
     for outcomes in [&counts.circled, &counts.layered] {
         assert!(outcomes.answers > 200 && outcomes.clashes > 100 && outcomes.unknowns > 100, "{counts:?}");

@@ -18,7 +18,7 @@ fn run(seeds: u64, first: u64) -> Result<(Counts, MarkCounts), String> {
 /// Prints what was met, or what failed.
 fn main() {
     let mut given = std::env::args().skip(1).map(|word| word.parse::<u64>().expect("a number"));
-    let seeds = given.next().unwrap_or(4_000);
+    let seeds = given.next().unwrap_or(8_000);
     let first = given.next().unwrap_or(1);
     match run(seeds, first) {
         Ok((counts, by_marks)) => println!("{counts:?}\n{by_marks:?}"),
