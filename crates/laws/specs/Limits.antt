@@ -3,7 +3,7 @@ use Prim.Native.Nat.{ℕ, _+_}
 
 -- Bytes in a text.
 abbrev pub text-limit : ℕ
-text-limit = 65535
+text-limit = 262144
 
 -- Bytes in a name.
 abbrev pub name-limit : ℕ
@@ -19,7 +19,7 @@ value-limit = 15
 
 -- Rules in a file.
 abbrev pub rule-limit : ℕ
-rule-limit = 255
+rule-limit = 2000
 
 -- Literals in a condition, TRUE not counted.
 abbrev pub literal-limit : ℕ

@@ -51,7 +51,7 @@ row-rule-shaped row s =
       each-literal = λ j h. rw (literal-is row j h) (let p = pair-placed (getD row (4 + j) 0) in record { slot-byte = omega (arith, p .in-slots); value-byte = omega (arith, p .in-row) });
       assignment-places = simp (length-map, length-take, length-drop) (omega arith);
       each-assignment = λ j h. rw (assignment-is row j h) (let p = pair-placed (getD row (12 + j) 0) in record { slot-byte = omega (arith, p .in-slots); value-byte = omega (arith, p .in-row) });
-      stratum-byte = s .stratum-byte;
+      stratum-small = s .stratum-small;
     }
 
 -- The rule of a row that fits, fits.
@@ -75,16 +75,14 @@ unfolding table-in
 rows-count rows n = refl
 
 -- The table that rows stand for has its places.
-pub rows-table-shaped : (rows : List (List ℕ)) (n : ℕ) → RowsShaped rows → Shaped (table-in rows n)
+pub rows-table-shaped : (rows : List (List ℕ)) (n : ℕ) → RowsFit rows n → Shaped (table-in rows n)
 unfolding table-in
-rows-table-shaped rows n s =
-    let z = s .places in
-    record {
-      slot-places = length-replicate slot-limit unused-slot;
-      each-slot = λ i h. rw (getD-replicate slot-limit i unused-slot zero-slot h) (record { value-places = refl });
-      rule-places = simp length-map (omega arith);
-      each-rule = λ i h. rw (List·getD-map rule-in rows i []) (row-rule-shaped (getD rows i []) (s .each-row i h));
-    }
+rows-table-shaped rows n f = record {
+  slot-places = length-replicate slot-limit unused-slot;
+  each-slot = λ i h. rw (getD-replicate slot-limit i unused-slot zero-slot h) (record { value-places = refl });
+  rule-places = λ h. rw length-map (f .inside);
+  each-rule = λ i h. rw (List·getD-map rule-in rows i []) (row-rule-shaped (getD rows i []) (f .rows-shaped .each-row i (simp length-map at h)));
+}
 
 -- And fits.
 pub rows-table-fits : (rows : List (List ℕ)) (n : ℕ) → RowsFit rows n → TableFits (table-in rows n)
@@ -175,10 +173,9 @@ pub at-last : (P : ℕ → Type 0) (i : ℕ) → ((k : ℕ) → k < i → P k) �
 at-last P i below top k h = ⊎-elim (λ (e : k ≡ i). subst P (sym e) top) (λ (l : k < i). below k l) (eq-or-lt-of-le (let z : k ≤ i = omega arith in z))
 
 -- Rows of zeros have their places.
-pub zero-shaped : RowsShaped (replicate rule-limit (replicate {A = ℕ} 16 0))
-zero-shaped = record {
-  places = length-replicate rule-limit (replicate {A = ℕ} 16 0);
-  each-row = λ i h. rw (getD-replicate rule-limit i (replicate {A = ℕ} 16 0) [] h) (record { size = refl; stratum-byte = omega arith });
+pub zero-shaped : (k : ℕ) → RowsShaped (replicate k (replicate {A = ℕ} 16 0))
+zero-shaped k = record {
+  each-row = λ i h. rw (getD-replicate k i (replicate {A = ℕ} 16 0) [] (rw (length-replicate k (replicate {A = ℕ} 16 0)) at h)) (record { size = refl; stratum-small = omega arith });
 }
 
 -- No rule is entered yet.
@@ -186,25 +183,22 @@ pub entered-start : (rs : List Rule) (rows : List (List ℕ)) → RowsShaped row
 entered-start rs rows s = record { shaped = s; each = λ i h. absurd (let z = h in omega arith) }
 
 -- One rule more is written into its row.
-pub entered-next : (rs : List Rule) (rows : List (List ℕ)) (i : ℕ) (row : List ℕ) → i < rule-limit → Row (getD rs i zero-rule) row → Entered rs rows i → Entered rs (set rows i row) (i + 1)
-entered-next rs rows i row h r e =
-    let l = e .shaped .places in
-    record {
-      shaped = record {
-        places = length-set rows i row ∙ l;
-        each-row = λ k b. ⊎-elim
-            (λ (q : k ≡ i). rw (q, getD-set-same rows i row [] (omega arith)) (r .fits .row-shaped))
-            (λ (q : k ≡ i → ⊥). rw (getD-set-other rows i k row [] q) (e .shaped .each-row k b))
-            (either k i);
-      };
-      each = at-last (λ k. Row (getD rs k zero-rule) (getD (set rows i row) k [])) i
-          (λ k b. rw (getD-set-other rows i k row [] (λ (q : k ≡ i). omega arith)) (e .each k b))
-          (rw (getD-set-same rows i row [] (omega arith)) r);
-    }
+pub entered-next : (rs : List Rule) (rows : List (List ℕ)) (i : ℕ) (row : List ℕ) → i < length rows → Row (getD rs i zero-rule) row → Entered rs rows i → Entered rs (set rows i row) (i + 1)
+entered-next rs rows i row h r e = record {
+  shaped = record {
+    each-row = λ k b. ⊎-elim
+        (λ (q : k ≡ i). rw (q, getD-set-same rows i row [] h) (r .fits .row-shaped))
+        (λ (q : k ≡ i → ⊥). rw (getD-set-other rows i k row [] q) (e .shaped .each-row k (rw (length-set rows i row) at b)))
+        (either k i);
+  };
+  each = at-last (λ k. Row (getD rs k zero-rule) (getD (set rows i row) k [])) i
+      (λ k b. rw (getD-set-other rows i k row [] (λ (q : k ≡ i). omega arith)) (e .each k b))
+      (rw (getD-set-same rows i row [] h) r);
+}
 
 -- Rows that rules were written into fit.
-pub entered-fits : (rs : List Rule) (rows : List (List ℕ)) (n : ℕ) → n ≤ rule-limit → Entered rs rows n → RowsFit rows n
-entered-fits rs rows n h e = record { rows-shaped = e .shaped; few = h; each-fits = λ i l. e .each i l .fits }
+pub entered-fits : (rs : List Rule) (rows : List (List ℕ)) (n : ℕ) → n ≤ rule-limit → n ≤ length rows → Entered rs rows n → RowsFit rows n
+entered-fits rs rows n h k e = record { rows-shaped = e .shaped; few = h; inside = k; each-fits = λ i l. e .each i l .fits }
 
 -- What a function makes of the first n of two lists is the same where it is at each place.
 same-at : {A B : Type 0} (f : A → B) (xs ys : List A) (d : A) (n : ℕ) → n ≤ length xs → n ≤ length ys → ((i : ℕ) → i < n → f (getD xs i d) ≡ f (getD ys i d)) → map f (take n xs) ≡ map f (take n ys)
@@ -214,19 +208,15 @@ same-at f (x ∷ xs) [] d (suc n) a b h = absurd (omega arith)
 same-at f (x ∷ xs) (y ∷ ys) d (suc n) a b h = ap₂ (λ u us. u ∷ us) (h 0 (omega arith)) (same-at f xs ys d n (le-of-suc-le-suc a) (le-of-suc-le-suc b) (λ i l. h (suc i) (omega arith)))
 
 -- The rows of a table's rules stand for the same rules, with the same strata.
-pub entered-rules : (t : Table) (rows : List (List ℕ)) → Shaped t → t .count ≤ rule-limit → Entered (t .rules) rows (t .count) → rules-of (table-in rows (t .count)) ≡ rules-of t
+pub entered-rules : (t : Table) (rows : List (List ℕ)) → Shaped t → RowsFit rows (t .count) → Entered (t .rules) rows (t .count) → rules-of (table-in rows (t .count)) ≡ rules-of t
 unfolding rules-of table-in
-entered-rules t rows sh h e =
-    let l = e .shaped .places in
-    let m = sh .rule-places in
-    same-at rule-of (map rule-in rows) (t .rules) zero-rule (t .count) (simp length-map (omega arith)) (omega arith) (λ i b. rw (List·getD-map rule-in rows i []) (e .each i b .means))
+entered-rules t rows sh f e =
+    same-at rule-of (map rule-in rows) (t .rules) zero-rule (t .count) (rw length-map (f .inside)) (sh .rule-places (f .few)) (λ i b. rw (List·getD-map rule-in rows i []) (e .each i b .means))
 
-pub entered-strata : (t : Table) (rows : List (List ℕ)) → Shaped t → t .count ≤ rule-limit → Entered (t .rules) rows (t .count) → carried-strata (table-in rows (t .count)) ≡ carried-strata t
+pub entered-strata : (t : Table) (rows : List (List ℕ)) → Shaped t → RowsFit rows (t .count) → Entered (t .rules) rows (t .count) → carried-strata (table-in rows (t .count)) ≡ carried-strata t
 unfolding carried-strata table-in
-entered-strata t rows sh h e =
-    let l = e .shaped .places in
-    let m = sh .rule-places in
-    same-at (λ r. r .stratum) (map rule-in rows) (t .rules) zero-rule (t .count) (simp length-map (omega arith)) (omega arith) (λ i b. rw (List·getD-map rule-in rows i []) (e .each i b .carries))
+entered-strata t rows sh f e =
+    same-at (λ r. r .stratum) (map rule-in rows) (t .rules) zero-rule (t .count) (rw length-map (f .inside)) (sh .rule-places (f .few)) (λ i b. rw (List·getD-map rule-in rows i []) (e .each i b .carries))
 
 -- A row into which a rule's trigger, its numbers, its first j literals and its first k assignments are written.
 pub record Written (r : Rule) (row : List ℕ) (j k : ℕ) : Type 0 where
@@ -304,7 +294,7 @@ written-end r row f sh w =
     let b = w .assigned-in in
     let few = f .literals-fit in
     let some = f .assignments-fit in
-    let shaped : RowShaped row = record { size = w .size; stratum-byte = rw (w .stratum-in) (sh .stratum-byte) } in
+    let shaped : RowShaped row = record { size = w .size; stratum-small = rw (w .stratum-in) (sh .stratum-small) } in
     let mine = row-rule-shaped row shaped in
     let tests-same : map literal-of (take (r .tested) (rule-in row .literals)) ≡ map literal-of (take (r .tested) (r .literals)) =
     same-at literal-of (rule-in row .literals) (r .literals) zero-literal (r .tested) (omega (arith, mine .literal-places)) (omega (arith, sh .literal-places))

@@ -62,8 +62,7 @@ pub fn enter_rule(r: Rule, row: &mut [u16; NUMBERS])
     row[1] = m as u16;
     let k = r.assigned as usize;
     row[2] = k as u16;
-    let s = r.stratum;
-    row[3] = s as u16;
+    row[3] = r.stratum;
     let mut j: usize = 0;
     'literals: while j < m {
         let l = r.literals[j];

@@ -61,7 +61,7 @@ tested-placed r p f t = ⊎-elim
 module _ (t : Table) (fits : TableFits t) (sh : Shaped t) where
   -- The model has as many rules as the table uses.
   pub count-of : length (rules-of t) ≡ t .count
-  count-of = rules-length t (omega (arith, fits .rules-fit, sh .rule-places))
+  count-of = rules-length t (sh .rule-places (fits .rules-fit))
 
   pub number : (i : ℕ) → i < t .count → Numbered (length (rules-of t)) (suc i)
   number i h = record { first = omega arith; last = omega (arith, count-of) }

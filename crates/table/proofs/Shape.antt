@@ -56,19 +56,23 @@ rule-shaped r vs g =
       each-literal = λ j h. (let k : j < length (r .literals) = omega arith in let e = each-at-map _ _ (r .literals) _ zero-literal j k (g .1 .1 .1 .1 .0 .1 .1) in literal-shaped (getD (r .literals) j zero-literal) (e .0 ∷ []) (e .1));
       assignment-places = a;
       each-assignment = λ j h. (let k : j < length (r .assignments) = omega arith in let e = each-at-map _ _ (r .assignments) _ zero-assignment j k (g .1 .1 .1 .1 .1 .1 .0 .1 .1) in assignment-shaped (getD (r .assignments) j zero-assignment) (e .0 ∷ []) (e .1));
-      stratum-byte = g .1 .1 .1 .1 .1 .1 .1 .1 .0 .1;
+      stratum-small = g .1 .1 .1 .1 .1 .1 .1 .1 .0 .1;
     }
 
 pub slot-shaped : (s : Slot) (vs : List Val) → shadow (slot.the-row .own s vs) → SlotShaped s
 slot-shaped s vs g = record { value-places = simp length-map at (g .1 .1 .1 .0 .1 .0 .1) }
 
+-- A table that the code has has all places for rules.
+pub all-places : (t : Table) (vs : List Val) → shadow (table.the-row .own t vs) → length (t .rules) ≡ rule-limit
+all-places t vs g = simp length-map at (g .1 .1 .1 .1 .0 .1 .0 .1)
+
 pub shaped : (t : Table) (vs : List Val) → shadow (table.the-row .own t vs) → Shaped t
 shaped t vs g =
     let s : length (t .slots) ≡ slot-limit = simp length-map at (g .1 .1 .0 .1 .0 .1) in
-    let r : length (t .rules) ≡ rule-limit = simp length-map at (g .1 .1 .1 .1 .0 .1 .0 .1) in
+    let r = all-places t vs g in
     record {
       slot-places = s;
       each-slot = λ i h. (let k : i < length (t .slots) = omega arith in let e = each-at-map _ _ (t .slots) _ zero-slot i k (g .1 .1 .0 .1 .1) in slot-shaped (getD (t .slots) i zero-slot) (e .0 ∷ []) (e .1));
-      rule-places = r;
-      each-rule = λ i h. (let k : i < length (t .rules) = omega arith in let e = each-at-map _ _ (t .rules) _ zero-rule i k (g .1 .1 .1 .1 .0 .1 .1) in rule-shaped (getD (t .rules) i zero-rule) (e .0 ∷ []) (e .1));
+      rule-places = λ h. omega (arith, h, r);
+      each-rule = λ i k. (let e = each-at-map _ _ (t .rules) _ zero-rule i k (g .1 .1 .1 .1 .0 .1 .1) in rule-shaped (getD (t .rules) i zero-rule) (e .0 ∷ []) (e .1));
     }

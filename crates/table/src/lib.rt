@@ -8,7 +8,7 @@ pub const SLOTS: usize = 32;
 
 pub const VALUES: usize = 15;
 
-pub const RULES: usize = 255;
+pub const RULES: usize = 2000;
 
 pub const LITERALS: usize = 8;
 
@@ -26,7 +26,7 @@ pub enum Way {
 }
 
 // A stratum, from 1.
-pub type Stratum = u8;
+pub type Stratum = u16;
 
 // A test in a condition: `slot *= value` (becomes) or `slot |= value`, plain or under NOT.
 #[repr(C)]
@@ -57,7 +57,7 @@ pub struct Rule {
 }
 
 // A place in a rule text, or a length of a part of it.
-pub type Offset = u16;
+pub type Offset = u32;
 
 // Where a name stands in the rule text.
 #[repr(C)]

@@ -10,16 +10,16 @@ use Rattle.rows.proofs.enter_rule.Statement.{statement}
 use Rattle.rows.proofs.enter_rule.Tie as tie
 
 abbrev Inv-literals : tie.InvT-literals
-Inv-literals row₀ r slot value trigger m k s j₀ row j = (j ≤ m) × Written r row j 0
+Inv-literals row₀ r slot value trigger m k j₀ row j = (j ≤ m) × Written r row j 0
 
 abbrev μ-literals : tie.MeasureT-literals
-μ-literals row₀ r slot value trigger m k s j₀ row j = m - j
+μ-literals row₀ r slot value trigger m k j₀ row j = m - j
 
 abbrev Inv-assignments : tie.InvT-assignments
-Inv-assignments row₀ r slot value trigger m k s j i₀ row i = (i ≤ k) × Written r row (r .tested) i
+Inv-assignments row₀ r slot value trigger m k j i₀ row i = (i ≤ k) × Written r row (r .tested) i
 
 abbrev μ-assignments : tie.MeasureT-assignments
-μ-assignments row₀ r slot value trigger m k s j i₀ row i = k - i
+μ-assignments row₀ r slot value trigger m k j i₀ row i = k - i
 
 place-number-requires :
     tie.Need-place-number-requires Inv-literals μ-literals Inv-assignments μ-assignments
@@ -51,9 +51,6 @@ cast-row-2 c = record { fits = omega (arith, c .before .pre .0 .assignments-fit)
 element-write-row-3 :
     tie.Need-element-write-row-3 Inv-literals μ-literals Inv-assignments μ-assignments
 element-write-row-3 c = search needs
-
-cast-row-3 : tie.Need-cast-row-3 Inv-literals μ-literals Inv-assignments μ-assignments
-cast-row-3 c = search needs
 
 element-write-row-4 :
     tie.Need-element-write-row-4 Inv-literals μ-literals Inv-assignments μ-assignments
@@ -160,7 +157,6 @@ enter-rule-spec =
     cast-k
     cast-row-2
     element-write-row-3
-    cast-row-3
     element-write-row-4
     literals-holds
     mul-l

@@ -52,10 +52,10 @@ rule-in row = record {
 unfoldable pub table-in : List (List ℕ) → ℕ → Table
 table-in rows n = record { slots = replicate slot-limit unused-slot; width = 0; rules = map rule-in rows; count = n }
 
--- A row has sixteen numbers, and its stratum is a byte.
+-- A row has sixteen numbers, and its stratum sixteen bits.
 pub record RowShaped (row : List ℕ) : Type 0 where
   pub size : length row ≡ 16
-  pub stratum-byte : getD row 3 0 < 256
+  pub stratum-small : getD row 3 0 < 65536
 
 -- A row that a rule was written into: it uses literals and assignments within the limits, its trigger is a plain `*=`, and its literals are tests.
 pub record RowFits (row : List ℕ) : Type 0 where
@@ -71,15 +71,15 @@ pub record Row (r : Rule) (row : List ℕ) : Type 0 where
   pub means : rule-of (rule-in row) ≡ rule-of r
   pub carries : getD row 3 0 ≡ r .stratum
 
--- Rows for as many rules as a table can have.
+-- Rows, of whatever number.
 pub record RowsShaped (rows : List (List ℕ)) : Type 0 where
-  pub places : length rows ≡ rule-limit
-  pub each-row : (i : ℕ) → i < rule-limit → RowShaped (getD rows i [])
+  pub each-row : (i : ℕ) → i < length rows → RowShaped (getD rows i [])
 
--- The first n of them have rules.
+-- The first n of them have rules, no more than a table can have.
 pub record RowsFit (rows : List (List ℕ)) (n : ℕ) : Type 0 where
   pub rows-shaped : RowsShaped rows
   pub few : n ≤ rule-limit
+  pub inside : n ≤ length rows
   pub each-fits : (i : ℕ) → i < n → RowFits (getD rows i [])
 
 -- The first n of them have the first n of these rules.
