@@ -8,7 +8,6 @@ use native.Mathlib.Omega.{arith}
 use native.Mathlib.Nat.{eq-or-lt-of-le}
 use lib.ListN.{length, getD, set, replicate, length-set}
 use lib.Seq.{getD-set-same, getD-set-other}
-use Rattle.laws.specs.Limits.{rule-limit}
 use Rattle.laws.proofs.Filled.{replicate-at}
 use Rattle.table.specs.inner.Flat.{pair-places}
 use Rattle.testing.specs.declared.waiting.Turn.{Turn}
@@ -23,10 +22,10 @@ set-low (y ∷ ys) (suc i) x bound h l zero = h zero
 set-low (y ∷ ys) (suc i) x bound h l (suc k) = set-low ys i x (λ j. bound (suc j)) (λ j. h (suc j)) l k
 
 -- At first no rule waits.
-pub waiting-start : (n : ℕ) → Waiting n (replicate pair-places 0) (replicate rule-limit 0)
-waiting-start n = record {
+pub waiting-start : (n room : ℕ) → Waiting n (replicate pair-places 0) (replicate room 0)
+waiting-start n room = record {
   heads-low = λ p. rw (replicate-at {A = ℕ} pair-places 0 p) (omega arith);
-  nexts-low = λ i. rw (replicate-at {A = ℕ} rule-limit 0 i) (omega arith);
+  nexts-low = λ i. rw (replicate-at {A = ℕ} room 0 i) (omega arith);
 }
 
 -- A rule comes to the head of a list.
@@ -41,15 +40,15 @@ pub waiting-less : (n p : ℕ) (heads nexts : List ℕ) → Waiting n heads next
 waiting-less n p heads nexts w = record { heads-low = set-low heads p 0 (λ k. n) (w .heads-low) (omega arith); nexts-low = w .nexts-low }
 
 -- At the start of a pass no rule is woken.
-pub woken-none : (n : ℕ) (woken : List ℕ) → length woken ≡ rule-limit → Woken n 0 woken
-woken-none n woken l = record { size = l; few = omega arith; low = λ k h. absurd (let z = h in omega arith) }
+pub woken-none : (n : ℕ) (woken : List ℕ) → n ≤ length woken → Woken n 0 woken
+woken-none n woken l = record { room = l; few = omega arith; low = λ k h. absurd (let z = h in omega arith) }
 
 -- One rule more is woken.
-pub woken-more : (n left i : ℕ) (woken : List ℕ) → left < rule-limit → i < n → Woken n left woken → Woken n (left + 1) (set woken left i)
+pub woken-more : (n left i : ℕ) (woken : List ℕ) → left < n → i < n → Woken n left woken → Woken n (left + 1) (set woken left i)
 woken-more n left i woken h l w =
-    let z = w .size in
+    let z = w .room in
     record {
-      size = length-set woken left i ∙ z;
+      room = rw (length-set woken left i) z;
       few = omega arith;
       low = λ k b. ⊎-elim
           (λ (e : k ≡ left). rw (e, getD-set-same woken left i 0 (omega arith)) l)
@@ -78,7 +77,7 @@ module _ (positions : List ℕ) (k : ℕ) (woken : List ℕ) where
   pub turn-woken : (left : ℕ) (u : Turn) → u ≡ turn-of positions k woken left → (n : ℕ) → Woken n left woken → Woken n (u .left) woken
   unfolding turn-of
   turn-woken zero u e n w = rw e w
-  turn-woken (suc left) u e n w = rw e (record { size = w .size; few = omega (arith, w .few); low = λ j h. w .low j (omega arith) })
+  turn-woken (suc left) u e n w = rw e (record { room = w .room; few = omega (arith, w .few); low = λ j h. w .low j (omega arith) })
 
   -- the place stays or is the next,
   pub turn-place : (left : ℕ) (u : Turn) → u ≡ turn-of positions k woken left → k ≤ u .place

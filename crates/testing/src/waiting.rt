@@ -1,13 +1,13 @@
 // Which rule firing looks at next. A rule that was passed over at a plain `*=` waits at its pair, and is woken when that pair comes; this saves passes over a stratum and decides nothing.
 ghost use mathlib.Core.Path.{_≡_};
 ghost use Prim.Native.Nat.{ℕ, _≤_, _<_};
+ghost use lib.ListN.{length};
 ghost use Rattle.laws.specs.Limits.{rule-limit};
 ghost use Rattle.table.specs.inner.Flat.{pair-places};
 ghost use Rattle.rows.specs.inner.Rows.{tests};
 ghost use Rattle.testing.specs.inner.Waiting.{Waiting, Woken, turn-of};
 use rows::wide;
 use table::PAIRS;
-use table::RULES;
 
 // A rule, from 0, with the place in the sorted rules and the number of woken rules that are left after it.
 pub struct Turn {
@@ -17,8 +17,8 @@ pub struct Turn {
 }
 
 // The rule woken last, or else the one at place k of the sorted rules.
-pub fn next_rule(positions: &[u16; RULES], k: usize, woken: &[u16; RULES], left: usize) -> Turn
-    requires { ⌜ (left ≤ rule-limit) × (left ≡ 0 → k < rule-limit) ⌝ }
+pub fn next_rule(positions: &[u16], k: usize, woken: &[u16], left: usize) -> Turn
+    requires { ⌜ (left ≤ length (now woken)) × (left ≡ 0 → k < length (now positions)) ⌝ }
     ensures { λ r. ⌜ r ≡ turn-of (now (positions .entry)) k (now (woken .entry)) left ⌝ }
 {
     if 0 < left {
@@ -37,8 +37,8 @@ pub fn next_rule(positions: &[u16; RULES], k: usize, woken: &[u16; RULES], left:
 }
 
 // In the first pass over a stratum a rule that was passed over at a plain `*=` comes to the head of those that wait at its pair.
-pub fn wait(first: bool, number: u16, i: usize, heads: &mut [u16; PAIRS], nexts: &mut [u16; RULES])
-    requires { ⌜ (number < tests) × (i < rule-limit) ⌝ }
+pub fn wait(first: bool, number: u16, i: usize, heads: &mut [u16; PAIRS], nexts: &mut [u16])
+    requires { ⌜ (number < tests) × (i < length (now nexts)) × (length (now nexts) ≤ rule-limit) ⌝ }
     ensures { λ _. ⌜ ((n : ℕ) → i < n → Waiting n (now (heads .entry)) (now (nexts .entry)) → Waiting n (now (heads .exit)) (now (nexts .exit))) ⌝ }
 {
     if !first {
@@ -59,11 +59,11 @@ pub fn wake(
     p: usize,
     n: usize,
     heads: &mut [u16; PAIRS],
-    nexts: &[u16; RULES],
-    woken: &mut [u16; RULES],
+    nexts: &[u16],
+    woken: &mut [u16],
     left: usize,
 ) -> usize
-    requires { ⌜ (p < pair-places) × (n ≤ rule-limit) × Waiting n (now heads) (now nexts) × Woken n left (now woken) ⌝ }
+    requires { ⌜ (p < pair-places) × (n ≤ rule-limit) × (n ≤ length (now nexts)) × Waiting n (now heads) (now nexts) × Woken n left (now woken) ⌝ }
     ensures { λ r. ⌜ Waiting n (now (heads .exit)) (now (nexts .entry)) × Woken n r (now (woken .exit)) ⌝ }
 {
     let mut top = left;

@@ -3,7 +3,6 @@ use mathlib.Core.Path.{_≡_}
 use mathlib.Core.List.{List}
 use Prim.Native.Nat.{ℕ, zero, suc, _+_, _≤_, _<_}
 use lib.ListN.{length, getD}
-use Rattle.laws.specs.Limits.{rule-limit}
 use Rattle.testing.specs.declared.waiting.Turn.{Turn}
 
 -- The lists name rules only.
@@ -13,8 +12,8 @@ pub record Waiting (n : ℕ) (heads nexts : List ℕ) : Type 0 where
 
 -- The rules woken are rules, and find room.
 pub record Woken (n left : ℕ) (woken : List ℕ) : Type 0 where
-  pub size : length woken ≡ rule-limit
-  pub few : left ≤ rule-limit
+  pub room : n ≤ length woken
+  pub few : left ≤ n
   pub low : (k : ℕ) → k < left → getD woken k 0 < n
 
 -- The rule looked at next: the one woken last, or where none is woken the one at place k.

@@ -26,8 +26,8 @@ element-copy-out-head c = search needs
 mul-nexts : tie.Need-mul-nexts
 mul-nexts c = search needs
 
-element-write-nexts : tie.Need-element-write-nexts
-element-write-nexts c = search needs
+slice-write-nexts : tie.Need-slice-write-nexts
+slice-write-nexts c = search needs
 
 add-next : tie.Need-add-next
 add-next c = search needs
@@ -44,6 +44,9 @@ element-write-heads c = search needs
 returns-3 : tie.Need-returns-3
 returns-3 c = λ n h w. waiting-more n _ _ _ _ h w
 
+same-length : tie.Need-same-length
+same-length c = search needs
+
 pub wait-spec : {M : Type 1} → statement M
 wait-spec =
     tie.close
@@ -55,9 +58,10 @@ wait-spec =
     mul-head
     element-copy-out-head
     mul-nexts
-    element-write-nexts
+    slice-write-nexts
     add-next
     cast-heads
     mul-heads
     element-write-heads
+    same-length
     returns-3)
