@@ -25,10 +25,10 @@ use Rattle.model.specs.Least.{LeastStrata, strata-of}
 use Rattle.model.proofs.Pairs.{needed-tested, barred-tested, meet-e}
 use Rattle.model.proofs.Gradings.{plain-no-higher, under-not-smaller}
 use Rattle.model.proofs.Justified.{justified-least, least-justified}
-use Rattle.model.proofs.Strata.{no-circle, least-i, least-e}
+use Rattle.model.proofs.Strata.{no-circle, least-i, least-e, least-top}
 use Rattle.table.specs.declared.Rule.{Rule}
 use Rattle.table.specs.declared.Table.{Table}
-use Rattle.laws.specs.Limits.{row}
+use Rattle.laws.specs.Limits.{row, rule-limit}
 use Rattle.table.specs.Zero.{zero-rule}
 use Rattle.table.specs.inner.Shape.{Shaped}
 use Rattle.table.specs.Link.{assignments-of, rule-of, rules-of, stratum-at}
@@ -47,7 +47,7 @@ module _ (t : Table) where
     pub covers : (m : ℕ) (p : Pair) → Numbered (length (rules-of t)) m → m ≤ i → T (among p (rule-at (rules-of t) m .assignments)) → stratum-at t m ≤ getD hs (place-of p) 0
     pub attained : (p : Pair) → p .value < row → (getD hs (place-of p) 0 ≡ 0)
         ⊎ ((m : ℕ) × Numbered (length (rules-of t)) m × T (among p (rule-at (rules-of t) m .assignments)) × (stratum-at t m ≡ getD hs (place-of p) 0))
-    pub all-small : (k : ℕ) → getD hs k 0 < 256
+    pub all-small : (k : ℕ) → getD hs k 0 ≤ rule-limit
     pub places : length hs ≡ pair-places
 
   -- Each of the rules 1 to k carries a number as high as it is asked.
@@ -84,7 +84,7 @@ module _ (t : Table) (fits : TableFits t) (sh : Shaped t) where
     places = length-replicate {A = ℕ} pair-places 0;
   }
 
-  carried : (i : ℕ) (hs : List ℕ) (r : Rule) (s : ℕ) → i < t .count → rule-at (rules-of t) (suc i) ≡ rule-of r → RuleFits r → s ≡ stratum-at t (suc i) → s < 256
+  carried : (i : ℕ) (hs : List ℕ) (r : Rule) (s : ℕ) → i < t .count → rule-at (rules-of t) (suc i) ≡ rule-of r → RuleFits r → s ≡ stratum-at t (suc i) → s ≤ rule-limit
       → Carried t i hs → Carried t (i + 1) (raise-all (assignments-of r) s hs)
   carried i hs r s h is f e lt g = record {
     covers = λ m p im le a. ⊎-elim
@@ -102,8 +102,8 @@ module _ (t : Table) (fits : TableFits t) (sh : Shaped t) where
       hit : (p : Pair) → T (among p (assignments-of r)) → s ≤ getD (raise-all (assignments-of r) s hs) (place-of p) 0
       hit p a = raise-hit (assignments-of r) s hs p (omega (arith, placed-inside p (assigned-placed r p f a), g .places)) a
 
-  pub carried-step : (i : ℕ) (hs : List ℕ) (s : ℕ) → i < t .count → s ≡ getD (t .rules) i zero-rule .stratum → Carried t i hs → Carried t (i + 1) (raise-all (assignments-of (getD (t .rules) i zero-rule)) s hs)
-  carried-step i hs s h e g = carried i hs (getD (t .rules) i zero-rule) s h (rule-at-is t i h) (fits .each-fits i h) (e ∙ sym (stratum-at-is t i h)) (omega (arith, e, sh .each-rule i (omega (arith, fits .rules-fit)) .stratum-byte)) g
+  pub carried-step : (i : ℕ) (hs : List ℕ) (s : ℕ) → i < t .count → s ≡ getD (t .rules) i zero-rule .stratum → s ≤ rule-limit → Carried t i hs → Carried t (i + 1) (raise-all (assignments-of (getD (t .rules) i zero-rule)) s hs)
+  carried-step i hs s h e low g = carried i hs (getD (t .rules) i zero-rule) s h (rule-at-is t i h) (fits .each-fits i h) (e ∙ sym (stratum-at-is t i h)) low g
 
   pub carried-small : (i : ℕ) (hs : List ℕ) → Carried t i hs → Small hs
   carried-small i hs g = record { below = λ k. omega (arith, g .all-small k) }
@@ -166,6 +166,17 @@ module _ (t : Table) (fits : TableFits t) (sh : Shaped t) where
   not-valid hs k s h g l e d w = bool-ext false (carries-least t) (λ u. absurd u) (λ u.
       let x = rw (rule-at-is t k l, stratum-at-is t k l) at (strata-valid hs g (carries-iff t .0 u .strata) (suc k) (number t fits sh k l)) in
       omega (arith, e, d, x, w))
+
+  -- Where the least are carried, none is above the number of rules.
+  pub carries-low : T (carries-least t) → (k : ℕ) → k < t .count → stratum-at t (suc k) ≤ t .count
+  carries-low u k l =
+      let w = carries-e t u in
+      let i = number t fits sh k l in
+      omega (arith, w .1 (suc k) i, least-top weak (rules-of t) (w .0) (suc k) i, count-of t fits sh)
+
+  -- A rule that carries more is answered so too.
+  pub not-low : (k s : ℕ) → k < t .count → s ≡ getD (t .rules) k zero-rule .stratum → t .count < s → false ≡ carries-least t
+  not-low k s l e h = bool-ext false (carries-least t) (λ u. absurd u) (λ u. omega (arith, carries-low u k l, stratum-at-is t k l, e, h))
 
   -- Where the least are carried, each is justified.
   pub carries-justified : T (carries-least t) → (k : ℕ) → k < t .count → Justified weak (rules-of t) (stratum-at t) (suc k)

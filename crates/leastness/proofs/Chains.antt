@@ -1,7 +1,7 @@
 -- Chains of places: what is on a chain, and what one more place changes.
 -- Assumes nothing.
 use mathlib.Core.Path.{_≡_, refl, _∙_}
-use mathlib.Core.Bool.{Bool, true, false}
+use mathlib.Core.Bool.{Bool, true, false, cond}
 use mathlib.Core.List.{List, [], _∷_}
 use mathlib.Core.Logic.{_⊎_, inl, inr, ⊎-elim}
 use Prim.Native.Nat.{ℕ, _+_, _-_, _≤_, _<_}
@@ -16,7 +16,7 @@ use Rattle.model.specs.Rules.{Pair, among}
 use Rattle.model.proofs.Pairs.{same-refl, same-eq}
 use Rattle.table.specs.inner.Flat.{Placed, place-of, pair-places}
 use Rattle.table.proofs.Flat.{placed-inside}
-use Rattle.leastness.specs.inner.Chains.{needs-places, head-at, nexts-at, heads-with, nexts-with}
+use Rattle.leastness.specs.inner.Chains.{head-at, nexts-at, heads-with, nexts-with}
 
 -- One place chained, or not.
 pub at-level : (hs : List ℕ) (s k o : ℕ) (heads nexts : List ℕ) → getD hs k 0 ≡ s → (set heads k (o + 1) ≡ head-at hs s k o heads) × (set nexts o (getD heads k 0) ≡ nexts-at hs s k o heads nexts)
@@ -42,6 +42,20 @@ heads-none hs s o heads = refl
 pub nexts-none : (hs : List ℕ) (s o : ℕ) (heads nexts : List ℕ) → nexts-with hs s [] o heads nexts ≡ nexts
 unfolding nexts-with
 nexts-none hs s o heads nexts = refl
+
+-- The places stay as many.
+pub next-length : (hs : List ℕ) (s k o : ℕ) (heads nexts : List ℕ) → length (nexts-at hs s k o heads nexts) ≡ length nexts
+unfolding nexts-at
+next-length hs s k o heads nexts = go (eqb (getD hs k 0) s)
+  where
+    go : (b : Bool) → length (cond b (set nexts o (getD heads k 0)) nexts) ≡ length nexts
+    go true = length-set nexts o _
+    go false = refl
+
+pub nexts-length : (hs : List ℕ) (s : ℕ) (ps : List Pair) (o : ℕ) (heads nexts : List ℕ) → length (nexts-with hs s ps o heads nexts) ≡ length nexts
+unfolding nexts-with
+nexts-length hs s [] o heads nexts = refl
+nexts-length hs s (p ∷ ps) o heads nexts = nexts-length hs s ps (o + 1) _ _ ∙ next-length hs s (place-of p) o heads nexts
 
 -- The number y is on the chain that begins with the number x.
 pub data On (nexts : List ℕ) : ℕ → ℕ → Type 0 where
@@ -94,14 +108,13 @@ module _ (R : ℕ → ℕ → Type 0) where
     pub low : (k : ℕ) → getD heads k 0 ≤ o
     pub right : (k y : ℕ) → On nexts (getD heads k 0) y → R k y
     pub head-places : length heads ≡ pair-places
-    pub next-places : length nexts ≡ needs-places
 
   -- What was on a chain stays on it.
   unfoldable pub Kept : List ℕ → List ℕ → List ℕ → List ℕ → Type 0
   Kept heads nexts heads′ nexts′ = (k y : ℕ) → On nexts (getD heads k 0) y → On nexts′ (getD heads′ k 0) y
 
   -- One place more.
-  linked-one : (heads nexts : List ℕ) (o k : ℕ) → k < pair-places → o < needs-places → R k (o + 1) → Linked o heads nexts
+  linked-one : (heads nexts : List ℕ) (o k : ℕ) → k < pair-places → o < length nexts → R k (o + 1) → Linked o heads nexts
       → Linked (o + 1) (set heads k (o + 1)) (set nexts o (getD heads k 0)) × (Kept heads nexts (set heads k (o + 1)) (set nexts o (getD heads k 0)) × On (set nexts o (getD heads k 0)) (getD (set heads k (o + 1)) k 0) (o + 1))
   unfolding Falls Kept
   linked-one heads nexts o k hk ho r g = (
@@ -122,7 +135,6 @@ module _ (R : ℕ → ℕ → Type 0) where
           (λ e. rw (getD-set-other heads k i (o + 1) 0 e) (λ w. g .right i y (on-back nexts o (getD heads k 0) (g .falls) (g .low i) w)))
           (either i k);
       head-places = length-set heads k (o + 1) ∙ g .head-places;
-      next-places = length-set nexts o (getD heads k 0) ∙ g .next-places;
     },
     (
       λ i y w. ⊎-elim
@@ -134,7 +146,7 @@ module _ (R : ℕ → ℕ → Type 0) where
   )
     where
       own : getD (set nexts o (getD heads k 0)) o 0 ≡ getD heads k 0
-      own = getD-set-same nexts o (getD heads k 0) 0 (omega (arith, g .next-places))
+      own = getD-set-same nexts o (getD heads k 0) 0 ho
 
       head : getD (set heads k (o + 1)) k 0 ≡ o + 1
       head = getD-set-same heads k (o + 1) 0 (omega (arith, g .head-places))
@@ -148,9 +160,9 @@ module _ (R : ℕ → ℕ → Type 0) where
     pub kept : Kept heads nexts (heads-with hs s ps o heads) (nexts-with hs s ps o heads nexts)
     pub new : (p : Pair) → T (among p ps) → getD hs (place-of p) 0 ≡ s → (i : ℕ) × (o ≤ i) × (i < o + length ps) × On (nexts-with hs s ps o heads nexts) (getD (heads-with hs s ps o heads) (place-of p) 0) (i + 1)
 
-  linked-step : (hs : List ℕ) (s : ℕ) (p : Pair) (ps : List Pair) (o : ℕ) (heads nexts : List ℕ) → o + length (p ∷ ps) ≤ needs-places → Placed (p .slot) (p .value)
+  linked-step : (hs : List ℕ) (s : ℕ) (p : Pair) (ps : List Pair) (o : ℕ) (heads nexts : List ℕ) → o + length (p ∷ ps) ≤ length nexts → Placed (p .slot) (p .value)
       → (getD hs (place-of p) 0 ≡ s → R (place-of p) (o + 1)) → Linked o heads nexts
-      → ((heads′ nexts′ : List ℕ) → Linked (o + 1) heads′ nexts′ → LinkedAll hs s ps (o + 1) heads′ nexts′) → LinkedAll hs s (p ∷ ps) o heads nexts
+      → ((heads′ nexts′ : List ℕ) → length nexts′ ≡ length nexts → Linked (o + 1) heads′ nexts′ → LinkedAll hs s ps (o + 1) heads′ nexts′) → LinkedAll hs s (p ∷ ps) o heads nexts
   unfolding among Kept
   linked-step hs s p ps o heads nexts room placed r g tail = go (eqb (getD hs (place-of p) 0) s) refl
     where
@@ -177,18 +189,18 @@ module _ (R : ℕ → ℕ → Type 0) where
           let z = eqb-true (getD hs (place-of p) 0) s e in
           let x = at-level hs s (place-of p) o heads nexts z in
           let one = linked-one heads nexts o (place-of p) (placed-inside p placed) (omega (arith, room, sum)) (r z) g in
-          joined (set heads (place-of p) (o + 1)) (set nexts o (getD heads (place-of p) 0)) (x .0) (x .1) (one .1 .0) (λ d. one .1 .1) (tail _ _ (one .0))
+          joined (set heads (place-of p) (o + 1)) (set nexts o (getD heads (place-of p) 0)) (x .0) (x .1) (one .1 .0) (λ d. one .1 .1) (tail _ _ (length-set nexts o (getD heads (place-of p) 0)) (one .0))
       go false e =
           let n = eqb-false (getD hs (place-of p) 0) s e in
           let x = off-level hs s (place-of p) o heads nexts n in
           joined heads nexts (x .0) (x .1) (λ k y u. u) (λ d. absurd (n d))
-          (tail heads nexts (record { falls = g .falls; low = λ k. omega (arith, g .low k); right = g .right; head-places = g .head-places; next-places = g .next-places }))
+          (tail heads nexts refl (record { falls = g .falls; low = λ k. omega (arith, g .low k); right = g .right; head-places = g .head-places }))
 
-  pub linked-all : (hs : List ℕ) (s : ℕ) (ps : List Pair) (o : ℕ) (heads nexts : List ℕ) → o + length ps ≤ needs-places
+  pub linked-all : (hs : List ℕ) (s : ℕ) (ps : List Pair) (o : ℕ) (heads nexts : List ℕ) → o + length ps ≤ length nexts
       → ((p : Pair) → T (among p ps) → Placed (p .slot) (p .value)) → ((p : Pair) (i : ℕ) → T (among p ps) → getD hs (place-of p) 0 ≡ s → o ≤ i → i < o + length ps → R (place-of p) (i + 1)) → Linked o heads nexts
       → LinkedAll hs s ps o heads nexts
   unfolding among Kept heads-with nexts-with
   linked-all hs s [] o heads nexts room placed r g = record { linked = rw (let z : o + 0 ≡ o = omega arith in z) g; kept = λ k y w. w; new = λ p a. absurd a }
   linked-all hs s (p ∷ ps) o heads nexts room placed r g =
       linked-step hs s p ps o heads nexts room (placed p (or-l _ _ (same-refl p))) (λ e. r p o (or-l _ _ (same-refl p)) e (omega arith) (omega arith)) g
-      (λ heads′ nexts′ h. linked-all hs s ps (o + 1) heads′ nexts′ (omega (arith, room)) (λ q a. placed q (or-r _ _ a)) (λ q i a e lo hi. r q i (or-r _ _ a) e (omega (arith, lo)) (omega (arith, hi))) h)
+      (λ heads′ nexts′ e h. linked-all hs s ps (o + 1) heads′ nexts′ (omega (arith, room, e)) (λ q a. placed q (or-r _ _ a)) (λ q i a e lo hi. r q i (or-r _ _ a) e (omega (arith, lo)) (omega (arith, hi))) h)

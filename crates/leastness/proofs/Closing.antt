@@ -21,7 +21,6 @@ use Rattle.model.specs.inner.Justified.{Justified, at-first, one-above}
 use Rattle.model.proofs.Pairs.{needed-tested, barred-tested, meet-i}
 use Rattle.table.specs.declared.Rule.{Rule}
 use Rattle.table.specs.declared.Table.{Table}
-use Rattle.laws.specs.Limits.{rule-limit}
 use Rattle.table.specs.Zero.{zero-rule}
 use Rattle.table.specs.inner.Shape.{Shaped}
 use Rattle.table.specs.Link.{assignments-of, rule-of, rules-of, stratum-at, literals-of}
@@ -31,10 +30,11 @@ use Rattle.table.proofs.Link.{rule-at-is, stratum-at-is}
 use Rattle.table.proofs.Fits.{number, tested-in, assigned-in}
 use Rattle.leastness.specs.inner.OneBelow.{one-below}
 use Rattle.leastness.proofs.OneBelow.{below-e}
-use Rattle.leastness.specs.inner.Chains.{needs-places, heads-with, nexts-with}
+use Rattle.leastness.specs.inner.Chains.{heads-with, nexts-with}
+use Rattle.leastness.specs.inner.Low.{Unheld, Unchained}
 use Rattle.leastness.specs.inner.Flagging.{Flagging, flagging, flag-all}
 use Rattle.leastness.proofs.Flagging.{Queued, FlaggedAll, flagged-all}
-use Rattle.leastness.proofs.Chains.{On, first, Falls, Linked, LinkedAll, Kept, linked-all, on-none}
+use Rattle.leastness.proofs.Chains.{On, first, Falls, Linked, LinkedAll, Kept, linked-all, on-none, nexts-length}
 use Rattle.leastness.proofs.Carried.{Carried}
 
 picked-few : (f : Literal → Bool) (ls : List Literal) → length (pairs-where f ls) ≤ length ls
@@ -67,7 +67,8 @@ module _ (t : Table) (hs : List ℕ) where
   pub record Closing (i : ℕ) (held fl : List Bool) (q : List ℕ) (top : ℕ) (heads nexts : List ℕ) : Type 0 where
     pub linked : Linked Stands (i * 9) heads nexts
     pub queued : Queued fl q top
-    pub held-places : length held ≡ rule-limit
+    pub held-places : t .count ≤ length held
+    pub next-places : t .count * 9 ≤ length nexts
     pub held-right : (k : ℕ) → T (getD held k false) → Justified weak (rules-of t) (stratum-at t) (suc k)
     pub flags-right : (k : ℕ) → T (getD fl k false) → (m : ℕ) × (p : Pair) × Numbered (length (rules-of t)) m × Justified weak (rules-of t) (stratum-at t) m
         × T (among p (rule-at (rules-of t) m .assignments)) × (k ≡ place-of p) × (stratum-at t m ≡ getD hs k 0)
@@ -77,15 +78,14 @@ module _ (t : Table) (hs : List ℕ) where
     pub waits : (k : ℕ) (p : Pair) → k < i → T (among p (needed (rule-at (rules-of t) (suc k)))) → stratum-at t (suc k) ≡ getD hs (place-of p) 0 → Waits held nexts (getD heads (place-of p) 0) k
 
 module _ (t : Table) (fits : TableFits t) (sh : Shaped t) (hs : List ℕ) (g : Carried t (t .count) hs) where
-  pub closing-start : Closing t hs 0 (replicate rule-limit false) (replicate pair-places false) (replicate pair-places 0) 0 (replicate pair-places 0) (replicate needs-places 0)
+  pub closing-start : (held : List Bool) (nexts : List ℕ) → Unheld (t .count) held → Unchained (t .count) nexts → Closing t hs 0 held (replicate pair-places false) (replicate pair-places 0) 0 (replicate pair-places 0) nexts
   unfolding Waits Falls flags-set
-  closing-start = record {
+  closing-start held nexts u v = record {
     linked = record {
-      falls = λ o. rw (replicate-at {A = ℕ} needs-places 0 o) (omega arith);
+      falls = λ o. rw (v .none o) (omega arith);
       low = λ k. rw (replicate-at {A = ℕ} pair-places 0 k) (omega arith);
-      right = λ k y w. absurd (on-none (replicate needs-places 0) (rw (replicate-at {A = ℕ} pair-places 0 k) at w));
+      right = λ k y w. absurd (on-none nexts (rw (replicate-at {A = ℕ} pair-places 0 k) at w));
       head-places = length-replicate {A = ℕ} pair-places 0;
-      next-places = length-replicate {A = ℕ} needs-places 0;
     };
     queued = record {
       room = record { flag-places = length-replicate {A = Bool} pair-places false; counted = refl };
@@ -94,18 +94,19 @@ module _ (t : Table) (fits : TableFits t) (sh : Shaped t) (hs : List ℕ) (g : C
       flagged = λ x h. absurd (omega arith);
       queue-places = length-replicate {A = ℕ} pair-places 0;
     };
-    held-places = length-replicate {A = Bool} rule-limit false;
-    held-right = λ k w. absurd (rw (replicate-at rule-limit false k) at w);
+    held-places = u .places;
+    next-places = v .places;
+    held-right = λ k w. absurd (rw (u .none k) at w);
     flags-right = λ k w. absurd (rw (replicate-at pair-places false k) at w);
     first-held = λ k h. absurd (omega arith);
     ground-held = λ k h. absurd (omega arith);
-    assigned-flagged = λ k p w. absurd (rw (replicate-at rule-limit false k) at w);
+    assigned-flagged = λ k p w. absurd (rw (u .none k) at w);
     waits = λ k p h. absurd (omega arith);
   }
 
   -- Chains do not look at how far the rules went.
   linked-more : (o o′ : ℕ) (heads nexts : List ℕ) → o ≤ o′ → Linked (Stands t hs) o heads nexts → Linked (Stands t hs) o′ heads nexts
-  linked-more o o′ heads nexts le l = record { falls = l .falls; low = λ k. omega (arith, l .low k); right = l .right; head-places = l .head-places; next-places = l .next-places }
+  linked-more o o′ heads nexts le l = record { falls = l .falls; low = λ k. omega (arith, l .low k); right = l .right; head-places = l .head-places }
 
   -- What waited waits still where a rule more is held.
   pub waits-held : (held : List Bool) (nexts : List ℕ) (x k i : ℕ) → Waits t hs held nexts x k → Waits t hs (set held i true) nexts x k
@@ -119,7 +120,8 @@ module _ (t : Table) (fits : TableFits t) (sh : Shaped t) (hs : List ℕ) (g : C
   held-more i e held fl q top heads nexts l high j c n w = record {
     linked = c .linked;
     queued = w .queued;
-    held-places = length-set held e true ∙ c .held-places;
+    held-places = rw (length-set held e true) (c .held-places);
+    next-places = c .next-places;
     held-right = λ k u. ⊎-elim (λ (z : k ≡ e). rw z j) (λ u. c .held-right k u) (flag-from held e k u);
     flags-right = λ k u. ⊎-elim
         (λ u. c .flags-right k u)
@@ -145,7 +147,8 @@ module _ (t : Table) (fits : TableFits t) (sh : Shaped t) (hs : List ℕ) (g : C
   closing-first i held fl q top heads nexts l le c = record {
     linked = linked-more (i * 9) ((i + 1) * 9) heads nexts (omega arith) (c .linked);
     queued = c .queued;
-    held-places = length-set held i true ∙ c .held-places;
+    held-places = rw (length-set held i true) (c .held-places);
+    next-places = c .next-places;
     held-right = λ k u. ⊎-elim (λ (z : k ≡ i). rw z (at-first le)) (λ u. c .held-right k u) (flag-from held i k u);
     flags-right = c .flags-right;
     first-held = λ k h s. ⊎-elim (λ z. rw z own) (λ z. flag-kept held i k (c .first-held k z s)) (before k h);
@@ -158,7 +161,7 @@ module _ (t : Table) (fits : TableFits t) (sh : Shaped t) (hs : List ℕ) (g : C
   }
     where
       own : T (getD (set held i true) i false)
-      own = flag-here held i (omega (arith, l, c .held-places, fits .rules-fit))
+      own = flag-here held i (omega (arith, l, c .held-places))
 
       before : (k : ℕ) → k < i + 1 → (k ≡ i) ⊎ (k < i)
       before k h = eq-or-lt-of-le (let z : k ≤ i = omega arith in z)
@@ -175,6 +178,7 @@ module _ (t : Table) (fits : TableFits t) (sh : Shaped t) (hs : List ℕ) (g : C
         linked = linked-more (i * 9) ((i + 1) * 9) heads nexts (omega arith) (c′ .linked);
         queued = c′ .queued;
         held-places = c′ .held-places;
+        next-places = c′ .next-places;
         held-right = c′ .held-right;
         flags-right = c′ .flags-right;
         first-held = λ k h s. ⊎-elim (λ z. rw z own) (λ z. c′ .first-held k z s) (before k h);
@@ -184,7 +188,7 @@ module _ (t : Table) (fits : TableFits t) (sh : Shaped t) (hs : List ℕ) (g : C
       }
     where
       own : T (getD (set held i true) i false)
-      own = flag-here held i (omega (arith, l, c .held-places, fits .rules-fit))
+      own = flag-here held i (omega (arith, l, c .held-places))
 
       before : (k : ℕ) → k < i + 1 → (k ≡ i) ⊎ (k < i)
       before k h = eq-or-lt-of-le (let z : k ≤ i = omega arith in z)
@@ -206,6 +210,7 @@ module _ (t : Table) (fits : TableFits t) (sh : Shaped t) (hs : List ℕ) (g : C
     linked = linked-more (i * 9 + length (needed (rule-at (rules-of t) (suc i)))) ((i + 1) * 9) _ _ (omega (arith, few)) (w .linked);
     queued = c .queued;
     held-places = c .held-places;
+    next-places = nexts-kept;
     held-right = c .held-right;
     flags-right = c .flags-right;
     first-held = λ k h s. ⊎-elim (λ (z : k ≡ i). absurd (let y = rw z at s in omega (arith, y, high))) (λ z. c .first-held k z s) (before k h);
@@ -217,6 +222,9 @@ module _ (t : Table) (fits : TableFits t) (sh : Shaped t) (hs : List ℕ) (g : C
         (before k h);
   }
     where
+      nexts-kept : t .count * 9 ≤ length (nexts-with hs (stratum-at t (suc i)) (needed (rule-at (rules-of t) (suc i))) (i * 9) heads nexts)
+      nexts-kept = rw (nexts-length hs (stratum-at t (suc i)) (needed (rule-at (rules-of t) (suc i))) (i * 9) heads nexts) (c .next-places)
+
       few : length (needed (rule-at (rules-of t) (suc i))) ≤ 9
       few = rw (rule-at-is t i l) (needed-few (getD (t .rules) i zero-rule) (fits .each-fits i l))
 
@@ -229,7 +237,7 @@ module _ (t : Table) (fits : TableFits t) (sh : Shaped t) (hs : List ℕ) (g : C
           rw z (l, (p, a, refl), sym d)
 
       w : LinkedAll (Stands t hs) hs (stratum-at t (suc i)) (needed (rule-at (rules-of t) (suc i))) (i * 9) heads nexts
-      w = linked-all (Stands t hs) hs (stratum-at t (suc i)) (needed (rule-at (rules-of t) (suc i))) (i * 9) heads nexts (omega (arith, few, l, fits .rules-fit))
+      w = linked-all (Stands t hs) hs (stratum-at t (suc i)) (needed (rule-at (rules-of t) (suc i))) (i * 9) heads nexts (omega (arith, few, l, c .next-places))
           (λ p a. tested-in t fits sh (suc i) p (number t fits sh i l) (needed-tested (rule-at (rules-of t) (suc i)) p a)) here (c .linked)
 
   -- The same at the table's rules, as the code has them.

@@ -4,7 +4,7 @@ use mathlib.Core.Path.{_≡_, sym, _∙_, subst}
 use mathlib.Core.Bool.{Bool, true, false}
 use mathlib.Core.List.{List, _∷_}
 use mathlib.Core.Logic.{_⊎_, inl, inr, ⊎-elim}
-use Prim.Native.Nat.{ℕ, zero, suc, _+_, _-_, _/_, _≤_, _<_}
+use Prim.Native.Nat.{ℕ, zero, suc, _+_, _-_, _/_, _≤_, _<_, _*_}
 use native.Mathlib.Nat.{eq-or-lt-of-le}
 use native.Mathlib.Omega.{arith}
 use lib.Dec.{T}
@@ -31,7 +31,6 @@ use Rattle.table.proofs.Fits.{count-of, number, tested-in, assigned-in}
 use Rattle.strata.specs.inner.Heights.{asked-at}
 use Rattle.strata.proofs.Heights.{highest-ge}
 use Rattle.leastness.proofs.OneBelow.{below-i}
-use Rattle.leastness.specs.inner.Chains.{needs-places}
 use Rattle.leastness.specs.inner.Flagging.{Flagging, flagging, flag-all}
 use Rattle.leastness.specs.CarriesLeast.{carries-least}
 use Rattle.leastness.proofs.Flagging.{FlaggedAll}
@@ -48,7 +47,7 @@ module _ (t : Table) (hs : List ℕ) where
   pub record Following (a x : ℕ) (held : List Bool) (heads nexts : List ℕ) : Type 0 where
     pub left : (k : ℕ) (p : Pair) → k < t .count → T (among p (needed (rule-at (rules-of t) (suc k)))) → place-of p ≡ a → stratum-at t (suc k) ≡ getD hs (place-of p) 0 → Waits t hs held nexts x k
     pub part : (y : ℕ) → On nexts x y → On nexts (getD heads a 0) y
-    pub below : x ≤ needs-places
+    pub below : x ≤ t .count * 9
 
   -- Place `at - 1` of the queue, the pair at p, is worked on; its chain is followed from x on.
   pub record Chaining (at p x : ℕ) (held fl : List Bool) (q : List ℕ) (top : ℕ) (heads nexts : List ℕ) : Type 0 where
@@ -105,7 +104,7 @@ module _ (t : Table) (fits : TableFits t) (sh : Shaped t) (hs : List ℕ) (g : C
   following-start a held fl q top heads nexts c = record {
     left = λ k p l b d e. rw (← d) (c .waits k p l b e);
     part = λ y w. w;
-    below = omega (arith, c .linked .low a, fits .rules-fit);
+    below = c .linked .low a;
   }
 
   -- At its end the place is done.
@@ -209,7 +208,7 @@ module _ (t : Table) (fits : TableFits t) (sh : Shaped t) (hs : List ℕ) (g : C
         done = done-kept (at - 1) top ((x - 1) / 9) held q q′ (omega (arith, c .reached)) (r .1 .kept-queue) (c .done);
         following =
             following-over p x (set held ((x - 1) / 9) true) heads nexts pos (c .closing .linked .falls)
-            (flag-here held ((x - 1) / 9) (omega (arith, w .0, c .closing .held-places, fits .rules-fit)))
+            (flag-here held ((x - 1) / 9) (omega (arith, w .0, c .closing .held-places)))
             (following-held p x ((x - 1) / 9) held heads nexts (c .following));
       }
 

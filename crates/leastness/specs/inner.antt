@@ -1,3 +1,4 @@
 pub mod Chains
 pub mod Flagging
+pub mod Low
 pub mod OneBelow

@@ -2,7 +2,9 @@
 // it is the first, or one more than that of a rule whose pair it tests under NOT, or level with that of a justified rule whose pair it needs.
 // In time that grows with the rules and their literals: a pair is flagged once, and a place where a pair is needed is looked at once.
 ghost use mathlib.Core.Path.{_≡_};
-ghost use Prim.Native.Nat.{_*_, _≤_, _<_};
+ghost use mathlib.Core.Bool.{true, false};
+ghost use Prim.Native.Nat.{_+_, _*_, _≤_, _<_};
+ghost use lib.ListN.{length};
 ghost use Rattle.laws.specs.inner.Flags.{all-set};
 ghost use Rattle.model.specs.Strata.{needed, barred};
 ghost use Rattle.laws.specs.Limits.{rule-limit};
@@ -11,19 +13,19 @@ ghost use Rattle.table.specs.Link.{rule-of, assignments-of};
 ghost use Rattle.rows.specs.inner.Rows.{rule-in, table-in, RowFits, RowsFit};
 ghost use Rattle.strata.specs.inner.Heights.{Small};
 ghost use Rattle.leastness.specs.CarriesLeast.{carries-least};
+ghost use Rattle.leastness.specs.inner.Low.{Low, Unheld, Unchained};
 ghost use Rattle.leastness.specs.inner.OneBelow.{one-below};
 ghost use Rattle.leastness.specs.inner.Chains.{needs-places, head-at, nexts-at, heads-with, nexts-with};
 ghost use Rattle.leastness.specs.inner.Flagging.{flagging, Room, flag-all};
+use rows::FEW;
 use rows::NUMBERS;
+use rows::SOME;
 use table::LITERALS;
 use table::PAIRS;
 use table::RULES;
 
 // The places where a rule can need a pair: its trigger and its literals.
 const EACH: usize = LITERALS + 1;
-
-// The places of all rules.
-const NEEDS: usize = RULES * EACH;
 
 // Whether a pair that a rule tests under NOT has a number one below s.
 fn one_below(row: &[u16; NUMBERS], s: u16, high: &[u16; PAIRS]) -> bool
@@ -54,9 +56,9 @@ fn chain(
     s: u16,
     high: &[u16; PAIRS],
     heads: &mut [u16; PAIRS],
-    nexts: &mut [u16; NEEDS],
+    nexts: &mut [u16],
 )
-    requires { ⌜ (k < pair-places) × (o < needs-places) ⌝ }
+    requires { ⌜ (k < pair-places) × (o < needs-places) × (o < length (now nexts)) ⌝ }
     ensures { λ _. ⌜ (now (heads .exit) ≡ head-at (now (high .entry)) s k o (now (heads .entry))) × (now (nexts .exit) ≡ nexts-at (now (high .entry)) s k o (now (heads .entry)) (now (nexts .entry))) ⌝ }
 {
     let h = high[k];
@@ -74,9 +76,9 @@ fn chain_needed(
     s: u16,
     high: &[u16; PAIRS],
     heads: &mut [u16; PAIRS],
-    nexts: &mut [u16; NEEDS],
+    nexts: &mut [u16],
 )
-    requires { ⌜ RowFits (now row) × (i < rule-limit) ⌝ }
+    requires { ⌜ RowFits (now row) × (i < rule-limit) × ((i + 1) * 9 ≤ length (now nexts)) ⌝ }
     ensures { λ _. ⌜ (now (heads .exit) ≡ heads-with (now (high .entry)) s (needed (rule-of (rule-in (now (row .entry))))) (i * 9) (now (heads .entry)))
         × (now (nexts .exit) ≡ nexts-with (now (high .entry)) s (needed (rule-of (rule-in (now (row .entry))))) (i * 9) (now (heads .entry)) (now (nexts .entry))) ⌝ }
 {
@@ -132,8 +134,8 @@ fn flag_assigned(
 }
 
 // Whether the first n rules are held.
-fn all_held(held: &[bool; RULES], n: usize) -> bool
-    requires { ⌜ n ≤ rule-limit ⌝ }
+fn all_held(held: &[bool], n: usize) -> bool
+    requires { ⌜ n ≤ length (now held) ⌝ }
     ensures { λ b. ⌜ b ≡ all-set (now (held .entry)) n ⌝ }
 {
     let mut j: usize = 0;
@@ -146,10 +148,26 @@ fn all_held(held: &[bool; RULES], n: usize) -> bool
     true
 }
 
-// Whether rows carry the least strata: each stratum is at least as high as it is asked, and each rule is held once its number is
-// found justified, by itself or from the queue of pairs that a held rule assigns at their highest number.
-pub fn is_least(rows: &[[u16; NUMBERS]; RULES], n: usize) -> bool
+// Whether no rule carries a stratum above the number of rules: none of the least is.
+fn is_low(rows: &[[u16; NUMBERS]], n: usize) -> bool
     requires { ⌜ RowsFit (now rows) n ⌝ }
+    ensures { λ b. ⌜ (b ≡ true → Low (now (rows .entry)) n) × (b ≡ false → false ≡ carries-least (table-in (now (rows .entry)) n)) ⌝ }
+{
+    let mut i: usize = 0;
+    while i < n {
+        let s = rows::wide(rows::stratum(&rows[i]));
+        if n < s {
+            return false;
+        }
+        i += 1;
+    }
+    true
+}
+
+// Whether rows with such strata carry the least: each stratum is at least as high as it is asked, and each rule is held once its number is
+// found justified, by itself or from the queue of pairs that a held rule assigns at their highest number.
+fn are_held(rows: &[[u16; NUMBERS]], n: usize, held: &mut [bool], nexts: &mut [u16]) -> bool
+    requires { ⌜ RowsFit (now rows) n × Low (now rows) n × Unheld n (now held) × Unchained n (now nexts) ⌝ }
     ensures { λ b. ⌜ b ≡ carries-least (table-in (now (rows .entry)) n) ⌝ }
 {
     let mut high: [u16; PAIRS] = [0; PAIRS];
@@ -159,12 +177,10 @@ pub fn is_least(rows: &[[u16; NUMBERS]; RULES], n: usize) -> bool
         strata::least::raise(&rows[i], s, &mut high);
         i += 1;
     }
-    let mut held: [bool; RULES] = [false; RULES];
     let mut flags: [bool; PAIRS] = [false; PAIRS];
     let mut queue: [u16; PAIRS] = [0; PAIRS];
     let mut top: usize = 0;
     let mut heads: [u16; PAIRS] = [0; PAIRS];
-    let mut nexts: [u16; NEEDS] = [0; NEEDS];
     let mut k: usize = 0;
     'ask: while k < n {
         let s = rows::stratum(&rows[k]);
@@ -183,7 +199,7 @@ pub fn is_least(rows: &[[u16; NUMBERS]; RULES], n: usize) -> bool
             top = flag_assigned(&rows[e], s, &high, &mut flags, &mut queue, top);
             continue 'ask;
         }
-        chain_needed(&rows[e], e, s, &high, &mut heads, &mut nexts);
+        chain_needed(&rows[e], e, s, &high, &mut heads, nexts);
     }
     let mut at: usize = 0;
     'work: while at < top {
@@ -202,5 +218,28 @@ pub fn is_least(rows: &[[u16; NUMBERS]; RULES], n: usize) -> bool
             top = flag_assigned(&rows[m], s, &high, &mut flags, &mut queue, top);
         }
     }
-    all_held(&held, n)
+    all_held(held, n)
+}
+
+// Whether rows carry the least strata.
+pub fn is_least(rows: &[[u16; NUMBERS]], n: usize) -> bool
+    requires { ⌜ RowsFit (now rows) n ⌝ }
+    ensures { λ b. ⌜ b ≡ carries-least (table-in (now (rows .entry)) n) ⌝ }
+{
+    if !is_low(rows, n) {
+        return false;
+    }
+    if n <= FEW {
+        let mut held: [bool; FEW] = [false; FEW];
+        let mut nexts: [u16; FEW * EACH] = [0; FEW * EACH];
+        return are_held(rows, n, &mut held, &mut nexts);
+    }
+    if n <= SOME {
+        let mut held: [bool; SOME] = [false; SOME];
+        let mut nexts: [u16; SOME * EACH] = [0; SOME * EACH];
+        return are_held(rows, n, &mut held, &mut nexts);
+    }
+    let mut held: [bool; RULES] = [false; RULES];
+    let mut nexts: [u16; RULES * EACH] = [0; RULES * EACH];
+    are_held(rows, n, &mut held, &mut nexts)
 }

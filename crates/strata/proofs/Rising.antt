@@ -231,17 +231,17 @@ module _ (t : Table) (fits : TableFits t) (sh : Shaped t) where
         rw (rule-at-is t i l) at (asked-top ns hs g _ L (suc i) (number t fits sh i l)),
       )
 
--- The measure of rounds and passes: 255 numbers of at most 255 can rise 65,025 times in all; one that moves something raises the sum, and one that moves nothing is the last.
+-- The measure of rounds and passes: as many numbers as there can be rules, each at most as high, can rise so often in all; one that moves something raises the sum, and one that moves nothing is the last.
 unfoldable pub passes-left : List ℕ → Bool → ℕ
-passes-left ns moved = 2 * (65025 - sum-of ns) + cond moved 1 0
+passes-left ns moved = 2 * (rule-limit * rule-limit - sum-of ns) + cond moved 1 0
 
 pub pass-falls : (t : Table) (ns₀ ns hs : List ℕ) (moved : Bool) → Risen t ns₀ ns hs moved → passes-left ns moved < passes-left ns₀ true
 unfolding passes-left
 pass-falls t ns₀ ns hs moved k = go moved (k .more)
   where
-    top : sum-of ns ≤ 65025
+    top : sum-of ns ≤ rule-limit * rule-limit
     top = omega (arith, sum-top ns rule-limit (k .rising .small), k .rising .numbers-length)
 
-    go : (m : Bool) → (m ≡ true → sum-of ns₀ < sum-of ns) → 2 * (65025 - sum-of ns) + cond m 1 0 < 2 * (65025 - sum-of ns₀) + 1
+    go : (m : Bool) → (m ≡ true → sum-of ns₀ < sum-of ns) → 2 * (rule-limit * rule-limit - sum-of ns) + cond m 1 0 < 2 * (rule-limit * rule-limit - sum-of ns₀) + 1
     go true f = omega (arith, f refl, top)
     go false f = omega (arith, k .not-less, top)

@@ -21,8 +21,8 @@ element-copy-out-x c = search needs
 mul-nexts : tie.Need-mul-nexts
 mul-nexts c = search needs
 
-element-write-nexts : tie.Need-element-write-nexts
-element-write-nexts c = search needs
+slice-write-nexts : tie.Need-slice-write-nexts
+slice-write-nexts c = search needs
 
 add-heads : tie.Need-add-heads
 add-heads c = search needs
@@ -42,6 +42,9 @@ returns c = let s = c .before .before .before in at-level (s .args .high .now) (
 returns-2 : tie.Need-returns-2
 returns-2 c = let s = c .before .before in off-level (s .args .high .now) (s .args .s) (s .args .k) (s .args .o) (s .args .heads .now) (s .args .nexts .now) (c .if1 .left)
 
+same-length : tie.Need-same-length
+same-length c = search needs
+
 pub chain-spec : {M : Type 1} → statement M
 chain-spec =
     tie.close
@@ -51,10 +54,11 @@ chain-spec =
     mul-x
     element-copy-out-x
     mul-nexts
-    element-write-nexts
+    slice-write-nexts
     add-heads
     cast-heads
     mul-heads
     element-write-heads
+    same-length
     returns
     returns-2)

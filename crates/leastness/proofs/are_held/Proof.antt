@@ -1,4 +1,4 @@
--- `leastness::is_least` meets its contract.
+-- `leastness::are_held` meets its contract.
 -- Assumes nothing.
 use mathlib.Core.Path.{_≡_, sym, _∙_}
 use Prim.Native.Nat.{_+_, _-_, _/_, _≤_, _<_}
@@ -15,39 +15,39 @@ use Rattle.leastness.proofs.Following.{Done, Chaining, done-start, chai
 use Rattle.leastness.proofs.Chains.{Falls}
 use native.Mathlib.Omega.{arith}
 use borrow.Author.Needs.{needs}
-use Rattle.leastness.proofs.is_least.Statement.{statement}
-use Rattle.leastness.proofs.is_least.Tie as tie
+use Rattle.leastness.proofs.are_held.Statement.{statement}
+use Rattle.leastness.proofs.are_held.Tie as tie
 
 abbrev Inv-gather : tie.InvT-gather
-Inv-gather rows n high₀ i₀ high i = (i ≤ n) × Carried (table-in rows n) i high
+Inv-gather rows n held nexts high₀ i₀ high i = (i ≤ n) × Carried (table-in rows n) i high
 
 abbrev μ-gather : tie.MeasureT-gather
-μ-gather rows n high₀ i₀ high i = n - i
+μ-gather rows n held nexts high₀ i₀ high i = n - i
 
 abbrev Inv-ask : tie.InvT-ask
-Inv-ask rows n high i held₀ flags₀ queue₀ top₀ heads₀ nexts₀ k₀ held flags queue top heads nexts k = (k ≤ n) × (Valid (table-in rows n) k high × Closing (table-in rows n) high k held flags queue top heads nexts)
+Inv-ask rows n held₀ nexts₀ high i flags₀ queue₀ top₀ heads₀ k₀ held nexts flags queue top heads k = (k ≤ n) × ((length held ≡ length held₀) × (length nexts ≡ length nexts₀)) × (Valid (table-in rows n) k high × Closing (table-in rows n) high k held flags queue top heads nexts)
 
 abbrev μ-ask : tie.MeasureT-ask
-μ-ask rows n high i held₀ flags₀ queue₀ top₀ heads₀ nexts₀ k₀ held flags queue top heads nexts k = n - k
+μ-ask rows n held₀ nexts₀ high i flags₀ queue₀ top₀ heads₀ k₀ held nexts flags queue top heads k = n - k
 
 abbrev Inv-chain : tie.InvT-chain
-Inv-chain rows n high i held₀ flags₀ queue₀ top₀ heads nexts k at p x₀ held flags queue top x = Chaining (table-in rows n) high at p x held flags queue top heads nexts
+Inv-chain rows n held₀ nexts high i flags₀ queue₀ top₀ heads k at p x₀ held flags queue top x = (length held ≡ length held₀) × Chaining (table-in rows n) high at p x held flags queue top heads nexts
 
 abbrev μ-chain : tie.MeasureT-chain
-μ-chain rows n high i held₀ flags₀ queue₀ top₀ heads nexts k at p x₀ held flags queue top x = x
+μ-chain rows n held₀ nexts high i flags₀ queue₀ top₀ heads k at p x₀ held flags queue top x = x
 
 abbrev Inv-work : tie.InvT-work
-Inv-work rows n high i held₀ flags₀ queue₀ top₀ heads nexts k at₀ held flags queue top at = (at ≤ top) × (Closing (table-in rows n) high (table-in rows n .count) held flags queue top heads nexts × Done (table-in rows n) high at queue held)
+Inv-work rows n held₀ nexts high i flags₀ queue₀ top₀ heads k at₀ held flags queue top at = (at ≤ top) × (length held ≡ length held₀) × (Closing (table-in rows n) high (table-in rows n .count) held flags queue top heads nexts × Done (table-in rows n) high at queue held)
 
 abbrev μ-work : tie.MeasureT-work
-μ-work rows n high i held₀ flags₀ queue₀ top₀ heads nexts k at₀ held flags queue top at = pair-places - at
+μ-work rows n held₀ nexts high i flags₀ queue₀ top₀ heads k at₀ held flags queue top at = pair-places - at
 
 -- The table that the rows stand for fits, and has its places.
 fits : (c : tie.Start Inv-gather μ-gather Inv-ask μ-ask Inv-chain μ-chain Inv-work μ-work) → TableFits (table-in (c .args .rows .now) (c .args .n))
-fits c = rows-table-fits (c .args .rows .now) (c .args .n) (c .pre)
+fits c = rows-table-fits (c .args .rows .now) (c .args .n) (c .pre .0)
 
 shape : (c : tie.Start Inv-gather μ-gather Inv-ask μ-ask Inv-chain μ-chain Inv-work μ-work) → Shaped (table-in (c .args .rows .now) (c .args .n))
-shape c = rows-table-shaped (c .args .rows .now) (c .args .n) (c .pre .rows-shaped)
+shape c = rows-table-shaped (c .args .rows .now) (c .args .n) (c .pre .0)
 
 count : (c : tie.Start Inv-gather μ-gather Inv-ask μ-ask Inv-chain μ-chain Inv-work μ-work) → table-in (c .args .rows .now) (c .args .n) .count ≡ c .args .n
 count c = rows-count (c .args .rows .now) (c .args .n)
@@ -58,16 +58,16 @@ full c = let a = c .before in let e : a .gather .i ≡ table-in (c .before .befo
 
 -- All rules are looked at.
 asked-all : (c : tie.After-ask Inv-gather μ-gather Inv-ask μ-ask Inv-chain μ-chain Inv-work μ-work) → Valid (table-in (c .before .before .before .before .args .rows .now) (c .before .before .before .before .args .n)) (table-in (c .before .before .before .before .args .rows .now) (c .before .before .before .before .args .n) .count) (c .before .before .before .gather .high)
-asked-all c = let a = c .before in let e : a .ask .k ≡ table-in (c .before .before .before .before .args .rows .now) (c .before .before .before .before .args .n) .count = omega (arith, a .ask .inv .0, c .ask-test .left, count (c .before .before .before .before)) in rw e at (a .ask .inv .1 .0)
+asked-all c = let a = c .before in let e : a .ask .k ≡ table-in (c .before .before .before .before .args .rows .now) (c .before .before .before .before .args .n) .count = omega (arith, a .ask .inv .0, c .ask-test .left, count (c .before .before .before .before)) in rw e at (a .ask .inv .2 .0)
 
 closed : (c : tie.After-ask Inv-gather μ-gather Inv-ask μ-ask Inv-chain μ-chain Inv-work μ-work) →
     let a = c .before in
     Closing (table-in (c .before .before .before .before .args .rows .now) (c .before .before .before .before .args .n)) (c .before .before .before .gather .high) (table-in (c .before .before .before .before .args .rows .now) (c .before .before .before .before .args .n) .count) (a .ask .held) (a .ask .flags) (a .ask .queue) (a .ask .top) (a .ask .heads) (a .ask .nexts)
-closed c = let a = c .before in let e : a .ask .k ≡ table-in (c .before .before .before .before .args .rows .now) (c .before .before .before .before .args .n) .count = omega (arith, a .ask .inv .0, c .ask-test .left, count (c .before .before .before .before)) in rw e at (a .ask .inv .1 .1)
+closed c = let a = c .before in let e : a .ask .k ≡ table-in (c .before .before .before .before .args .rows .now) (c .before .before .before .before .args .n) .count = omega (arith, a .ask .inv .0, c .ask-test .left, count (c .before .before .before .before)) in rw e at (a .ask .inv .2 .1)
 
 -- The whole queue is done.
 rested : (c : tie.After-work Inv-gather μ-gather Inv-ask μ-ask Inv-chain μ-chain Inv-work μ-work) → let v = c .before in Done (table-in (c .before .before .before .before .before .before .args .rows .now) (c .before .before .before .before .before .before .args .n)) (c .before .before .before .before .before .gather .high) (v .work .top) (v .work .queue) (v .work .held)
-rested c = let v = c .before in let e : v .work .at ≡ v .work .top = omega (arith, v .work .inv .0, c .work-test .left) in rw e at (v .work .inv .1 .1)
+rested c = let v = c .before in let e : v .work .at ≡ v .work .top = omega (arith, v .work .inv .0, c .work-test .left) in rw e at (v .work .inv .2 .1)
 
 -- The rule at a place of a chain is one of the rows'.
 waiting : (c : tie.In-chain Inv-gather μ-gather Inv-ask μ-ask Inv-chain μ-chain Inv-work μ-work) → (c .before .chain .x - 1) / 9 < c .before .before .before .before .before .before .before .before .before .args .n
@@ -78,7 +78,7 @@ waiting c =
     let a = c .before .before .before .before .before .before in
     let v = c .before .before .before .before in
     let h = c .before in
-    chaining-rule (table-in (s .args .rows .now) (s .args .n)) (fits s) (shape s) (c .before .before .before .before .before .before .before .before .gather .high) (full f) (v .work .at + 1) _ (h .chain .x) (h .chain .held) (h .chain .flags) (h .chain .queue) (h .chain .top) (a .ask .heads) (a .ask .nexts) (c .chain-test .taken) (h .chain .inv)
+    chaining-rule (table-in (s .args .rows .now) (s .args .n)) (fits s) (shape s) (c .before .before .before .before .before .before .before .before .gather .high) (full f) (v .work .at + 1) _ (h .chain .x) (h .chain .held) (h .chain .flags) (h .chain .queue) (h .chain .top) (a .ask .heads) (a .ask .nexts) (c .chain-test .taken) (h .chain .inv .1)
 
 gather-holds : tie.Need-gather-holds Inv-gather μ-gather Inv-ask μ-ask Inv-chain μ-chain Inv-work μ-work
 gather-holds c = (search needs, carried-start (table-in (c .args .rows .now) (c .args .n)) (fits c) (shape c))
@@ -99,7 +99,7 @@ index-1-raise : tie.Need-index-1-raise Inv-gather μ-gather Inv-ask μ-ask Inv-c
 index-1-raise c = search needs
 
 raise-requires : tie.Need-raise-requires Inv-gather μ-gather Inv-ask μ-ask Inv-chain μ-chain Inv-work μ-work
-raise-requires c κs = c .before .before .before .before .before .before .pre .each-fits (c .before .before .before .before .before .gather .i) (search needs)
+raise-requires c κs = c .before .before .before .before .before .before .pre .0 .each-fits (c .before .before .before .before .before .gather .i) (search needs)
 
 add-i : tie.Need-add-i Inv-gather μ-gather Inv-ask μ-ask Inv-chain μ-chain Inv-work μ-work
 add-i c = search needs
@@ -138,7 +138,7 @@ index-1-asked c = search needs
 asked-requires : tie.Need-asked-requires Inv-gather μ-gather Inv-ask μ-ask Inv-chain μ-chain Inv-work μ-work
 asked-requires c κs =
     let s = c .before .before .before .before .before .before .before .before in
-    (s .pre .each-fits (c .before .before .before .before .before .ask .k) (search needs), carried-small (table-in (s .args .rows .now) (s .args .n)) (fits s) (shape s) _ (c .before .before .before .before .before .before .before .gather .high) (full (c .before .before .before .before .before .before)))
+    (s .pre .0 .each-fits (c .before .before .before .before .before .ask .k) (search needs), carried-small (table-in (s .args .rows .now) (s .args .n)) (fits s) (shape s) _ (c .before .before .before .before .before .before .before .gather .high) (full (c .before .before .before .before .before .before)))
 
 returns : tie.Need-returns Inv-gather μ-gather Inv-ask μ-ask Inv-chain μ-chain Inv-work μ-work
 unfolding table-in
@@ -158,7 +158,7 @@ valid c =
     let a = c .before .before .before .before .before .before .before in
     let w = c .before .before .before .before in
     let q = c .before in
-    (rw (rule-row (s .args .rows .now) (s .args .n) (a .ask .k)) at (valid-more (table-in (s .args .rows .now) (s .args .n)) (fits s) (shape s) (a .ask .k) (c .before .before .before .before .before .before .before .before .before .gather .high) (w .stratum2 .result) (q .asked .result))) (search needs) (w .stratum2 .ensures) (q .asked .ensures) (omega (arith, c .if1 .left)) (a .ask .inv .1 .0)
+    (rw (rule-row (s .args .rows .now) (s .args .n) (a .ask .k)) at (valid-more (table-in (s .args .rows .now) (s .args .n)) (fits s) (shape s) (a .ask .k) (c .before .before .before .before .before .before .before .before .before .gather .high) (w .stratum2 .result) (q .asked .result))) (search needs) (w .stratum2 .ensures) (q .asked .ensures) (omega (arith, c .if1 .left)) (a .ask .inv .2 .0)
 
 add-k : tie.Need-add-k Inv-gather μ-gather Inv-ask μ-ask Inv-chain μ-chain Inv-work μ-work
 add-k c = search needs
@@ -176,7 +176,7 @@ ask-again c =
     let f = c .before .before .before .before .before .before .before .before .before in
     let a = c .before .before .before .before .before .before .before .before in
     let w = c .before .before .before .before .before in
-    (search needs, (valid (c .before), (rw (rule-row (s .args .rows .now) (s .args .n) (a .ask .k)) at (ask-first (table-in (s .args .rows .now) (s .args .n)) (fits s) (shape s) (f .before .gather .high) (full f) (a .ask .k) (w .stratum2 .result) (a .ask .held) (a .ask .flags) (a .ask .queue) (a .ask .top) (a .ask .heads) (a .ask .nexts))) (search needs) (w .stratum2 .ensures) (omega (arith, c .if2 .taken)) (a .ask .inv .1 .1)))
+    (search needs, (valid (c .before), (rw (rule-row (s .args .rows .now) (s .args .n) (a .ask .k)) at (ask-first (table-in (s .args .rows .now) (s .args .n)) (fits s) (shape s) (f .before .gather .high) (full f) (a .ask .k) (w .stratum2 .result) (a .ask .held) (a .ask .flags) (a .ask .queue) (a .ask .top) (a .ask .heads) (a .ask .nexts))) (search needs) (w .stratum2 .ensures) (omega (arith, c .if2 .taken)) (a .ask .inv .2 .1)))
 
 mul-one-below : tie.Need-mul-one-below Inv-gather μ-gather Inv-ask μ-ask Inv-chain μ-chain Inv-work μ-work
 mul-one-below c = search needs
@@ -187,7 +187,7 @@ index-1-one-below c = search needs
 one-below-requires : tie.Need-one-below-requires Inv-gather μ-gather Inv-ask μ-ask Inv-chain μ-chain Inv-work μ-work
 one-below-requires c κs =
     let s = c .before .before .before .before .before .before .before .before .before .before .before .before .before in
-    (s .pre .each-fits (c .before .before .before .before .before .before .before .before .before .before .ask .k) (search needs), carried-small (table-in (s .args .rows .now) (s .args .n)) (fits s) (shape s) _ (c .before .before .before .before .before .before .before .before .before .before .before .before .gather .high) (full (c .before .before .before .before .before .before .before .before .before .before .before)))
+    (s .pre .0 .each-fits (c .before .before .before .before .before .before .before .before .before .before .ask .k) (search needs), carried-small (table-in (s .args .rows .now) (s .args .n)) (fits s) (shape s) _ (c .before .before .before .before .before .before .before .before .before .before .before .before .gather .high) (full (c .before .before .before .before .before .before .before .before .before .before .before)))
 
 array-write-held-2 : tie.Need-array-write-held-2 Inv-gather μ-gather Inv-ask μ-ask Inv-chain μ-chain Inv-work μ-work
 array-write-held-2 c = search needs
@@ -199,7 +199,7 @@ index-1-flag-assigned : tie.Need-index-1-flag-assigned Inv-gather μ-gather Inv-
 index-1-flag-assigned c = search needs
 
 flag-assigned-requires : tie.Need-flag-assigned-requires Inv-gather μ-gather Inv-ask μ-ask Inv-chain μ-chain Inv-work μ-work
-flag-assigned-requires c κs = let a = c .before .before .before .before .before .before .before .before .before .before .before .before .before .before .before .before in (c .before .before .before .before .before .before .before .before .before .before .before .before .before .before .before .before .before .before .before .pre .each-fits (a .ask .k) (search needs), a .ask .inv .1 .1 .queued .room)
+flag-assigned-requires c κs = let a = c .before .before .before .before .before .before .before .before .before .before .before .before .before .before .before .before in (c .before .before .before .before .before .before .before .before .before .before .before .before .before .before .before .before .before .before .before .pre .0 .each-fits (a .ask .k) (search needs), a .ask .inv .2 .1 .queued .room)
 
 ask-less-2 : tie.Need-ask-less-2 Inv-gather μ-gather Inv-ask μ-ask Inv-chain μ-chain Inv-work μ-work
 ask-less-2 c = search needs
@@ -212,7 +212,7 @@ ask-again-2 c =
     let a = c .before .before .before .before .before .before .before .before .before .before .before .before .before .before .before .before .before in
     let w = c .before .before .before .before .before .before .before .before .before .before .before .before .before .before in
     let o = c .before .before .before .before .before .before in
-    (search needs, (valid (c .before .before .before .before .before .before .before .before .before .before), (rw (rule-row (s .args .rows .now) (s .args .n) (a .ask .k)) at (ask-ground (table-in (s .args .rows .now) (s .args .n)) (fits s) (shape s) (f .before .gather .high) (full f) (a .ask .k) (w .stratum2 .result) (a .ask .held) (a .ask .flags) (a .ask .queue) (a .ask .top) (a .ask .heads) (a .ask .nexts))) (search needs) (w .stratum2 .ensures) (omega (arith, c .before .before .before .before .before .before .before .before .before .if2 .left)) (sym (o .one-below .ensures) ∙ c .before .before .before .before .before .if3 .taken) (a .ask .inv .1 .1) _ _ _ (c .flag-assigned .ensures)))
+    (search needs, (valid (c .before .before .before .before .before .before .before .before .before .before), (rw (rule-row (s .args .rows .now) (s .args .n) (a .ask .k)) at (ask-ground (table-in (s .args .rows .now) (s .args .n)) (fits s) (shape s) (f .before .gather .high) (full f) (a .ask .k) (w .stratum2 .result) (a .ask .held) (a .ask .flags) (a .ask .queue) (a .ask .top) (a .ask .heads) (a .ask .nexts))) (search needs) (w .stratum2 .ensures) (omega (arith, c .before .before .before .before .before .before .before .before .before .if2 .left)) (sym (o .one-below .ensures) ∙ c .before .before .before .before .before .if3 .taken) (a .ask .inv .2 .1) _ _ _ (c .flag-assigned .ensures)))
 
 mul-chain-needed : tie.Need-mul-chain-needed Inv-gather μ-gather Inv-ask μ-ask Inv-chain μ-chain Inv-work μ-work
 mul-chain-needed c = search needs
@@ -221,7 +221,7 @@ index-1-chain-needed : tie.Need-index-1-chain-needed Inv-gather μ-gather Inv-as
 index-1-chain-needed c = search needs
 
 chain-needed-requires : tie.Need-chain-needed-requires Inv-gather μ-gather Inv-ask μ-ask Inv-chain μ-chain Inv-work μ-work
-chain-needed-requires c κs = let s = c .before .before .before .before .before .before .before .before .before .before .before .before .before .before .before .before .before .before .before in (s .pre .each-fits (c .before .before .before .before .before .before .before .before .before .before .before .before .before .before .before .before .ask .k) (search needs), omega (arith, s .pre .few))
+chain-needed-requires c κs = let s = c .before .before .before .before .before .before .before .before .before .before .before .before .before .before .before .before .before .before .before in (s .pre .0 .each-fits (c .before .before .before .before .before .before .before .before .before .before .before .before .before .before .before .before .ask .k) (search needs), omega (arith, s .pre .0 .few))
 
 ask-less-3 : tie.Need-ask-less-3 Inv-gather μ-gather Inv-ask μ-ask Inv-chain μ-chain Inv-work μ-work
 ask-less-3 c = search needs
@@ -234,7 +234,7 @@ ask-again-3 c =
     let a = c .before .before .before .before .before .before .before .before .before .before .before .before .before .before .before .before .before in
     let w = c .before .before .before .before .before .before .before .before .before .before .before .before .before .before in
     let o = c .before .before .before .before .before .before in
-    (search needs, (valid (c .before .before .before .before .before .before .before .before .before .before), rw (c .chain-needed .ensures .0, c .chain-needed .ensures .1) ((rw (rule-row (s .args .rows .now) (s .args .n) (a .ask .k)) at (ask-chain (table-in (s .args .rows .now) (s .args .n)) (fits s) (shape s) (f .before .gather .high) (full f) (a .ask .k) (w .stratum2 .result) (a .ask .held) (a .ask .flags) (a .ask .queue) (a .ask .top) (a .ask .heads) (a .ask .nexts))) (search needs) (w .stratum2 .ensures) (omega (arith, c .before .before .before .before .before .before .before .before .before .if2 .left)) (sym (o .one-below .ensures) ∙ c .before .before .before .before .before .if3 .left) (a .ask .inv .1 .1))))
+    (search needs, (valid (c .before .before .before .before .before .before .before .before .before .before), rw (c .chain-needed .ensures .0, c .chain-needed .ensures .1) ((rw (rule-row (s .args .rows .now) (s .args .n) (a .ask .k)) at (ask-chain (table-in (s .args .rows .now) (s .args .n)) (fits s) (shape s) (f .before .gather .high) (full f) (a .ask .k) (w .stratum2 .result) (a .ask .held) (a .ask .flags) (a .ask .queue) (a .ask .top) (a .ask .heads) (a .ask .nexts))) (search needs) (w .stratum2 .ensures) (omega (arith, c .before .before .before .before .before .before .before .before .before .if2 .left)) (sym (o .one-below .ensures) ∙ c .before .before .before .before .before .if3 .left) (a .ask .inv .2 .1))))
 
 work-holds : tie.Need-work-holds Inv-gather μ-gather Inv-ask μ-ask Inv-chain μ-chain Inv-work μ-work
 work-holds c =
@@ -242,32 +242,32 @@ work-holds c =
     (search needs, (closed c, done-start (table-in (s .args .rows .now) (s .args .n)) (fits s) (shape s) (c .before .before .before .gather .high) (full (c .before .before)) _ _))
 
 mul-wide : tie.Need-mul-wide Inv-gather μ-gather Inv-ask μ-ask Inv-chain μ-chain Inv-work μ-work
-mul-wide c = omega (arith, queue-few _ _ _ (c .before .work .inv .1 .0 .queued))
+mul-wide c = omega (arith, queue-few _ _ _ (c .before .work .inv .2 .0 .queued))
 
 array-read-wide : tie.Need-array-read-wide Inv-gather μ-gather Inv-ask μ-ask Inv-chain μ-chain Inv-work μ-work
-array-read-wide c = omega (arith, queue-few _ _ _ (c .before .work .inv .1 .0 .queued))
+array-read-wide c = omega (arith, queue-few _ _ _ (c .before .work .inv .2 .0 .queued))
 
 wide-requires : tie.Need-wide-requires Inv-gather μ-gather Inv-ask μ-ask Inv-chain μ-chain Inv-work μ-work
 wide-requires c κs = search needs
 
 add-at : tie.Need-add-at Inv-gather μ-gather Inv-ask μ-ask Inv-chain μ-chain Inv-work μ-work
-add-at c = let z = queue-few _ _ _ (c .before .before .work .inv .1 .0 .queued) in omega (arith, z, c .before .work-test .taken)
+add-at c = let z = queue-few _ _ _ (c .before .before .work .inv .2 .0 .queued) in omega (arith, z, c .before .work-test .taken)
 
 mul-x : tie.Need-mul-x Inv-gather μ-gather Inv-ask μ-ask Inv-chain μ-chain Inv-work μ-work
-mul-x c = let v = c .before .before in let z = v .work .inv .1 .0 .queued .inside (v .work .at) (search needs) in omega (arith, z, c .wide .ensures)
+mul-x c = let v = c .before .before in let z = v .work .inv .2 .0 .queued .inside (v .work .at) (search needs) in omega (arith, z, c .wide .ensures)
 
 array-read-x : tie.Need-array-read-x Inv-gather μ-gather Inv-ask μ-ask Inv-chain μ-chain Inv-work μ-work
-array-read-x c = let v = c .before .before in let z = v .work .inv .1 .0 .queued .inside (v .work .at) (search needs) in omega (arith, z, c .wide .ensures)
+array-read-x c = let v = c .before .before in let z = v .work .inv .2 .0 .queued .inside (v .work .at) (search needs) in omega (arith, z, c .wide .ensures)
 
 chain-holds : tie.Need-chain-holds Inv-gather μ-gather Inv-ask μ-ask Inv-chain μ-chain Inv-work μ-work
 chain-holds c =
     let s = c .before .before .before .before .before .before .before in
     let a = c .before .before .before .before in
     let v = c .before .before in
-    rw (c .wide .ensures) (chaining-start (table-in (s .args .rows .now) (s .args .n)) (fits s) (shape s) (c .before .before .before .before .before .before .gather .high) (full (c .before .before .before .before .before)) (v .work .at) (v .work .held) (v .work .flags) (v .work .queue) (v .work .top) (a .ask .heads) (a .ask .nexts) (search needs) (v .work .inv .1 .0) (v .work .inv .1 .1))
+    rw (c .wide .ensures) (chaining-start (table-in (s .args .rows .now) (s .args .n)) (fits s) (shape s) (c .before .before .before .before .before .before .gather .high) (full (c .before .before .before .before .before)) (v .work .at) (v .work .held) (v .work .flags) (v .work .queue) (v .work .top) (a .ask .heads) (a .ask .nexts) (search needs) (v .work .inv .2 .0) (v .work .inv .2 .1))
 
 work-less : tie.Need-work-less Inv-gather μ-gather Inv-ask μ-ask Inv-chain μ-chain Inv-work μ-work
-work-less c = let z = queue-few _ _ _ (c .before .before .before .before .work .inv .1 .0 .queued) in omega (arith, z, c .before .before .before .work-test .taken)
+work-less c = let z = queue-few _ _ _ (c .before .before .before .before .work .inv .2 .0 .queued) in omega (arith, z, c .before .before .before .work-test .taken)
 
 work-again : tie.Need-work-again Inv-gather μ-gather Inv-ask μ-ask Inv-chain μ-chain Inv-work μ-work
 work-again c =
@@ -275,7 +275,7 @@ work-again c =
     let a = c .before .before .before .before .before .before in
     let v = c .before .before .before .before in
     let h = c .before in
-    (h .chain .inv .reached, (h .chain .inv .closing, chaining-end (table-in (s .args .rows .now) (s .args .n)) (fits s) (shape s) (c .before .before .before .before .before .before .before .before .gather .high) (full (c .before .before .before .before .before .before .before)) (v .work .at + 1) _ (h .chain .x) (h .chain .held) (h .chain .flags) (h .chain .queue) (h .chain .top) (a .ask .heads) (a .ask .nexts) (omega (arith, c .chain-test .left)) (h .chain .inv)))
+    (h .chain .inv .1 .reached, (h .chain .inv .1 .closing, chaining-end (table-in (s .args .rows .now) (s .args .n)) (fits s) (shape s) (c .before .before .before .before .before .before .before .before .gather .high) (full (c .before .before .before .before .before .before .before)) (v .work .at + 1) _ (h .chain .x) (h .chain .held) (h .chain .flags) (h .chain .queue) (h .chain .top) (a .ask .heads) (a .ask .nexts) (omega (arith, c .chain-test .left)) (h .chain .inv .1)))
 
 sub-o : tie.Need-sub-o Inv-gather μ-gather Inv-ask μ-ask Inv-chain μ-chain Inv-work μ-work
 sub-o c = search needs
@@ -284,17 +284,17 @@ cast-o : tie.Need-cast-o Inv-gather μ-gather Inv-ask μ-ask Inv-chain μ-chain 
 cast-o c = search needs
 
 mul-x-2 : tie.Need-mul-x-2 Inv-gather μ-gather Inv-ask μ-ask Inv-chain μ-chain Inv-work μ-work
-mul-x-2 c = let z = c .before .chain .inv .following .below in omega (arith, z, c .chain-test .taken)
+mul-x-2 c = let z = c .before .chain .inv .1 .following .below in omega (arith, z, c .chain-test .taken)
 
 array-read-x-2 : tie.Need-array-read-x-2 Inv-gather μ-gather Inv-ask μ-ask Inv-chain μ-chain Inv-work μ-work
-array-read-x-2 c = let z = c .before .chain .inv .following .below in omega (arith, z, c .chain-test .taken)
+array-read-x-2 c = let z = c .before .chain .inv .1 .following .below in omega (arith, z, c .chain-test .taken)
 
 array-read-if4 : tie.Need-array-read-if4 Inv-gather μ-gather Inv-ask μ-ask Inv-chain μ-chain Inv-work μ-work
-array-read-if4 c = omega (arith, waiting c, c .before .before .before .before .before .before .before .before .before .pre .few)
+array-read-if4 c = omega (arith, waiting c, c .before .before .before .before .before .before .before .before .before .pre .0 .few)
 
 chain-less : tie.Need-chain-less Inv-gather μ-gather Inv-ask μ-ask Inv-chain μ-chain Inv-work μ-work
 unfolding Falls
-chain-less c = let h = c .before .before in let z = h .chain .inv .closing .linked .falls (h .chain .x - 1) in omega (arith, z, c .before .chain-test .taken)
+chain-less c = let h = c .before .before in let z = h .chain .inv .1 .closing .linked .falls (h .chain .x - 1) in omega (arith, z, c .before .chain-test .taken)
 
 chain-again : tie.Need-chain-again Inv-gather μ-gather Inv-ask μ-ask Inv-chain μ-chain Inv-work μ-work
 chain-again c =
@@ -302,32 +302,32 @@ chain-again c =
     let a = c .before .before .before .before .before .before .before in
     let v = c .before .before .before .before .before in
     let h = c .before .before in
-    chaining-over (table-in (s .args .rows .now) (s .args .n)) (fits s) (shape s) (c .before .before .before .before .before .before .before .before .before .gather .high) (full (c .before .before .before .before .before .before .before .before)) (v .work .at + 1) _ (h .chain .x) (h .chain .held) (h .chain .flags) (h .chain .queue) (h .chain .top) (a .ask .heads) (a .ask .nexts) (c .before .chain-test .taken) (from-true _ (c .if4 .taken)) (h .chain .inv)
+    chaining-over (table-in (s .args .rows .now) (s .args .n)) (fits s) (shape s) (c .before .before .before .before .before .before .before .before .before .gather .high) (full (c .before .before .before .before .before .before .before .before)) (v .work .at + 1) _ (h .chain .x) (h .chain .held) (h .chain .flags) (h .chain .queue) (h .chain .top) (a .ask .heads) (a .ask .nexts) (c .before .chain-test .taken) (from-true _ (c .if4 .taken)) (h .chain .inv .1)
 
 array-write-held-3 : tie.Need-array-write-held-3 Inv-gather μ-gather Inv-ask μ-ask Inv-chain μ-chain Inv-work μ-work
-array-write-held-3 c = omega (arith, waiting (c .before), c .before .before .before .before .before .before .before .before .before .before .pre .few)
+array-write-held-3 c = omega (arith, waiting (c .before), c .before .before .before .before .before .before .before .before .before .before .pre .0 .few)
 
 mul-stratum-3 : tie.Need-mul-stratum-3 Inv-gather μ-gather Inv-ask μ-ask Inv-chain μ-chain Inv-work μ-work
-mul-stratum-3 c = omega (arith, waiting (c .before), c .before .before .before .before .before .before .before .before .before .before .pre .few)
+mul-stratum-3 c = omega (arith, waiting (c .before), c .before .before .before .before .before .before .before .before .before .before .pre .0 .few)
 
 index-1-stratum-3 : tie.Need-index-1-stratum-3 Inv-gather μ-gather Inv-ask μ-ask Inv-chain μ-chain Inv-work μ-work
-index-1-stratum-3 c = omega (arith, waiting (c .before), c .before .before .before .before .before .before .before .before .before .before .pre .few)
+index-1-stratum-3 c = omega (arith, waiting (c .before), c .before .before .before .before .before .before .before .before .before .before .pre .0 .few)
 
 stratum-requires-3 : tie.Need-stratum-requires-3 Inv-gather μ-gather Inv-ask μ-ask Inv-chain μ-chain Inv-work μ-work
 stratum-requires-3 c κs = search needs
 
 mul-flag-assigned-2 : tie.Need-mul-flag-assigned-2 Inv-gather μ-gather Inv-ask μ-ask Inv-chain μ-chain Inv-work μ-work
-mul-flag-assigned-2 c = omega (arith, waiting (c .before .before .before), c .before .before .before .before .before .before .before .before .before .before .before .before .pre .few)
+mul-flag-assigned-2 c = omega (arith, waiting (c .before .before .before), c .before .before .before .before .before .before .before .before .before .before .before .before .pre .0 .few)
 
 index-1-flag-assigned-2 : tie.Need-index-1-flag-assigned-2 Inv-gather μ-gather Inv-ask μ-ask Inv-chain μ-chain Inv-work μ-work
-index-1-flag-assigned-2 c = omega (arith, waiting (c .before .before .before), c .before .before .before .before .before .before .before .before .before .before .before .before .pre .few)
+index-1-flag-assigned-2 c = omega (arith, waiting (c .before .before .before), c .before .before .before .before .before .before .before .before .before .before .before .before .pre .0 .few)
 
 flag-assigned-requires-2 : tie.Need-flag-assigned-requires-2 Inv-gather μ-gather Inv-ask μ-ask Inv-chain μ-chain Inv-work μ-work
-flag-assigned-requires-2 c κs = (c .before .before .before .before .before .before .before .before .before .before .before .before .before .before .before .before .pre .each-fits _ (waiting (c .before .before .before .before .before .before .before)), c .before .before .before .before .before .before .before .before .chain .inv .closing .queued .room)
+flag-assigned-requires-2 c κs = (c .before .before .before .before .before .before .before .before .before .before .before .before .before .before .before .before .pre .0 .each-fits _ (waiting (c .before .before .before .before .before .before .before)), c .before .before .before .before .before .before .before .before .chain .inv .1 .closing .queued .room)
 
 chain-less-2 : tie.Need-chain-less-2 Inv-gather μ-gather Inv-ask μ-ask Inv-chain μ-chain Inv-work μ-work
 unfolding Falls
-chain-less-2 c = let h = c .before .before .before .before .before .before .before .before .before in let z = h .chain .inv .closing .linked .falls (h .chain .x - 1) in omega (arith, z, c .before .before .before .before .before .before .before .before .chain-test .taken)
+chain-less-2 c = let h = c .before .before .before .before .before .before .before .before .before in let z = h .chain .inv .1 .closing .linked .falls (h .chain .x - 1) in omega (arith, z, c .before .before .before .before .before .before .before .before .chain-test .taken)
 
 chain-again-2 : tie.Need-chain-again-2 Inv-gather μ-gather Inv-ask μ-ask Inv-chain μ-chain Inv-work μ-work
 unfolding table-in
@@ -337,10 +337,10 @@ chain-again-2 c =
     let v = c .before .before .before .before .before .before .before .before .before .before .before .before in
     let h = c .before .before .before .before .before .before .before .before .before in
     let w = c .before .before .before .before .before in
-    (rw (rule-row (s .args .rows .now) (s .args .n) ((h .chain .x - 1) / 9)) at (chaining-held (table-in (s .args .rows .now) (s .args .n)) (fits s) (shape s) (c .before .before .before .before .before .before .before .before .before .before .before .before .before .before .before .before .gather .high) (full (c .before .before .before .before .before .before .before .before .before .before .before .before .before .before .before)) (v .work .at + 1) (h .before .wide .result) (h .chain .x) (w .stratum3 .result) (h .chain .held) (h .chain .flags) (h .chain .queue) (h .chain .top) (a .ask .heads) (a .ask .nexts))) (c .before .before .before .before .before .before .before .before .chain-test .taken) (c .before .before .before .before .before .before .before .if4 .left) (w .stratum3 .ensures) (h .chain .inv) _ _ _ (c .flag-assigned2 .ensures)
+    (rw (rule-row (s .args .rows .now) (s .args .n) ((h .chain .x - 1) / 9)) at (chaining-held (table-in (s .args .rows .now) (s .args .n)) (fits s) (shape s) (c .before .before .before .before .before .before .before .before .before .before .before .before .before .before .before .before .gather .high) (full (c .before .before .before .before .before .before .before .before .before .before .before .before .before .before .before)) (v .work .at + 1) (h .before .wide .result) (h .chain .x) (w .stratum3 .result) (h .chain .held) (h .chain .flags) (h .chain .queue) (h .chain .top) (a .ask .heads) (a .ask .nexts))) (c .before .before .before .before .before .before .before .before .chain-test .taken) (c .before .before .before .before .before .before .before .if4 .left) (w .stratum3 .ensures) (h .chain .inv .1) _ _ _ (c .flag-assigned2 .ensures)
 
 all-held-requires : tie.Need-all-held-requires Inv-gather μ-gather Inv-ask μ-ask Inv-chain μ-chain Inv-work μ-work
-all-held-requires c κs = c .before .before .before .before .before .before .before .pre .few
+all-held-requires c κs = c .before .before .before .before .before .before .before .pre .0 .few
 
 returns-2 : tie.Need-returns-2 Inv-gather μ-gather Inv-ask μ-ask Inv-chain μ-chain Inv-work μ-work
 unfolding table-in
@@ -349,10 +349,10 @@ returns-2 c =
     let v = c .before .before .before in
     let y = c .before .before .before .before in
     c .all-held .ensures
-    ∙ held-least (table-in (s .args .rows .now) (s .args .n)) (fits s) (shape s) (c .before .before .before .before .before .before .before .gather .high) (full (c .before .before .before .before .before .before)) (v .work .held) (v .work .flags) (v .work .queue) (v .work .top) (y .before .ask .heads) (y .before .ask .nexts) (v .work .inv .1 .0) (rested (c .before .before)) (asked-all y)
+    ∙ held-least (table-in (s .args .rows .now) (s .args .n)) (fits s) (shape s) (c .before .before .before .before .before .before .before .gather .high) (full (c .before .before .before .before .before .before)) (v .work .held) (v .work .flags) (v .work .queue) (v .work .top) (y .before .ask .heads) (y .before .ask .nexts) (v .work .inv .2 .0) (rested (c .before .before)) (asked-all y)
 
-pub is-least-spec : {M : Type 1} → statement M
-is-least-spec =
+pub are-held-spec : {M : Type 1} → statement M
+are-held-spec =
     tie.close
     (tie.spec
     Inv-gather
