@@ -14,7 +14,7 @@ use Rattle.model.specs.Rules.{Pair, Literal, Rule, assigns}
 use Rattle.laws.specs.Limits.{text-limit, slot-limit, value-limit, rule-limit, literal-limit, assignment-limit}
 use Rattle.grammar.specs.Files.{Slot, File, place-in, slot-names, values-of}
 use Rattle.grammar.specs.Grammar.{RuleTree, rule, trigger, SlotvalTree, ConditionTree, and-literal, one-literal, true-alone, LiteralTree, not-literal, becomes-value, holds-value, AssignTree, one-alone, braces, AssignmentListTree, one-assignment, comma-assignment, AssignmentTree, gets-value, ValueListTree, one-value, comma-value, LineTree, line, FileTree, spell, spell-slotval, spell-literal, spell-condition, spell-assignment, spell-assignments, spell-assign, spell-rule, spell-rules, spell-values, spell-line, spell-lines}
-use Rattle.grammar.specs.Reading.{Part, took, stop, Parsed, accepted, refused, _then_, expects, a-name, new-name, read-slot, read-value, read-target, plain-literal, read-literal, no-literal, read-literals, read-condition, read-assignment, no-assignment, read-assignments, read-assign, read-rule, no-value, read-values, read-line, go-on, read-rules, read-lines, read-tokens, parse}
+use Rattle.grammar.specs.Reading.{Part, took, stop, Parsed, accepted, refused, _then_, expects, a-name, new-name, read-slot, read-value, read-target, plain-literal, read-literal, no-literal, read-literals, read-condition, read-assignment, no-assignment, read-assignments, read-assign, read-rule, no-value, read-values, read-line, go-on, read-rules, read-lines, read-tokens, parse, parse-within}
 use Rattle.model.specs.Result.{pair}
 use Rattle.grammar.specs.Meaning.{Means-slotval, Names, turned, nots, tests-change, tested-slot, tested-value, Means-literal, Means-condition, means-and, means-one, means-true, Means-assignment, means-assignment, Means-assignments, means-first, means-comma, Means-assign, means-alone, means-braces, means-trigger, Means-rule, means-rule, Means-rules, no-rules, more-rules, Means-values, means-value, means-values, Means-line, means-line, Means-lines, no-lines, more-lines, Is-file}
 use Rattle.grammar.proofs.Steps.{never, took-same, put, then-back, by-then, cond-back, expects-back, slot-back, value-back, target-back, new-name-back, fork-back, if-next-back, after-back, list-back}
@@ -271,7 +271,7 @@ rules-only before ts f most h e =
     subst (λ (g : File). File-found before ts g most) (sym (a .4))
     (record { lines = []; rules = a .0; spelled = a .2; lines-are = no-lines; few-slots = h; rules-are = a .3; few-rules = a .5 })
 
-lines-back : (room : ℕ) (before : List Slot) (ts : List Token) (f : File) (most : ℕ) → room + length before ≤ most → read-lines room before ts ≡ accepted f → File-found before ts f most
+lines-back : (room : ℕ) (before : List Slot) (ts : List Token) (f : File) (most : ℕ) → room + length before ≤ most → read-lines rule-limit room before ts ≡ accepted f → File-found before ts f most
 unfolding read-lines
 lines-back zero before ts f most h e =
     ⊎-elim (λ x. refused-never _ 0 f (x .2)) (λ x. rules-only before ts f most (omega arith) x) (if-next-back SLOT _ _ ts (accepted f) e)
@@ -291,16 +291,16 @@ lines-back (suc room) before ts f most h e =
     (λ x. rules-only before ts f most (omega arith) x) (if-next-back SLOT _ _ ts (accepted f) e)
 
 -- Tokens that are accepted are derived.
-pub tokens-back : (ts : List Token) (f : File) → read-tokens ts ≡ accepted f → (tree : FileTree) × (spell tree ≡ ts)
+pub tokens-back : (ts : List Token) (f : File) → read-tokens rule-limit ts ≡ accepted f → (tree : FileTree) × (spell tree ≡ ts)
 unfolding read-tokens
 tokens-back ts f e = let r = lines-back slot-limit [] ts f slot-limit (omega arith) e in (record { lines = r .lines; rules = r .rules }, sym (r .spelled))
 
 -- A text that is read is a file.
 pub file-back : (text : List ℕ) (f : File) → parse text ≡ accepted f → Is-file text f
-unfolding parse read-tokens
+unfolding parse-within read-tokens
 file-back text f e = go (leb (length text) text-limit) refl e
   where
-    go : (t : Bool) → leb (length text) text-limit ≡ t → cond t (read-lines slot-limit [] (tokens text)) (refused 10 0) ≡ accepted f → Is-file text f
+    go : (t : Bool) → leb (length text) text-limit ≡ t → cond t (read-lines rule-limit slot-limit [] (tokens text)) (refused 10 0) ≡ accepted f → Is-file text f
     go true q x = let r = lines-back slot-limit [] (tokens text) f slot-limit (omega arith) x in record {
       short = leb-true (length text) text-limit q;
       tree = record { lines = r .lines; rules = r .rules };

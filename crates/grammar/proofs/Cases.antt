@@ -11,12 +11,12 @@ use Rattle.text.specs.Tokens.{Name, reserved, mark-of, run-token, run, token-he
 use Rattle.grammar.specs.Files.{Slot}
 use Rattle.laws.specs.Truth.{_∨ᵇ_}
 use Rattle.model.specs.Rules.{assigns}
-use Rattle.grammar.specs.Reading.{accepted, refused, _then_, expects, fork, a-name, if-next, new, new-name, known-slot, known-value, unassigned, read-slot, read-place, read-value, read-target, read-list, plain-literal, read-literal, no-literal, read-literals, read-condition, read-assignment, no-assignment, read-assignments, read-assign, read-rule, no-value, read-values, read-line, go-on, read-rules, read-lines, read-tokens, parse}
+use Rattle.grammar.specs.Reading.{accepted, refused, _then_, expects, fork, a-name, if-next, new, new-name, known-slot, known-value, unassigned, read-slot, read-place, read-value, read-target, read-list, plain-literal, read-literal, no-literal, read-literals, read-condition, read-assignment, no-assignment, read-assignments, read-assign, read-rule, no-value, read-values, read-line, go-on, read-rules, read-lines, read-tokens, parse, parse-within}
 use Rattle.model.specs.Result.{pair}
 
 -- `unfolding reads` opens all that a reading runs.
 unfoldable pub reads : Unit {0}
-unfolding bytes-from bytes class-of reserved mark-of run-token run token-here more-bytes tokens-from tokens _∨ᵇ_ assigns _then_ expects fork a-name if-next new new-name known-slot known-value unassigned read-slot read-place read-value read-target read-list plain-literal read-literal no-literal read-literals read-condition read-assignment no-assignment read-assignments read-assign read-rule no-value read-values read-line go-on read-rules read-lines read-tokens parse
+unfolding bytes-from bytes class-of reserved mark-of run-token run token-here more-bytes tokens-from tokens _∨ᵇ_ assigns _then_ expects fork a-name if-next new new-name known-slot known-value unassigned read-slot read-place read-value read-target read-list plain-literal read-literal no-literal read-literals read-condition read-assignment no-assignment read-assignments read-assign read-rule no-value read-values read-line go-on read-rules read-lines read-tokens parse-within
 reads = tt
 
 -- The slots of document 01's cases.

@@ -308,7 +308,7 @@ find-rules (suc room) k lo all mid (t ∷ ts) w slots rs b r n e =
     (rules-again room slots rs t ts k n e)
 
 find-lines : (room : ℕ) (k : ℕ) → 14 ≤ k → (all mid ts : List Token) → all ≡ mid ++ ts → (slots : List Slot) → Before mid (next-line slots) → room + length slots ≡ slot-limit
-    → (n : ℕ) → read-lines room slots ts ≡ refused k n → Found k all
+    → (n : ℕ) → read-lines rule-limit room slots ts ≡ refused k n → Found k all
 unfolding read-lines
 find-lines zero k lo all mid ts w slots b r n e =
     ⊎-elim (λ x. here 15 k all mid ts (word SLOT) (x .0) (next-line slots) w (x .1) b (too-many-slots (omega arith)) (refused-same 15 0 k n (x .2) .0))
@@ -322,6 +322,6 @@ find-lines (suc room) k lo all mid ts w slots b r n e =
     (λ x. find-rules rule-limit k lo all mid ts w slots [] (lines-over b) (omega arith) n x) (if-next-back SLOT _ _ ts (refused k n) e)
 
 -- Tokens that are refused with a number from 14 on have such a token.
-pub found : (ts : List Token) (k n : ℕ) → 14 ≤ k → read-tokens ts ≡ refused k n → Found k ts
+pub found : (ts : List Token) (k n : ℕ) → 14 ≤ k → read-tokens rule-limit ts ≡ refused k n → Found k ts
 unfolding read-tokens
 found ts k n lo e = find-lines slot-limit k lo ts [] ts refl [] start (omega arith) n e

@@ -12,7 +12,7 @@ use Rattle.model.specs.Rules.{Pair, Literal, Rule, assigns}
 use Rattle.laws.specs.Limits.{text-limit, slot-limit, value-limit, rule-limit, literal-limit, assignment-limit}
 use Rattle.grammar.specs.Files.{Slot, File, place-in, slot-names, values-of}
 use Rattle.grammar.specs.Grammar.{RuleTree, rule, trigger, SlotvalTree, ConditionTree, LiteralTree, not-literal, becomes-value, holds-value, AssignTree, AssignmentListTree, AssignmentTree, gets-value, ValueListTree, LineTree, line, FileTree, spell, spell-slotval, spell-literal, spell-condition, spell-assignment, spell-assignments, spell-assign, spell-rule, spell-rules, spell-values, spell-line, spell-lines}
-use Rattle.grammar.specs.Reading.{Part, took, stop, accepted, refused, _then_, expects, fork, a-name, begins-with, if-next, new, new-name, known-slot, known-value, unassigned, read-slot, read-place, read-value, read-target, read-list, plain-literal, read-literal, no-literal, read-literals, read-condition, read-assignment, no-assignment, read-assignments, read-assign, read-rule, no-value, read-values, read-line, go-on, read-rules, read-lines, read-tokens, parse}
+use Rattle.grammar.specs.Reading.{Part, took, stop, accepted, refused, _then_, expects, fork, a-name, begins-with, if-next, new, new-name, known-slot, known-value, unassigned, read-slot, read-place, read-value, read-target, read-list, plain-literal, read-literal, no-literal, read-literals, read-condition, read-assignment, no-assignment, read-assignments, read-assign, read-rule, no-value, read-values, read-line, go-on, read-rules, read-lines, read-tokens, parse, parse-within}
 use Rattle.grammar.specs.Meaning.{Means-slotval, means-name, means-none, Names, turned, nots, tests-change, tested-slot, tested-value, Means-literal, Means-condition, means-and, means-one, means-true, Means-assignment, means-assignment, Means-assignments, means-first, means-comma, Means-assign, means-alone, means-braces, means-trigger, Means-rule, means-rule, Means-rules, no-rules, more-rules, Means-values, means-value, means-values, Means-line, means-line, Means-lines, no-lines, more-lines, Means, Is-file}
 
 pub took-then : {A B : Type 0} (a : A) (ts : List Token) (f : A → List Token → Part B) → (took a ts then f) ≡ f a ts
@@ -224,7 +224,7 @@ no-slot-first [] = refl
 no-slot-first (rule t c a ∷ ts) = refl
 
 -- Where no SLOT stands next the rules begin.
-pub rules-begin : (room : ℕ) (slots : List Slot) (ts : List Token) → begins-with SLOT ts ≡ false → read-lines room slots ts ≡ read-rules rule-limit slots [] ts
+pub rules-begin : (room : ℕ) (slots : List Slot) (ts : List Token) → begins-with SLOT ts ≡ false → read-lines rule-limit room slots ts ≡ read-rules rule-limit slots [] ts
 unfolding read-lines if-next
 rules-begin zero slots ts e = rw e
 rules-begin (suc room) slots ts e = rw e
@@ -235,7 +235,7 @@ lines-grow before ts all no-lines = omega arith
 lines-grow before ts all (more-lines {s = s} h hs) = let x = length-append before (s ∷ []) in let y = lines-grow _ _ all hs in omega arith
 
 lines-read : (before : List Slot) (ts : List LineTree) (all : List Slot) (us : List RuleTree) (room : ℕ) → Means-lines before ts all → length all ≤ room + length before
-    → read-lines room before (spell-lines ts (spell-rules us [])) ≡ read-rules rule-limit all [] (spell-rules us [])
+    → read-lines rule-limit room before (spell-lines ts (spell-rules us [])) ≡ read-rules rule-limit all [] (spell-rules us [])
 unfolding read-lines if-next go-on
 lines-read before ts all us room no-lines h = rules-begin room before (spell-rules us []) (no-slot-first us)
 lines-read before ts all us zero (more-lines {s = s} g gs) h = absurd (let x = length-append before (s ∷ []) in let y = lines-grow _ _ all gs in omega arith)
@@ -244,22 +244,22 @@ lines-read before ts all us (suc room) (more-lines {t = line n vs} {s = s} {ts =
     (lines-read (before ++ s ∷ []) ws all us room gs (let x = length-append before (s ∷ []) in omega arith))
 
 -- The tokens of a tree are read as what the tree means, whatever the length of a text that has them.
-pub tree-read : (t : FileTree) (f : File) → Means t f → read-tokens (spell t) ≡ accepted f
+pub tree-read : (t : FileTree) (f : File) → Means t f → read-tokens rule-limit (spell t) ≡ accepted f
 unfolding read-tokens
 tree-read t f m =
     lines-read [] (t .lines) (f .slots) (t .rules) slot-limit (m .lines-are) (let x = m .few-slots in omega arith)
     ∙ rules-read (f .slots) (t .rules) (f .rules) [] rule-limit (m .rules-are) (m .few-rules)
 
 -- A text within the limit is read by its tokens.
-pub read-short : (text : List ℕ) → length text ≤ text-limit → parse text ≡ read-tokens (tokens text)
-unfolding parse
+pub read-short : (text : List ℕ) → length text ≤ text-limit → parse text ≡ read-tokens rule-limit (tokens text)
+unfolding parse-within
 read-short text h = rw (le-leb (length text) text-limit h)
 
 -- A text over the limit is refused with 10.
 pub read-long : (text : List ℕ) → text-limit < length text → parse text ≡ refused 10 0
-unfolding parse
+unfolding parse-within
 read-long text h = rw (lt-leb (length text) text-limit h)
 
 -- A text that is a file is read as that file.
 pub file-parsed : (text : List ℕ) (f : File) → Is-file text f → parse text ≡ accepted f
-file-parsed text f h = read-short text (h .short) ∙ ap read-tokens (sym (h .derives)) ∙ tree-read (h .tree) f (h .means)
+file-parsed text f h = read-short text (h .short) ∙ ap (read-tokens rule-limit) (sym (h .derives)) ∙ tree-read (h .tree) f (h .means)

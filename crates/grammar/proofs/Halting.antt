@@ -202,9 +202,9 @@ File-done n ts = (ls : List LineTree) × (rs : List RuleTree) × (part : List To
 
 -- What reading slot lines and rules that is refused tells.
 abbrev pub Lines-halt : ℕ → List Slot → List Token → ℕ → ℕ → Type 0
-Lines-halt room before ts k n = Halt Begins-file (read-lines room before) (File-done n) ts k n
+Lines-halt room before ts k n = Halt Begins-file (read-lines rule-limit room before) (File-done n) ts k n
 
-lines-at-rules : (room : ℕ) (before : List Slot) → Clean (read-lines room before) 0 []
+lines-at-rules : (room : ℕ) (before : List Slot) → Clean (read-lines rule-limit room before) 0 []
 lines-at-rules room before = inr (record { slots = before; rules = [] }, rules-begin room before [] refl ∙ rules-end rule-limit before [], refl)
 
 -- The rules are refused.
@@ -214,13 +214,13 @@ rules-refused room before ts k n off e =
     let h = rules-halt rule-limit before [] ts k n e in
     record {
       stopped = stop-where Begins-rules (Clean (read-rules rule-limit before []) n) (λ us. read-rules rule-limit before [] us ≡ refused k n)
-          Begins-file (Clean (read-lines room before) n) (λ us. read-lines room before us ≡ refused k n) SLOT false (λ us b. ([], b .0, b .1, b .2))
+          Begins-file (Clean (read-lines rule-limit room before) n) (λ us. read-lines rule-limit room before us ≡ refused k n) SLOT false (λ us b. ([], b .0, b .1, b .2))
           (λ us o c. let on = rules-begin room before us (nothing-next SLOT us o) in ⊎-elim (λ q. inl (on ∙ q)) (λ q. inr (q .0, on ∙ q .1, q .2)) c)
           (λ t us o q. rules-begin room before (t ∷ us) o ∙ q) ts k off (h .stopped);
       completed = (let c = h .completed in ([], c .0, c .1, c .2, c .3, (let z = c .4 in omega arith)));
     }
 
-pub slot-too-many : (before : List Slot) (ts : List Token) → read-lines zero before (word SLOT ∷ ts) ≡ refused 15 0
+pub slot-too-many : (before : List Slot) (ts : List Token) → read-lines rule-limit zero before (word SLOT ∷ ts) ≡ refused 15 0
 unfolding read-lines if-next
 slot-too-many before ts = refl
 
@@ -234,20 +234,20 @@ many-lines before ts = record {
     begun = ([], [], [], refl);
     cause = later-fault {k = 15} (omega arith) (a-line .some-tree ∷ [], [], drop 1 (spell-lines (a-line .some-tree ∷ []) []), refl);
     ended = lines-at-rules zero before;
-    decided = follows-same (λ us. read-lines zero before us ≡ refused 15 0) 15 (word SLOT) ts refl (slot-too-many before);
+    decided = follows-same (λ us. read-lines rule-limit zero before us ≡ refused 15 0) 15 (word SLOT) ts refl (slot-too-many before);
   };
   completed = ([], [], [], refl, tt, refl);
 }
 
 pub line-next : (room : ℕ) (before : List Slot) (ts : List Token) → begins-with SLOT ts ≡ true
-    → read-lines (suc room) before ts ≡ go-on 0 (read-line before ts) (λ s rest. read-lines room (before ++ s ∷ []) rest)
+    → read-lines rule-limit (suc room) before ts ≡ go-on 0 (read-line before ts) (λ s rest. read-lines rule-limit room (before ++ s ∷ []) rest)
 unfolding read-lines if-next
 line-next room before ts e = rw e
 
 -- The slot line being read is refused.
 line-halt : (room : ℕ) (before : List Slot) (ts : List Token) (k : ℕ) → begins-with SLOT ts ≡ true → read-line before ts ≡ stop k → Lines-halt (suc room) before ts k 0
 line-halt room before ts k on e =
-    let x = statement-halts a-line (read-line before) (reader-line before) Begins-file (λ us b. let y = b [] in (y .0 ∷ [], [], y .1, y .2)) (read-lines (suc room) before) 0 SLOT true (lines-at-rules (suc room) before)
+    let x = statement-halts a-line (read-line before) (reader-line before) Begins-file (λ us b. let y = b [] in (y .0 ∷ [], [], y .1, y .2)) (read-lines rule-limit (suc room) before) 0 SLOT true (lines-at-rules (suc room) before)
     (λ u us j q z. line-next room before (u ∷ us) q ∙ go-on-stop 0 (read-line before (u ∷ us)) _ j z) ts k on e in
     record { stopped = x .0; completed = ([], [], x .0 .mid, refl, free-part a-line (read-line before) (reader-line before) line-past (x .0 .mid) (x .1) (x .2), refl) }
 
@@ -256,34 +256,34 @@ past-line : (room : ℕ) (before : List Slot) (s : Slot) (x : LineTree) (ts left
     → ((later : List Token) → read-line before (spell-line x later) ≡ took s later) → Lines-halt room (before ++ s ∷ []) left k n → Lines-halt (suc room) before ts k n
 unfolding stop-behind
 past-line room before s x ts left k n e there h = record {
-  stopped = stop-behind Begins-file (Clean (read-lines room (before ++ s ∷ [])) n) (λ us. read-lines room (before ++ s ∷ []) us ≡ refused k n)
-      Begins-file (Clean (read-lines (suc room) before) n) (λ us. read-lines (suc room) before us ≡ refused k n) (spell-line x) (line-append x)
+  stopped = stop-behind Begins-file (Clean (read-lines rule-limit room (before ++ s ∷ [])) n) (λ us. read-lines rule-limit room (before ++ s ∷ []) us ≡ refused k n)
+      Begins-file (Clean (read-lines rule-limit (suc room) before) n) (λ us. read-lines rule-limit (suc room) before us ≡ refused k n) (spell-line x) (line-append x)
       (λ us b. (x ∷ b .0, b .1, b .2, ap (spell-line x) (b .3) ∙ line-append x us (b .2)))
       (λ us c. ⊎-elim (λ q. inl (on us ∙ q)) (λ q. inr (q .0, on us ∙ q .1, q .2)) c) (λ us q. on us ∙ q) left ts k e (h .stopped);
   completed = (let c = h .completed in (x ∷ c .0, c .1, c .2, ap (spell-line x) (c .3), c .4, c .5));
 }
   where
-    on : (us : List Token) → read-lines (suc room) before (spell-line x us) ≡ read-lines room (before ++ s ∷ []) us
+    on : (us : List Token) → read-lines rule-limit (suc room) before (spell-line x us) ≡ read-lines rule-limit room (before ++ s ∷ []) us
     on us = lines-take room before (spell-line x us) s us (there us)
 
 -- Where a refused reading of slot lines and rules halts.
-pub lines-halt : (room : ℕ) (before : List Slot) (ts : List Token) (k n : ℕ) → read-lines room before ts ≡ refused k n → Lines-halt room before ts k n
+pub lines-halt : (room : ℕ) (before : List Slot) (ts : List Token) (k n : ℕ) → read-lines rule-limit room before ts ≡ refused k n → Lines-halt room before ts k n
 lines-halt zero before ts k n e = go (begins-with SLOT ts) refl
   where
     go : (b : Bool) → begins-with SLOT ts ≡ b → Lines-halt zero before ts k n
     go true q =
         let m = begins-back SLOT ts q in
-        let z = refused-same 15 0 k n (sym (ap (read-lines zero before) (m .1) ∙ slot-too-many before (m .0)) ∙ e) in
+        let z = refused-same 15 0 k n (sym (ap (read-lines rule-limit zero before) (m .1) ∙ slot-too-many before (m .0)) ∙ e) in
         subst (λ (us : List Token). Lines-halt zero before us k n) (sym (m .1))
         (subst (λ (j : ℕ). Lines-halt zero before (word SLOT ∷ m .0) j n) (z .0) (subst (Lines-halt zero before (word SLOT ∷ m .0) 15) (z .1) (many-lines before (m .0))))
     go false q = rules-refused zero before ts k n q (sym (rules-begin zero before ts q) ∙ e)
 lines-halt (suc room) before ts k n e = go (begins-with SLOT ts) refl (λ s left. lines-halt room (before ++ s ∷ []) left k n)
   where
-    go : (b : Bool) → begins-with SLOT ts ≡ b → ((s : Slot) (left : List Token) → read-lines room (before ++ s ∷ []) left ≡ refused k n → Lines-halt room (before ++ s ∷ []) left k n) → Lines-halt (suc room) before ts k n
+    go : (b : Bool) → begins-with SLOT ts ≡ b → ((s : Slot) (left : List Token) → read-lines rule-limit room (before ++ s ∷ []) left ≡ refused k n → Lines-halt room (before ++ s ∷ []) left k n) → Lines-halt (suc room) before ts k n
     go true q again =
         ⊎-elim (λ m. subst (Lines-halt (suc room) before ts k) (m .1) (line-halt room before ts k q (m .0)))
         (λ m. let x = reader-line before .reads ts (m .0) (m .1) (m .2) in past-line room before (m .0) (x .0) ts (m .1) k n (x .1) (x .2) (again (m .0) (m .1) (m .3)))
-        (go-on-stops 0 (read-line before ts) (λ s rest. read-lines room (before ++ s ∷ []) rest) k n (sym (line-next room before ts q) ∙ e))
+        (go-on-stops 0 (read-line before ts) (λ s rest. read-lines rule-limit room (before ++ s ∷ []) rest) k n (sym (line-next room before ts q) ∙ e))
     go false q again = rules-refused (suc room) before ts k n q (sym (rules-begin (suc room) before ts q) ∙ e)
 
 -- The reading of a derived file is accepted, or refused with a number from 14 on.
@@ -307,7 +307,7 @@ rules-fit (rule t c a ∷ us) (suc room) slots sofar =
         → read-rules (suc room) slots sofar (v ∷ vs) ≡ go-on (length sofar) (read-rule slots (v ∷ vs)) (λ r rest. read-rules room slots (sofar ++ r ∷ []) rest)
     rules-next room slots sofar v vs = unfold read-rules in refl
 
-pub lines-fit : (ls : List LineTree) (us : List RuleTree) (room : ℕ) (before : List Slot) → Fits-file (read-lines room before (spell-lines ls (spell-rules us [])))
+pub lines-fit : (ls : List LineTree) (us : List RuleTree) (room : ℕ) (before : List Slot) → Fits-file (read-lines rule-limit room before (spell-lines ls (spell-rules us [])))
 lines-fit [] us room before = subst Fits-file (sym (rules-begin room before (spell-rules us []) (no-slot-first us))) (rules-fit us rule-limit before [])
 lines-fit (line n vs ∷ ls) us zero before = subst Fits-file (sym (slot-too-many before _)) (omega arith)
 lines-fit (line n vs ∷ ls) us (suc room) before =

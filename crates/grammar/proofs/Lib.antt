@@ -23,3 +23,4 @@ pub mod Faults
 pub mod Counted
 pub mod Placed
 pub mod Refusals
+pub mod Within

@@ -26,7 +26,7 @@ use Rattle.grammar.proofs.Halting.{rule-refused, one-too-many, slot-too
 
 -- The reading from a position halts with `k` at these tokens.
 abbrev pub Halts : Position → List Token → ℕ → Type 0
-Halts (next-line slots) us k = (room : ℕ) → room + length slots ≡ slot-limit → (n : ℕ) × (read-lines room slots us ≡ refused k n)
+Halts (next-line slots) us k = (room : ℕ) → room + length slots ≡ slot-limit → (n : ℕ) × (read-lines rule-limit room slots us ≡ refused k n)
 Halts (fresh-slot slots) us k = read-line slots (word SLOT ∷ us) ≡ stop k
 Halts (fresh-value ns) us k = (room : ℕ) → room + length ns ≡ value-limit → read-values room ns us ≡ stop k
 Halts (next-rule slots rs) us k = (begins-with SLOT us ≡ false) × ((room : ℕ) → room + length rs ≡ rule-limit → (n : ℕ) × (read-rules room slots rs us ≡ refused k n))
@@ -173,11 +173,11 @@ gets-step slots ps n s us k few e d h =
     (refl, λ l. rw (slot-known slots n s _ e, took-then, d, took-then, expects-here GETS _, took-then) (stop-then (read-value slots s us) _ k h), λ l. absurd (omega arith))
 
 -- What is refused behind more tokens.
-carried : (ts xs us : List Token) (k : ℕ) → (n : ℕ) × (read-tokens (ts ++ (xs ++ us)) ≡ refused k n) → (n : ℕ) × (read-tokens ((ts ++ xs) ++ us) ≡ refused k n)
-carried ts xs us k x = (x .0, ap read-tokens (append-assoc ts xs us) ∙ x .1)
+carried : (ts xs us : List Token) (k : ℕ) → (n : ℕ) × (read-tokens rule-limit (ts ++ (xs ++ us)) ≡ refused k n) → (n : ℕ) × (read-tokens rule-limit ((ts ++ xs) ++ us) ≡ refused k n)
+carried ts xs us k x = (x .0, ap (read-tokens rule-limit) (append-assoc ts xs us) ∙ x .1)
 
 -- Where the reading from a position halts, the tokens before it and those there are refused.
-pub reaches : (ts : List Token) (P : Position) (us : List Token) (k : ℕ) → Before ts P → Halts P us k → (n : ℕ) × (read-tokens (ts ++ us) ≡ refused k n)
+pub reaches : (ts : List Token) (P : Position) (us : List Token) (k : ℕ) → Before ts P → Halts P us k → (n : ℕ) × (read-tokens rule-limit (ts ++ us) ≡ refused k n)
 unfolding read-tokens
 reaches ts P us k start h = h slot-limit (omega arith)
 reaches ts P us k (behind-line {ts = xs} {slots = slots} {t = t} {s = s} b few m) h =
@@ -245,7 +245,7 @@ halts k P t us (value-twice {ns = ns} {n = n} e) least = on
     on (suc room) l = rw (again ns n us e)
 halts k P t us (too-many-slots {slots = slots} e) least = on
   where
-    on : (room : ℕ) → room + length slots ≡ slot-limit → (n : ℕ) × (read-lines room slots (word SLOT ∷ us) ≡ refused 15 n)
+    on : (room : ℕ) → room + length slots ≡ slot-limit → (n : ℕ) × (read-lines rule-limit room slots (word SLOT ∷ us) ≡ refused 15 n)
     on zero l = (0, slot-too-many slots us)
     on (suc room) l = absurd (omega arith)
 halts k P t us (too-many-values {ns = ns} {n = n} e) least = on
@@ -274,5 +274,5 @@ halts k P t us (slot-assigned-twice {slots = slots} {ps = ps} {n = n} {s = s} e 
     (refl, λ l. rw (slot-known slots n s us e, d), λ l. absurd (omega arith))
 
 -- Tokens before a position and a token that has a fault there, and none of a smaller number, are refused with the number of that fault, whatever follows.
-pub fault-refused : (ts : List Token) (P : Position) (t : Token) (us : List Token) (k : ℕ) → Before ts P → Fault-at k P t → ((j : ℕ) → j < k → ¬ Fault-at j P t) → (n : ℕ) × (read-tokens (ts ++ t ∷ us) ≡ refused k n)
+pub fault-refused : (ts : List Token) (P : Position) (t : Token) (us : List Token) (k : ℕ) → Before ts P → Fault-at k P t → ((j : ℕ) → j < k → ¬ Fault-at j P t) → (n : ℕ) × (read-tokens rule-limit (ts ++ t ∷ us) ≡ refused k n)
 fault-refused ts P t us k b f least = reaches ts P (t ∷ us) k b (halts k P t us f least)

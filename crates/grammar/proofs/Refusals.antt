@@ -13,8 +13,8 @@ use borrow.Author.Tests.{leb-true, leb-false}
 use Rattle.laws.proofs.Lists.{two-cuts}
 use Rattle.laws.proofs.Truth.{le-or-lt}
 use Rattle.text.specs.Tokens.{Token, tokens}
-use Rattle.laws.specs.Limits.{text-limit}
-use Rattle.grammar.specs.Reading.{refused, read-tokens, parse}
+use Rattle.laws.specs.Limits.{rule-limit, text-limit}
+use Rattle.grammar.specs.Reading.{refused, read-tokens, parse, parse-within}
 use Rattle.grammar.specs.Refusals.{Fault, Faultless, Completed, Stands-at, Decided, Stuck-first}
 use Rattle.grammar.proofs.Forward.{read-short, read-long}
 use Rattle.grammar.proofs.Halting.{refused-same}
@@ -23,7 +23,7 @@ use Rattle.grammar.proofs.Faults.{fault-later, stuck-of, stuck-fault, s
 use Rattle.grammar.proofs.Placed.{Placed, placed, same-rest, refused-there, clean-faultless, faultless-clean}
 
 -- A refusal of tokens stands at one of them, or at their end.
-pub tokens-stand : (ts : List Token) (k n : ℕ) → read-tokens ts ≡ refused k n → Stands-at ts k n
+pub tokens-stand : (ts : List Token) (k n : ℕ) → read-tokens rule-limit ts ≡ refused k n → Stands-at ts k n
 tokens-stand ts k n e =
     let s = placed ts k n e in record {
       before = s .before;
@@ -38,7 +38,7 @@ tokens-stand ts k n e =
     smallest : (s : Placed ts k n) (j : ℕ) → j < k → ¬ Fault j (s .before) (s .after)
     smallest s j l f =
         by-least (λ i. (i < k) × Fault i (s .before) (s .after))
-        (λ i x least. let z = refused-same i n k n (sym (refused-there (s .before) (s .after) i n (s .goes-on) (s .no-fault) (x .1) (λ h m g. least h m (omega (arith, x .0), g))) ∙ ap read-tokens (sym (s .whole)) ∙ e) in
+        (λ i x least. let z = refused-same i n k n (sym (refused-there (s .before) (s .after) i n (s .goes-on) (s .no-fault) (x .1) (λ h m g. least h m (omega (arith, x .0), g))) ∙ ap (read-tokens rule-limit) (sym (s .whole)) ∙ e) in
         omega (arith, x .0, z .0)) j (l, f)
 
 -- The earliest place with a fault is one.
@@ -67,14 +67,14 @@ one-place ts j m k n a b = (place, number, one-count (b .before) m n (subst (λ 
         ⊎-elim (λ h. ⊎-elim (λ (x : k ≡ j). sym x) (λ x. absurd (a .smallest k x back)) (eq-or-lt-of-le h)) (λ h. absurd (b .smallest j h there)) (le-or-lt k j)
 
 -- Tokens are refused with `k` and second number `n` exactly where `k` is the smallest fault of the earliest token that has one, or of their end, and `n` rules are completed before it.
-pub refused-iff : (ts : List Token) (k n : ℕ) → (read-tokens ts ≡ refused k n) ↔ Stands-at ts k n
+pub refused-iff : (ts : List Token) (k n : ℕ) → (read-tokens rule-limit ts ≡ refused k n) ↔ Stands-at ts k n
 refused-iff ts k n = (tokens-stand ts k n, back)
   where
-    back : Stands-at ts k n → read-tokens ts ≡ refused k n
+    back : Stands-at ts k n → read-tokens rule-limit ts ≡ refused k n
     back a =
         let x = faultless-clean (a .before) (a .faultless) in
         let m = x .1 .0 in
-        let e : read-tokens ts ≡ refused k m = ap read-tokens (a .whole) ∙ refused-there (a .before) (a .after) k m (x .0) (x .1 .1) (a .fault) (a .smallest) in
+        let e : read-tokens rule-limit ts ≡ refused k m = ap (read-tokens rule-limit) (a .whole) ∙ refused-there (a .before) (a .after) k m (x .0) (x .1 .1) (a .fault) (a .smallest) in
         e ∙ ap (refused k) (one-place ts k m k n (tokens-stand ts k m e) a .2)
 
 -- It is the same whatever follows the token.
@@ -96,10 +96,10 @@ whatever-follows ts k n a = go (a .after) (a .fault) (a .smallest)
 -- A text is refused with 10 for its length, or its refusal stands at one of its tokens or at its end.
 pub refusal-stands : (text : List ℕ) (k n : ℕ) → parse text ≡ refused k n
     → ((k ≡ 10) × (n ≡ 0) × (text-limit < length text)) ⊎ ((length text ≤ text-limit) × Stands-at (tokens text) k n)
-unfolding parse
+unfolding parse-within
 refusal-stands text k n e = go (leb (length text) text-limit) refl e
   where
-    go : (t : Bool) → leb (length text) text-limit ≡ t → cond t (read-tokens (tokens text)) (refused 10 0) ≡ refused k n
+    go : (t : Bool) → leb (length text) text-limit ≡ t → cond t (read-tokens rule-limit (tokens text)) (refused 10 0) ≡ refused k n
         → ((k ≡ 10) × (n ≡ 0) × (text-limit < length text)) ⊎ ((length text ≤ text-limit) × Stands-at (tokens text) k n)
     go true q x = inr (leb-true (length text) text-limit q, tokens-stand (tokens text) k n x)
     go false q x = let z = refused-same 10 0 k n x in inl (sym (z .0), sym (z .1), leb-false (length text) text-limit q)
@@ -112,10 +112,10 @@ text-refused-iff text k n = (refusal-stands text k n, back)
     back x = ⊎-elim (λ y. read-long text (y .2) ∙ sym (ap₂ refused (y .0) (y .1))) (λ y. read-short text (y .0) ∙ refused-iff (tokens text) k n .1 (y .1)) x
 
 -- Refusal 12 stands exactly at the first token with which no derivation goes on, or at the end of an unfinished one, where no other fault comes before it.
-pub twelve-iff : (ts : List Token) (n : ℕ) → (read-tokens ts ≡ refused 12 n) ↔ Stuck-first ts n
+pub twelve-iff : (ts : List Token) (n : ℕ) → (read-tokens rule-limit ts ≡ refused 12 n) ↔ Stuck-first ts n
 twelve-iff ts n = (there, back)
   where
-    there : read-tokens ts ≡ refused 12 n → Stuck-first ts n
+    there : read-tokens rule-limit ts ≡ refused 12 n → Stuck-first ts n
     there e = let s = tokens-stand ts 12 n e in record {
       before = s .before;
       after = s .after;
@@ -125,7 +125,7 @@ twelve-iff ts n = (there, back)
       completed = s .completed;
     }
 
-    back : Stuck-first ts n → read-tokens ts ≡ refused 12 n
+    back : Stuck-first ts n → read-tokens rule-limit ts ≡ refused 12 n
     back s = refused-iff ts 12 n .1 (record {
       before = s .before;
       after = s .after;

@@ -17,7 +17,7 @@ use Rattle.model.specs.Rules.{Rule}
 use Rattle.laws.specs.Limits.{text-limit, slot-limit, rule-limit}
 use Rattle.grammar.specs.Files.{Slot, File}
 use Rattle.grammar.specs.Grammar.{RuleTree, rule, LineTree, line, spell-rule, spell-line}
-use Rattle.grammar.specs.Reading.{took, accepted, refused, expects, begins-with, if-next, read-rule, read-line, go-on, read-rules, read-lines, read-tokens, parse}
+use Rattle.grammar.specs.Reading.{took, accepted, refused, expects, begins-with, if-next, read-rule, read-line, go-on, read-rules, read-lines, read-tokens, parse, parse-within}
 use Rattle.grammar.specs.Meaning.{Means-rule}
 use Rattle.grammar.specs.Pieces.{pieces, tail-piece, joined, Read-rule, Read-line, Read-lines, no-more-lines, one-more-line, By-statements}
 use Rattle.grammar.proofs.Forward.{rule-read, line-read, rules-begin}
@@ -65,9 +65,9 @@ rules-step (suc room) slots sofar (t ∷ ts) f e =
     let a = go-on-back (length sofar) (read-rule slots (t ∷ ts)) _ f e in inr (room, a .0, a .1, refl, a .2, a .3)
 
 -- One step of an accepted reading of slot lines: a line, or the rules.
-lines-step : (room : ℕ) (before : List Slot) (ts : List Token) (f : File) → read-lines room before ts ≡ accepted f
+lines-step : (room : ℕ) (before : List Slot) (ts : List Token) (f : File) → read-lines rule-limit room before ts ≡ accepted f
     → (read-rules rule-limit before [] ts ≡ accepted f)
-    ⊎ ((k : ℕ) × (s : Slot) × (left : List Token) × (room ≡ suc k) × (read-line before ts ≡ took s left) × (read-lines k (before ++ s ∷ []) left ≡ accepted f))
+    ⊎ ((k : ℕ) × (s : Slot) × (left : List Token) × (room ≡ suc k) × (read-line before ts ≡ took s left) × (read-lines rule-limit k (before ++ s ∷ []) left ≡ accepted f))
 unfolding read-lines
 lines-step zero before ts f e = ⊎-elim (λ x. refused-never _ 0 f (x .2)) (λ x. inl x) (if-next-back SLOT _ _ ts (accepted f) e)
 lines-step (suc room) before ts f e =
@@ -125,7 +125,7 @@ apart-rules bs room before w p f h n e =
 
 -- The slot lines of an accepted text stand piece by piece, and then the rules.
 lines-apart : (bs : List (List ℕ)) (room : ℕ) (before : List Slot) (w : List ℕ) (p : ℕ) (f : File) → Plain bs → No-semi w
-    → read-lines room before (tokens-from (joined bs w) 0 p) ≡ accepted f → Apart bs room before w p f
+    → read-lines rule-limit room before (tokens-from (joined bs w) 0 p) ≡ accepted f → Apart bs room before w p f
 lines-apart [] room before w p f h n e =
     ⊎-elim (λ x. apart-rules [] room before w p f h n x)
     (λ x. let y = line-back before (tokens-from w 0 p) (x .1) (x .2) (x .4) in absurd (no-statement spell-line line-past line-refit w p (y .0) (x .2) n (y .1)))
@@ -134,7 +134,7 @@ lines-apart (b ∷ bs) room before w p f h n e =
     ⊎-elim (λ x. apart-rules (b ∷ bs) room before w p f h n x)
     (λ x.
     let y = line-piece-read before b p (x .1) (x .2) (tokens-from (joined bs w) 0 (p + suc (length b))) (h .0) (sym (ap (read-line before) (joined-cut b bs w p)) ∙ x .4) in
-    let z = lines-apart bs (x .0) (before ++ x .1 ∷ []) w (p + suc (length b)) f (h .1) n (sym (ap (read-lines (x .0) (before ++ x .1 ∷ [])) (y .0)) ∙ x .5) in
+    let z = lines-apart bs (x .0) (before ++ x .1 ∷ []) w (p + suc (length b)) f (h .1) n (sym (ap (read-lines rule-limit (x .0) (before ++ x .1 ∷ [])) (y .0)) ∙ x .5) in
     record {
       slot-part = b ∷ z .slot-part;
       rule-part = z .rule-part;
@@ -152,13 +152,13 @@ white-anywhere : (w : List ℕ) (p q : ℕ) → tokens-from w 0 p ≡ [] → tok
 white-anywhere w p q e = sym (tokens-moved w 0 p q (λ i. i - p + q) (λ j. omega arith)) ∙ ap (map (moved (λ i. i - p + q))) e
 
 accepted-apart : (text : List ℕ) (f : File) → parse text ≡ accepted f → By-statements text f
-unfolding parse read-tokens tokens
+unfolding parse-within read-tokens tokens
 accepted-apart text f e = go (leb (length text) text-limit) refl e
   where
-    go : (t : Bool) → leb (length text) text-limit ≡ t → cond t (read-lines slot-limit [] (tokens-from text 0 0)) (refused 10 0) ≡ accepted f → By-statements text f
+    go : (t : Bool) → leb (length text) text-limit ≡ t → cond t (read-lines rule-limit slot-limit [] (tokens-from text 0 0)) (refused 10 0) ≡ accepted f → By-statements text f
     go true q x =
         let r = lines-apart (pieces text) slot-limit [] (tail-piece text) 0 f (pieces-plain text) (tail-plain text)
-        (ap (λ (y : List ℕ). read-lines slot-limit [] (tokens-from y 0 0)) (cut-joined text) ∙ x) in record {
+        (ap (λ (y : List ℕ). read-lines rule-limit slot-limit [] (tokens-from y 0 0)) (cut-joined text) ∙ x) in record {
           slot-part = r .slot-part;
           rule-part = r .rule-part;
           whole = r .whole;
@@ -194,7 +194,7 @@ rules-take room slots sofar (t ∷ ts) r left e = rw e
 
 -- A slot line that is read is one step of the reading of slot lines.
 pub lines-take : (room : ℕ) (before : List Slot) (ts : List Token) (s : Slot) (left : List Token) → read-line before ts ≡ took s left
-    → read-lines (suc room) before ts ≡ read-lines room (before ++ s ∷ []) left
+    → read-lines rule-limit (suc room) before ts ≡ read-lines rule-limit room (before ++ s ∷ []) left
 unfolding read-lines if-next go-on
 lines-take room before ts s left e = rw (begins-line before SLOT ts s left e, e)
 
@@ -227,7 +227,7 @@ slots-grow before p bs all (one-more-line {s = s} g gs) = let x = length-append 
 -- Pieces that are slots by themselves are read as those slots, and then the rules.
 lines-together : (bs rs : List (List ℕ)) (room : ℕ) (before all : List Slot) (rules : List Rule) (w : List ℕ) (p : ℕ) → Read-lines before p bs all → length all ≤ room + length before
     → Forall₂ (Read-rule all) rs rules → length rules ≤ rule-limit → tokens-from w 0 0 ≡ []
-    → read-lines room before (tokens-from (joined (bs ++ rs) w) 0 p) ≡ accepted (record { slots = all; rules = rules })
+    → read-lines rule-limit room before (tokens-from (joined (bs ++ rs) w) 0 p) ≡ accepted (record { slots = all; rules = rules })
 lines-together bs rs room before all rules w p no-more-lines h g few e =
     rules-begin room before (tokens-from (joined rs w) 0 p) (no-slot-next before rs rules w p g e) ∙ rules-together rs rule-limit before [] rules w p g few e
 lines-together bs rs zero before all rules w p (one-more-line {s = s} l ls) h g few e =
@@ -238,10 +238,10 @@ lines-together bs rs (suc room) before all rules w p (one-more-line {b = b} {bs 
     ∙ lines-together cs rs room (before ++ s ∷ []) all rules w (p + suc (length b)) ls (let x = length-append before (s ∷ []) in omega arith) g few e
 
 together-accepted : (text : List ℕ) (f : File) → By-statements text f → parse text ≡ accepted f
-unfolding parse read-tokens tokens
+unfolding parse-within read-tokens tokens
 together-accepted text f h =
     rw (le-leb (length text) text-limit (h .short))
-    (ap (λ (y : List ℕ). read-lines slot-limit [] (tokens-from y 0 0)) (sym (cut-joined text) ∙ ap (λ (bs : List (List ℕ)). joined bs (tail-piece text)) (h .whole))
+    (ap (λ (y : List ℕ). read-lines rule-limit slot-limit [] (tokens-from y 0 0)) (sym (cut-joined text) ∙ ap (λ (bs : List (List ℕ)). joined bs (tail-piece text)) (h .whole))
     ∙ lines-together (h .slot-part) (h .rule-part) slot-limit [] (f .slots) (f .rules) (tail-piece text) 0 (h .slots-are) (let x = h .few-slots in omega arith) (h .rules-are) (h .few-rules) (h .end-white))
 
 -- Reading is by statements: a text is accepted with a file exactly when its pieces, each by itself, are that file's slots and rules.

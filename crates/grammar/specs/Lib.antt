@@ -2,6 +2,7 @@ pub mod Files
 pub mod Grammar
 pub mod Meaning
 pub mod Reading
+pub mod Within
 pub mod Pieces
 pub mod Standing
 pub mod Beginnings

@@ -7,7 +7,7 @@ use lib.ListN.{length, drop}
 use Rattle.text.specs.Tokens.{Name, Token, word, name, long, bad, SLOT, WHEN, IF, THEN, AND, NOT, TRUE, NONE, OPEN, CLOSE, COMMA, SEMICOLON, BECOMES, HAS, GETS, tokens}
 use Rattle.model.specs.Rules.{Pair, Literal, Rule, assigns}
 use Rattle.model.specs.Result.{pair}
-use Rattle.laws.specs.Limits.{text-limit, slot-limit, value-limit, rule-limit, literal-limit, assignment-limit}
+use Rattle.laws.specs.Limits.{text-limit, slot-limit, value-limit, rule-limit, literal-limit, assignment-limit, program-text-limit, program-rule-limit}
 use Rattle.grammar.specs.Files.{Slot, File, place-in, slot-names, values-of}
 
 -- What reading a part gives: what it read and the tokens left, or the number of a refusal.
@@ -211,17 +211,25 @@ read-rules (suc room) slots sofar [] = accepted (record { slots = slots; rules =
 read-rules (suc room) slots sofar (t ∷ ts) =
     go-on (length sofar) (read-rule slots (t ∷ ts)) (λ r rest. read-rules room slots (sofar ++ r ∷ []) rest)
 
--- The slot lines, where `room` more may come after `slots`, then the rules. 15: one too many, at SLOT.
-unfoldable pub read-lines : ℕ → List Slot → List Token → Parsed
-read-lines zero slots ts = if-next SLOT (λ more. refused 15 0) (read-rules rule-limit slots []) ts
-read-lines (suc room) slots ts =
-    if-next SLOT (λ more. go-on 0 (read-line slots more) (λ s rest. read-lines room (slots ++ s ∷ []) rest))
-    (read-rules rule-limit slots []) ts
+-- The slot lines, where `room` more may come after `slots`, then the rules, `most` of them. 15: one too many, at SLOT.
+unfoldable pub read-lines : ℕ → ℕ → List Slot → List Token → Parsed
+read-lines most zero slots ts = if-next SLOT (λ more. refused 15 0) (read-rules most slots []) ts
+read-lines most (suc room) slots ts =
+    if-next SLOT (λ more. go-on 0 (read-line slots more) (λ s rest. read-lines most room (slots ++ s ∷ []) rest))
+    (read-rules most slots []) ts
 
--- The reading of tokens.
-unfoldable pub read-tokens : List Token → Parsed
-read-tokens ts = read-lines slot-limit [] ts
+-- The reading of tokens that takes so many rules.
+unfoldable pub read-tokens : ℕ → List Token → Parsed
+read-tokens most ts = read-lines most slot-limit [] ts
 
--- The reading of a text, all but refusal 18. 10: text over 65,535 bytes.
-unfoldable pub parse : List ℕ → Parsed
-parse text = cond (leb (length text) text-limit) (read-tokens (tokens text)) (refused 10 0)
+-- The reading of a text that takes so many bytes and rules, all but refusal 18. 10: text over these bytes.
+unfoldable pub parse-within : ℕ → ℕ → List ℕ → Parsed
+parse-within bytes most text = cond (leb (length text) bytes) (read-tokens most (tokens text)) (refused 10 0)
+
+-- The library's, of 262,144 bytes and 2,000 rules.
+abbrev pub parse : List ℕ → Parsed
+parse = parse-within text-limit rule-limit
+
+-- The program's, of 65,535 bytes and 255 rules.
+abbrev pub program-parse : List ℕ → Parsed
+program-parse = parse-within program-text-limit program-rule-limit

@@ -3,6 +3,7 @@ use Prim.Native.Nat.{ℕ, _<_}
 use mathlib.Core.Path.{_≡_}
 use mathlib.Core.List.{List, [], _∷_, _++_}
 use lib.ListN.{length}
+use Rattle.laws.specs.Limits.{rule-limit}
 use Rattle.text.specs.Tokens.{Name, Token, word, name, long, bad}
 use Rattle.text.specs.Cut.{Free}
 use Rattle.grammar.specs.Grammar.{RuleTree, LineTree, FileTree, spell, spell-rules, spell-lines}
@@ -60,7 +61,7 @@ pub record Stands-at (ts : List Token) (k n : ℕ) : Type 0 where
 -- The refusal is the same whatever follows the faulty token.
 abbrev pub Decided : ℕ → ℕ → List Token → List Token → Type 0
 Decided k n before [] = Unit
-Decided k n before (t ∷ rest) = (later : List Token) → read-tokens (before ++ t ∷ later) ≡ refused k n
+Decided k n before (t ∷ rest) = (later : List Token) → read-tokens rule-limit (before ++ t ∷ later) ≡ refused k n
 
 -- No derivation goes on with the first of `after`, or, where there is none, none is whole.
 abbrev pub Stuck : List Token → List Token → Type 0

@@ -1,9 +1,13 @@
--- Document 01, 'Rule text': the limits, each said once.
+-- Document 01, 'Rule text': the limits, each said once; those of texts and rules are the library's (document 02, section 7), and the program has its own.
 use Prim.Native.Nat.{ℕ, _+_}
 
 -- Bytes in a text.
 abbrev pub text-limit : ℕ
 text-limit = 262144
+
+-- Bytes in a text that the program takes.
+abbrev pub program-text-limit : ℕ
+program-text-limit = 65535
 
 -- Bytes in a name.
 abbrev pub name-limit : ℕ
@@ -20,6 +24,10 @@ value-limit = 15
 -- Rules in a file.
 abbrev pub rule-limit : ℕ
 rule-limit = 2000
+
+-- Rules in a file that the program takes.
+abbrev pub program-rule-limit : ℕ
+program-rule-limit = 255
 
 -- Literals in a condition, TRUE not counted.
 abbrev pub literal-limit : ℕ

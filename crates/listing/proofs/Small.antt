@@ -22,7 +22,7 @@ use Rattle.laws.specs.Limits.{slot-limit, row, text-limit, rule-limit}
 use Rattle.table.specs.Link.{rules-of, value-counts}
 use Rattle.grammar.specs.Files.{Slot}
 use Rattle.grammar.specs.Reading as grammar
-use Rattle.grammar.specs.Reading.{Part, took, stop, expects, begins-with, if-next, read-rule, read-line, go-on, read-rules, read-lines, read-tokens, parse}
+use Rattle.grammar.specs.Reading.{Part, took, stop, expects, begins-with, if-next, read-rule, read-line, go-on, read-rules, read-lines, read-tokens, parse, parse-within}
 use Rattle.grammar.proofs.Accepts.{accepts-iff}
 use Rattle.grammar.proofs.Declared.{file-declared}
 use Rattle.table.specs.Empty.{empty-table}
@@ -73,18 +73,18 @@ low-next w f g ts a b = go (begins-with w ts)
     go true = a
     go false = b
 
-low-lines : (room : ℕ) (slots : List Slot) (ts : List Token) → Low (read-lines room slots ts)
+low-lines : (room : ℕ) (slots : List Slot) (ts : List Token) → Low (read-lines rule-limit room slots ts)
 unfolding read-lines
 low-lines zero slots ts = low-next SLOT (λ more. grammar.refused 15 0) (read-rules rule-limit slots []) ts (omega arith) (low-rules rule-limit slots [] ts (omega arith))
 low-lines (suc room) slots ts =
-    low-next SLOT (λ more. go-on 0 (read-line slots more) (λ s rest. read-lines room (slots ++ s ∷ []) rest)) (read-rules rule-limit slots []) ts
-    (low-on 0 (read-line slots ts) (λ s rest. read-lines room (slots ++ s ∷ []) rest) (omega arith) (λ s rest. low-lines room (slots ++ s ∷ []) rest)) (low-rules rule-limit slots [] ts (omega arith))
+    low-next SLOT (λ more. go-on 0 (read-line slots more) (λ s rest. read-lines rule-limit room (slots ++ s ∷ []) rest)) (read-rules rule-limit slots []) ts
+    (low-on 0 (read-line slots ts) (λ s rest. read-lines rule-limit room (slots ++ s ∷ []) rest) (omega arith) (λ s rest. low-lines room (slots ++ s ∷ []) rest)) (low-rules rule-limit slots [] ts (omega arith))
 
 low-read : (text : List ℕ) → Low (parse text)
-unfolding parse read-tokens
+unfolding parse-within read-tokens
 low-read text = go (leb (length text) text-limit)
   where
-    go : (b : Bool) → Low (cond b (read-lines slot-limit [] (tokens text)) (grammar.refused 10 0))
+    go : (b : Bool) → Low (cond b (read-lines rule-limit slot-limit [] (tokens text)) (grammar.refused 10 0))
     go true = low-lines slot-limit [] (tokens text)
     go false = omega arith
 

@@ -35,7 +35,7 @@ pub record Halfway (text : List ℕ) (t : Table) (slotspans valuespans rest : Li
   pub indexed : Indexed text slots slotspans valuespans
   pub few : length rules ≤ rule-limit
   pub tabled : t ≡ table-for (record { slots = slots; rules = rules })
-  pub same : read-on slots rules (tokens-past rest base 0) ≡ read-tokens (tokens text)
+  pub same : read-on slots rules (tokens-past rest base 0) ≡ read-tokens rule-limit (tokens text)
 
 pub halfway-start : (text : List ℕ) → length text ≤ text-limit → Halfway text empty-table (replicate slot-limit 0) (replicate pair-places 0) text 0
 unfolding read-on read-tokens tokens-past tokens
@@ -46,7 +46,7 @@ halfway-start text h = record {
   indexed = indexed-none text;
   few = omega arith;
   tabled = sym table-empty;
-  same = ap (λ (k : ℕ). read-lines k [] (tokens-from text 0 0)) (omega arith);
+  same = ap (λ (k : ℕ). read-lines rule-limit k [] (tokens-from text 0 0)) (omega arith);
 }
 
 pub halfway-width : {text slotspans valuespans rest : List ℕ} {t : Table} {base : ℕ} (H : Halfway text t slotspans valuespans rest base) → t .width ≡ length (H .slots)

@@ -30,7 +30,7 @@ longer : {A : Type 0} (xs : List A) (x : A) → length (xs ++ x ∷ []) ≡ suc 
 longer xs x = length-append xs (x ∷ []) ∙ omega arith
 
 -- Nothing is left.
-lines-none : (room : ℕ) (slots : List Slot) → read-lines room slots [] ≡ read-rules rule-limit slots [] []
+lines-none : (room : ℕ) (slots : List Slot) → read-lines rule-limit room slots [] ≡ read-rules rule-limit slots [] []
 unfolding read-lines if-next
 lines-none zero slots = refl
 lines-none (suc room) slots = refl
@@ -46,7 +46,7 @@ on-end slots [] = lines-none _ slots ∙ rules-none rule-limit slots []
 on-end slots (r ∷ rs) = rules-none _ slots (r ∷ rs)
 
 -- A slot line.
-line-full : (room : ℕ) (slots : List Slot) (ts : List Token) → room ≡ 0 → begins-with SLOT ts ≡ true → read-lines room slots ts ≡ refused 15 0
+line-full : (room : ℕ) (slots : List Slot) (ts : List Token) → room ≡ 0 → begins-with SLOT ts ≡ true → read-lines rule-limit room slots ts ≡ refused 15 0
 unfolding read-lines if-next
 line-full room slots ts e f = rw (e, f)
 
@@ -55,7 +55,7 @@ unfolding read-on
 on-line-full slots ts h f = line-full (slot-limit - length slots) slots ts (omega arith) f
 
 line-next : (room r : ℕ) (slots : List Slot) (ts left : List Token) (s : Slot) → room ≡ suc r → begins-with SLOT ts ≡ true → read-line slots ts ≡ took s left
-    → read-lines room slots ts ≡ read-lines r (slots ++ s ∷ []) left
+    → read-lines rule-limit room slots ts ≡ read-lines rule-limit r (slots ++ s ∷ []) left
 unfolding read-lines if-next go-on
 line-next room r slots ts left s e f g = rw (e, f, g)
 
@@ -66,7 +66,7 @@ on-line slots ts left s h f g =
     let l = longer slots s in
     line-next (slot-limit - length slots) (slot-limit - length (slots ++ s ∷ [])) slots ts left s (omega arith) f g
 
-line-stop : (room r : ℕ) (slots : List Slot) (ts : List Token) (k : ℕ) → room ≡ suc r → begins-with SLOT ts ≡ true → read-line slots ts ≡ stop k → read-lines room slots ts ≡ refused k 0
+line-stop : (room r : ℕ) (slots : List Slot) (ts : List Token) (k : ℕ) → room ≡ suc r → begins-with SLOT ts ≡ true → read-line slots ts ≡ stop k → read-lines rule-limit room slots ts ≡ refused k 0
 unfolding read-lines if-next go-on
 line-stop room r slots ts k e f g = rw (e, f, g)
 

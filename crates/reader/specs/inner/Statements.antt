@@ -23,7 +23,7 @@ use Rattle.reader.specs.declared.statements.Statement.{Statement}
 
 -- What the tokens left come to after these slots and rules: slot lines may still come while there is no rule.
 unfoldable pub read-on : List Slot → List Rule → List Token → Parsed
-read-on slots [] ts = read-lines (slot-limit - length slots) slots ts
+read-on slots [] ts = read-lines rule-limit (slot-limit - length slots) slots ts
 read-on slots (r ∷ rs) ts = read-rules (rule-limit - length (r ∷ rs)) slots (r ∷ rs) ts
 
 -- A rule must stand next: something stands there, and no SLOT where no rule came before.

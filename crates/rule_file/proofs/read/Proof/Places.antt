@@ -79,7 +79,7 @@ halfway c = c .before .before .before .before .statements .inv
 
 -- What the reading comes to by the statement.
 pub answer : (c : Reads) {x : Kind} → c .statement-next .result .kind ≡ x
-    → read-tokens (tokens (text-at c)) ≡ kind-answer (text-at c) (rest-at c) (base-at c) (halfway c .slots) (halfway c .rules) x (c .statement-next .result .line) (c .statement-next .result .rule)
+    → read-tokens rule-limit (tokens (text-at c)) ≡ kind-answer (text-at c) (rest-at c) (base-at c) (halfway c .slots) (halfway c .rules) x (c .statement-next .result .line) (c .statement-next .result .rule)
 answer c e =
     let H = halfway c in
     sym (H .same) ∙ c .statement-next .ensures .0 (H .slots) (H .rules) (H .indexed) (halfway-width H) (halfway-count H)
