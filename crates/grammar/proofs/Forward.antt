@@ -224,10 +224,10 @@ no-slot-first [] = refl
 no-slot-first (rule t c a ∷ ts) = refl
 
 -- Where no SLOT stands next the rules begin.
-pub rules-begin : (room : ℕ) (slots : List Slot) (ts : List Token) → begins-with SLOT ts ≡ false → read-lines rule-limit room slots ts ≡ read-rules rule-limit slots [] ts
+pub rules-begin : (most room : ℕ) (slots : List Slot) (ts : List Token) → begins-with SLOT ts ≡ false → read-lines most room slots ts ≡ read-rules most slots [] ts
 unfolding read-lines if-next
-rules-begin zero slots ts e = rw e
-rules-begin (suc room) slots ts e = rw e
+rules-begin most zero slots ts e = rw e
+rules-begin most (suc room) slots ts e = rw e
 
 -- There are at least as many slots in the end as before.
 lines-grow : (before : List Slot) (ts : List LineTree) (all : List Slot) → Means-lines before ts all → length before ≤ length all
@@ -237,7 +237,7 @@ lines-grow before ts all (more-lines {s = s} h hs) = let x = length-append befor
 lines-read : (before : List Slot) (ts : List LineTree) (all : List Slot) (us : List RuleTree) (room : ℕ) → Means-lines before ts all → length all ≤ room + length before
     → read-lines rule-limit room before (spell-lines ts (spell-rules us [])) ≡ read-rules rule-limit all [] (spell-rules us [])
 unfolding read-lines if-next go-on
-lines-read before ts all us room no-lines h = rules-begin room before (spell-rules us []) (no-slot-first us)
+lines-read before ts all us room no-lines h = rules-begin rule-limit room before (spell-rules us []) (no-slot-first us)
 lines-read before ts all us zero (more-lines {s = s} g gs) h = absurd (let x = length-append before (s ∷ []) in let y = lines-grow _ _ all gs in omega arith)
 lines-read before ts all us (suc room) (more-lines {t = line n vs} {s = s} {ts = ws} g gs) h =
     rw (line-read before (line n vs) s (spell-lines ws (spell-rules us [])) g)
@@ -251,15 +251,15 @@ tree-read t f m =
     ∙ rules-read (f .slots) (t .rules) (f .rules) [] rule-limit (m .rules-are) (m .few-rules)
 
 -- A text within the limit is read by its tokens.
-pub read-short : (text : List ℕ) → length text ≤ text-limit → parse text ≡ read-tokens rule-limit (tokens text)
+pub read-short : (bytes most : ℕ) (text : List ℕ) → length text ≤ bytes → parse-within bytes most text ≡ read-tokens most (tokens text)
 unfolding parse-within
-read-short text h = rw (le-leb (length text) text-limit h)
+read-short bytes most text h = rw (le-leb (length text) bytes h)
 
 -- A text over the limit is refused with 10.
-pub read-long : (text : List ℕ) → text-limit < length text → parse text ≡ refused 10 0
+pub read-long : (bytes most : ℕ) (text : List ℕ) → bytes < length text → parse-within bytes most text ≡ refused 10 0
 unfolding parse-within
-read-long text h = rw (lt-leb (length text) text-limit h)
+read-long bytes most text h = rw (lt-leb (length text) bytes h)
 
 -- A text that is a file is read as that file.
 pub file-parsed : (text : List ℕ) (f : File) → Is-file text f → parse text ≡ accepted f
-file-parsed text f h = read-short text (h .short) ∙ ap (read-tokens rule-limit) (sym (h .derives)) ∙ tree-read (h .tree) f (h .means)
+file-parsed text f h = read-short text-limit rule-limit text (h .short) ∙ ap (read-tokens rule-limit) (sym (h .derives)) ∙ tree-read (h .tree) f (h .means)

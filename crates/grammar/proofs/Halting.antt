@@ -205,7 +205,7 @@ abbrev pub Lines-halt : ℕ → List Slot → List Token → ℕ → ℕ → Typ
 Lines-halt room before ts k n = Halt Begins-file (read-lines rule-limit room before) (File-done n) ts k n
 
 lines-at-rules : (room : ℕ) (before : List Slot) → Clean (read-lines rule-limit room before) 0 []
-lines-at-rules room before = inr (record { slots = before; rules = [] }, rules-begin room before [] refl ∙ rules-end rule-limit before [], refl)
+lines-at-rules room before = inr (record { slots = before; rules = [] }, rules-begin rule-limit room before [] refl ∙ rules-end rule-limit before [], refl)
 
 -- The rules are refused.
 rules-refused : (room : ℕ) (before : List Slot) (ts : List Token) (k n : ℕ) → begins-with SLOT ts ≡ false → read-rules rule-limit before [] ts ≡ refused k n → Lines-halt room before ts k n
@@ -215,8 +215,8 @@ rules-refused room before ts k n off e =
     record {
       stopped = stop-where Begins-rules (Clean (read-rules rule-limit before []) n) (λ us. read-rules rule-limit before [] us ≡ refused k n)
           Begins-file (Clean (read-lines rule-limit room before) n) (λ us. read-lines rule-limit room before us ≡ refused k n) SLOT false (λ us b. ([], b .0, b .1, b .2))
-          (λ us o c. let on = rules-begin room before us (nothing-next SLOT us o) in ⊎-elim (λ q. inl (on ∙ q)) (λ q. inr (q .0, on ∙ q .1, q .2)) c)
-          (λ t us o q. rules-begin room before (t ∷ us) o ∙ q) ts k off (h .stopped);
+          (λ us o c. let on = rules-begin rule-limit room before us (nothing-next SLOT us o) in ⊎-elim (λ q. inl (on ∙ q)) (λ q. inr (q .0, on ∙ q .1, q .2)) c)
+          (λ t us o q. rules-begin rule-limit room before (t ∷ us) o ∙ q) ts k off (h .stopped);
       completed = (let c = h .completed in ([], c .0, c .1, c .2, c .3, (let z = c .4 in omega arith)));
     }
 
@@ -276,7 +276,7 @@ lines-halt zero before ts k n e = go (begins-with SLOT ts) refl
         let z = refused-same 15 0 k n (sym (ap (read-lines rule-limit zero before) (m .1) ∙ slot-too-many before (m .0)) ∙ e) in
         subst (λ (us : List Token). Lines-halt zero before us k n) (sym (m .1))
         (subst (λ (j : ℕ). Lines-halt zero before (word SLOT ∷ m .0) j n) (z .0) (subst (Lines-halt zero before (word SLOT ∷ m .0) 15) (z .1) (many-lines before (m .0))))
-    go false q = rules-refused zero before ts k n q (sym (rules-begin zero before ts q) ∙ e)
+    go false q = rules-refused zero before ts k n q (sym (rules-begin rule-limit zero before ts q) ∙ e)
 lines-halt (suc room) before ts k n e = go (begins-with SLOT ts) refl (λ s left. lines-halt room (before ++ s ∷ []) left k n)
   where
     go : (b : Bool) → begins-with SLOT ts ≡ b → ((s : Slot) (left : List Token) → read-lines rule-limit room (before ++ s ∷ []) left ≡ refused k n → Lines-halt room (before ++ s ∷ []) left k n) → Lines-halt (suc room) before ts k n
@@ -284,7 +284,7 @@ lines-halt (suc room) before ts k n e = go (begins-with SLOT ts) refl (λ s left
         ⊎-elim (λ m. subst (Lines-halt (suc room) before ts k) (m .1) (line-halt room before ts k q (m .0)))
         (λ m. let x = reader-line before .reads ts (m .0) (m .1) (m .2) in past-line room before (m .0) (x .0) ts (m .1) k n (x .1) (x .2) (again (m .0) (m .1) (m .3)))
         (go-on-stops 0 (read-line before ts) (λ s rest. read-lines rule-limit room (before ++ s ∷ []) rest) k n (sym (line-next room before ts q) ∙ e))
-    go false q again = rules-refused (suc room) before ts k n q (sym (rules-begin (suc room) before ts q) ∙ e)
+    go false q again = rules-refused (suc room) before ts k n q (sym (rules-begin rule-limit (suc room) before ts q) ∙ e)
 
 -- The reading of a derived file is accepted, or refused with a number from 14 on.
 abbrev pub Fits-file : Parsed → Type 0
@@ -308,7 +308,7 @@ rules-fit (rule t c a ∷ us) (suc room) slots sofar =
     rules-next room slots sofar v vs = unfold read-rules in refl
 
 pub lines-fit : (ls : List LineTree) (us : List RuleTree) (room : ℕ) (before : List Slot) → Fits-file (read-lines rule-limit room before (spell-lines ls (spell-rules us [])))
-lines-fit [] us room before = subst Fits-file (sym (rules-begin room before (spell-rules us []) (no-slot-first us))) (rules-fit us rule-limit before [])
+lines-fit [] us room before = subst Fits-file (sym (rules-begin rule-limit room before (spell-rules us []) (no-slot-first us))) (rules-fit us rule-limit before [])
 lines-fit (line n vs ∷ ls) us zero before = subst Fits-file (sym (slot-too-many before _)) (omega arith)
 lines-fit (line n vs ∷ ls) us (suc room) before =
     subst Fits-file (sym (line-next room before (spell-line (line n vs) (spell-lines ls (spell-rules us []))) refl))

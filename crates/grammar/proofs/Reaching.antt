@@ -69,7 +69,7 @@ value-step ns n us k few fresh h (suc room) e = values-step room ns n (word COMM
 
 -- Rules.
 rules-step : (slots : List Slot) (us : List Token) (k : ℕ) → Halts (next-rule slots []) us k → Halts (next-line slots) us k
-rules-step slots us k h room e = let x = h .1 rule-limit (omega arith) in (x .0, rules-begin room slots us (h .0) ∙ x .1)
+rules-step slots us k h room e = let x = h .1 rule-limit (omega arith) in (x .0, rules-begin rule-limit room slots us (h .0) ∙ x .1)
 
 no-slot : (t : RuleTree) (us : List Token) → begins-with SLOT (spell-rule t us) ≡ false
 no-slot (rule t c a) us = refl

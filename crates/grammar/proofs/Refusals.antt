@@ -109,7 +109,7 @@ pub text-refused-iff : (text : List ℕ) (k n : ℕ) → (parse text ≡ refused
 text-refused-iff text k n = (refusal-stands text k n, back)
   where
     back : ((k ≡ 10) × (n ≡ 0) × (text-limit < length text)) ⊎ ((length text ≤ text-limit) × Stands-at (tokens text) k n) → parse text ≡ refused k n
-    back x = ⊎-elim (λ y. read-long text (y .2) ∙ sym (ap₂ refused (y .0) (y .1))) (λ y. read-short text (y .0) ∙ refused-iff (tokens text) k n .1 (y .1)) x
+    back x = ⊎-elim (λ y. read-long text-limit rule-limit text (y .2) ∙ sym (ap₂ refused (y .0) (y .1))) (λ y. read-short text-limit rule-limit text (y .0) ∙ refused-iff (tokens text) k n .1 (y .1)) x
 
 -- Refusal 12 stands exactly at the first token with which no derivation goes on, or at the end of an unfinished one, where no other fault comes before it.
 pub twelve-iff : (ts : List Token) (n : ℕ) → (read-tokens rule-limit ts ≡ refused 12 n) ↔ Stuck-first ts n

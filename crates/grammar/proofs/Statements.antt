@@ -229,7 +229,7 @@ lines-together : (bs rs : List (List ℕ)) (room : ℕ) (before all : List Slot)
     → Forall₂ (Read-rule all) rs rules → length rules ≤ rule-limit → tokens-from w 0 0 ≡ []
     → read-lines rule-limit room before (tokens-from (joined (bs ++ rs) w) 0 p) ≡ accepted (record { slots = all; rules = rules })
 lines-together bs rs room before all rules w p no-more-lines h g few e =
-    rules-begin room before (tokens-from (joined rs w) 0 p) (no-slot-next before rs rules w p g e) ∙ rules-together rs rule-limit before [] rules w p g few e
+    rules-begin rule-limit room before (tokens-from (joined rs w) 0 p) (no-slot-next before rs rules w p g e) ∙ rules-together rs rule-limit before [] rules w p g few e
 lines-together bs rs zero before all rules w p (one-more-line {s = s} l ls) h g few e =
     absurd (let x = length-append before (s ∷ []) in let y = slots-grow _ _ _ all ls in omega arith)
 lines-together bs rs (suc room) before all rules w p (one-more-line {b = b} {bs = cs} {s = s} l ls) h g few e =

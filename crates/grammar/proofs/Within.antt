@@ -10,11 +10,13 @@ use native.Mathlib.Nat.{le-of-suc-le-suc}
 use lib.ListN.{length, length-append}
 use borrow.Author.Tests.{le-leb, lt-leb}
 use Rattle.laws.proofs.Truth.{le-or-lt}
-use Rattle.laws.specs.Limits.{slot-limit}
+use Rattle.laws.specs.Limits.{text-limit, slot-limit, rule-limit, program-text-limit, program-rule-limit}
 use Rattle.model.specs.Rules.{Rule}
 use Rattle.text.specs.Tokens.{Token, SLOT, WHEN, tokens}
+use Rattle.table.specs.declared.Limits.{Limits}
+use Rattle.table.specs.declared.Limits.the-variants.{Library, Program}
 use Rattle.grammar.specs.Files.{Slot, File}
-use Rattle.grammar.specs.Reading.{Part, took, stop, Parsed, accepted, refused, expects, _then_, begins-with, if-next, go-on, read-rule, read-line, read-rules, read-lines, read-tokens, parse-within}
+use Rattle.grammar.specs.Reading.{Part, took, stop, Parsed, accepted, refused, expects, _then_, begins-with, if-next, go-on, read-rule, read-line, read-rules, read-lines, read-tokens, parse-within, parse, parse-by, bytes-by, rules-by}
 use Rattle.grammar.proofs.Backward.{refused-never}
 use Rattle.grammar.specs.Within.{At-most, Beyond, Smaller, too-long, too-many, the-same}
 
@@ -136,3 +138,17 @@ smaller-accepted bytes most large more text f h l e = go (parse-within large mor
     go x y p q (too-long s) = refused-never 10 0 f q
     go x y p q (too-many s b) = refused-never 15 most f q
     go x y p q (the-same s a) = (p ∙ q, subst (At-most most) q a)
+
+-- By the program's limits a text is accepted as the library accepts it, with no more rules than the program takes.
+pub accepted-by : (l : Limits) (text : List ℕ) (f : File) → parse-by l text ≡ accepted f → (parse text ≡ accepted f) × (length (f .rules) ≤ rules-by l)
+accepted-by Library text f = smaller-accepted text-limit rule-limit text-limit rule-limit text f (omega arith) (omega arith)
+accepted-by Program text f = smaller-accepted program-text-limit program-rule-limit text-limit rule-limit text f (omega arith) (omega arith)
+
+-- No limits are above the library's.
+pub rules-low : (l : Limits) → rules-by l ≤ rule-limit
+rules-low Library = omega arith
+rules-low Program = omega arith
+
+pub bytes-low : (l : Limits) → bytes-by l ≤ text-limit
+bytes-low Library = omega arith
+bytes-low Program = omega arith

@@ -8,6 +8,8 @@ use Rattle.text.specs.Tokens.{Name, Token, word, name, long, bad, SLOT, WHEN, I
 use Rattle.model.specs.Rules.{Pair, Literal, Rule, assigns}
 use Rattle.model.specs.Result.{pair}
 use Rattle.laws.specs.Limits.{text-limit, slot-limit, value-limit, rule-limit, literal-limit, assignment-limit, program-text-limit, program-rule-limit}
+use Rattle.table.specs.declared.Limits.{Limits}
+use Rattle.table.specs.declared.Limits.the-variants.{Library, Program}
 use Rattle.grammar.specs.Files.{Slot, File, place-in, slot-names, values-of}
 
 -- What reading a part gives: what it read and the tokens left, or the number of a refusal.
@@ -230,6 +232,15 @@ parse-within bytes most text = cond (leb (length text) bytes) (read-tokens most 
 abbrev pub parse : List ℕ → Parsed
 parse = parse-within text-limit rule-limit
 
--- The program's, of 65,535 bytes and 255 rules.
-abbrev pub program-parse : List ℕ → Parsed
-program-parse = parse-within program-text-limit program-rule-limit
+-- How many bytes and rules a reading takes by whose limits it reads (document 02, section 7).
+abbrev pub bytes-by : Limits → ℕ
+bytes-by Library = text-limit
+bytes-by Program = program-text-limit
+
+abbrev pub rules-by : Limits → ℕ
+rules-by Library = rule-limit
+rules-by Program = program-rule-limit
+
+-- The reading of a text by these limits: `parse` is the library's.
+abbrev pub parse-by : Limits → List ℕ → Parsed
+parse-by limits = parse-within (bytes-by limits) (rules-by limits)

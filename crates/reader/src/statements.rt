@@ -58,9 +58,9 @@ fn slot_statement(
     width: usize,
 ) -> Statement
     requires { ⌜ Classes (now classes) × Remainder (now text) (now rest) base ⌝ }
-    ensures { λ r. ⌜ ((slots : List Slot) (valuespans : List ℕ) → Indexed (now (text .entry)) slots (now (slotspans .entry)) valuespans → width ≡ length slots
-        → expects SLOT (tokens-past (now (rest .entry)) base 0) ≡ took tt (tokens-past (now (rest .entry)) base at) → read-on slots [] (tokens-past (now (rest .entry)) base 0) ≡ statement-answer (now (text .entry)) (now (rest .entry)) base slots [] r)
-        × Statement-lies (now (text .entry)) (length (now (rest .entry))) width 0 r ⌝ }
+    ensures { λ r. ⌜ ((most : ℕ) (slots : List Slot) (valuespans : List ℕ) → Indexed (now (text .entry)) slots (now (slotspans .entry)) valuespans → width ≡ length slots
+        → expects SLOT (tokens-past (now (rest .entry)) base 0) ≡ took tt (tokens-past (now (rest .entry)) base at) → read-on most slots [] (tokens-past (now (rest .entry)) base 0) ≡ statement-answer most (now (text .entry)) (now (rest .entry)) base slots [] r)
+        × ((most : ℕ) → Statement-lies most (now (text .entry)) (length (now (rest .entry))) width 0 r) ⌝ }
 {
     if SLOTS <= width {
         return Statement {
@@ -85,7 +85,7 @@ fn slot_statement(
     }
 }
 
-// A rule after `count` others, its WHEN read.
+// A rule after `count` others of `most` that are taken, its WHEN read.
 fn rule_statement(
     text: &[u8],
     rest: &[u8],
@@ -94,14 +94,15 @@ fn rule_statement(
     valuespans: &[usize],
     at: usize,
     count: usize,
+    most: usize,
 ) -> Statement
     requires { ⌜ Classes (now classes) × (length (now valuespans) ≡ pair-places) ⌝ }
     ensures { λ r. ⌜ ((base : ℕ) (slots : List Slot) (rules : List model.Rule) → Indexed (now (text .entry)) slots (now (slotspans .entry)) (now (valuespans .entry)) → count ≡ length rules
         → Rule-next rules (tokens-past (now (rest .entry)) base 0) → expects WHEN (tokens-past (now (rest .entry)) base 0) ≡ took tt (tokens-past (now (rest .entry)) base at)
-        → read-on slots rules (tokens-past (now (rest .entry)) base 0) ≡ statement-answer (now (text .entry)) (now (rest .entry)) base slots rules r)
-        × ((width : ℕ) → Statement-lies (now (text .entry)) (length (now (rest .entry))) width count r) ⌝ }
+        → read-on most slots rules (tokens-past (now (rest .entry)) base 0) ≡ statement-answer most (now (text .entry)) (now (rest .entry)) base slots rules r)
+        × ((width : ℕ) → Statement-lies most (now (text .entry)) (length (now (rest .entry))) width count r) ⌝ }
 {
-    if table::RULES <= count {
+    if most <= count {
         return Statement {
             kind: Kind::Refused(15),
             line: no_line(),
@@ -125,7 +126,7 @@ fn rule_statement(
     }
 }
 
-// The statement at the front of the remainder, after `width` slot lines and `count` rules.
+// The statement at the front of the remainder, after `width` slot lines and `count` rules of `most` that are taken.
 pub fn statement_next(
     text: &[u8],
     rest: &[u8],
@@ -135,11 +136,12 @@ pub fn statement_next(
     valuespans: &[usize],
     width: usize,
     count: usize,
+    most: usize,
 ) -> Statement
     requires { ⌜ Classes (now classes) × Remainder (now text) (now rest) base × (length (now valuespans) ≡ pair-places) ⌝ }
     ensures { λ r. ⌜ ((slots : List Slot) (rules : List model.Rule) → Indexed (now (text .entry)) slots (now (slotspans .entry)) (now (valuespans .entry)) → width ≡ length slots → count ≡ length rules
-        → read-on slots rules (tokens-past (now (rest .entry)) base 0) ≡ statement-answer (now (text .entry)) (now (rest .entry)) base slots rules r)
-        × Statement-lies (now (text .entry)) (length (now (rest .entry))) width count r ⌝ }
+        → read-on most slots rules (tokens-past (now (rest .entry)) base 0) ≡ statement-answer most (now (text .entry)) (now (rest .entry)) base slots rules r)
+        × Statement-lies most (now (text .entry)) (length (now (rest .entry))) width count r ⌝ }
 {
     let first = text::first_token(rest, classes);
     let token = first.token;
@@ -158,7 +160,7 @@ pub fn statement_next(
     }
     let when = word_of(first, text::WHEN);
     match when {
-        Step::At(at) => rule_statement(text, rest, classes, slotspans, valuespans, at, count),
+        Step::At(at) => rule_statement(text, rest, classes, slotspans, valuespans, at, count, most),
         Step::Fault(k) => Statement {
             kind: Kind::Refused(k),
             line: no_line(),

@@ -8,6 +8,8 @@ use Prim.Native.Nat.{ℕ, _≤_, _<_}
 use native.Mathlib.Omega.{arith}
 use lib.Dec.{T, eqb}
 use borrow.Author.Tests.{eqb-true, eqb-false, eq-eqb, ne-eqb}
+use lib.ListN.{length}
+use Rattle.laws.specs.Limits.{rule-limit}
 use Rattle.model.specs.Rules as model
 use Rattle.model.specs.Strata.{weak, Strata}
 use Rattle.model.specs.Circles.{LowestThroughNot, circle-of}
@@ -18,13 +20,14 @@ use Rattle.model.proofs.Steps.{through-not-i, lowest-through-not, one-lowest}
 use Rattle.table.specs.declared.Table.{Table}
 use Rattle.table.specs.declared.Way.{Way}
 use Rattle.table.specs.declared.Way.the-variants as way
+use Rattle.table.specs.declared.Limits.{Limits}
 use Rattle.table.specs.Empty.{empty-table}
 use Rattle.table.specs.inner.Fits.{TableFits}
 use Rattle.table.specs.inner.Shape.{Shaped}
 use Rattle.table.specs.Link.{rules-of}
 use Rattle.grammar.specs.Files.{File}
 use Rattle.grammar.specs.Meaning.{Is-file}
-use Rattle.grammar.specs.Reading.{Parsed, accepted, refused, parse}
+use Rattle.grammar.specs.Reading.{Parsed, accepted, refused, parse, parse-by}
 use Rattle.grammar.proofs.Accepts.{accepts-iff}
 use Rattle.grammar.proofs.Declared.{file-declared}
 use Rattle.grammar.proofs.Faults.{fault-range}
@@ -41,8 +44,8 @@ use Rattle.grammar.specs.TableFor.{table-for}
 use Rattle.reader.specs.declared.Outcome.the-variants.{Accepted, Refused}
 use Rattle.reader.specs.declared.FileRead.{FileRead}
 use Rattle.rule_file.specs.Carries.{Carries}
-use Rattle.rule_file.specs.Whole.{layered, answered-whole, reading, unlayered, answered-without-18, reading-without-18, read-by}
-use Rattle.rule_file.proofs.FileTable.{file-rules, file-counts, file-shaped, file-well-formed}
+use Rattle.rule_file.specs.Whole.{layered, answered-whole, reading, unlayered, answered-without-18, reading-without-18, read-within}
+use Rattle.rule_file.proofs.FileTable.{file-rules, file-counts, file-shaped, file-places, file-well-formed}
 use Rattle.rule_file.proofs.Shown.{slots-show, values-show}
 
 pub reading-file : (text : List ℕ) (f : File) → parse text ≡ accepted f → reading text ≡ layered f
@@ -80,26 +83,32 @@ file-table-fits text f e =
 pub file-table-shaped : (text : List ℕ) (f : File) → parse text ≡ accepted f → Shaped (table-for f)
 file-table-shaped text f e = file-shaped f (file-declared text f (accepts-iff text f .0 e))
 
+pub file-table-places : (text : List ℕ) (f : File) → parse text ≡ accepted f → length (table-for f .rules) ≡ rule-limit
+file-table-places text f e = file-places f (file-declared text f (accepts-iff text f .0 e))
+
 -- What the code answers: a file's table with the least strata, 18, its table as it is, or the grammar's refusal.
-module _ (w : Way) (text : List ℕ) where
-  pub whole-layered : (f : File) (u : Table) → w ≡ way.Strata → parse text ≡ accepted f → circle-of weak (f .rules) ≡ 0 → u ≡ with-strata (table-for f)
-      → record { outcome = Accepted; table = u } ≡ read-by w text
-  whole-layered f u is e z d = rw is (ap (λ (x : Table). record { outcome = Accepted; table = x }) d ∙ sym (reading-file text f e ∙ layered-zero f z))
+module _ (w : Way) (l : Limits) (text : List ℕ) where
+  pub whole-layered : (f : File) (u : Table) → w ≡ way.Strata → parse-by l text ≡ accepted f → circle-of weak (f .rules) ≡ 0 → u ≡ with-strata (table-for f)
+      → record { outcome = Accepted; table = u } ≡ read-within w l text
+  unfolding answered-whole
+  whole-layered f u is e z d = rw is (ap (λ (x : Table). record { outcome = Accepted; table = x }) d ∙ sym (ap answered-whole e ∙ layered-zero f z))
 
-  pub whole-circle : (f : File) (k : ℕ) → w ≡ way.Strata → parse text ≡ accepted f → k ≡ circle-of weak (f .rules) → 0 < k
-      → record { outcome = Refused 18 k; table = empty-table } ≡ read-by w text
-  whole-circle f k is e z l = rw (is, z) (sym (reading-file text f e ∙ layered-circle f (λ (n : circle-of weak (f .rules) ≡ 0). omega arith)))
+  pub whole-circle : (f : File) (k : ℕ) → w ≡ way.Strata → parse-by l text ≡ accepted f → k ≡ circle-of weak (f .rules) → 0 < k
+      → record { outcome = Refused 18 k; table = empty-table } ≡ read-within w l text
+  unfolding answered-whole
+  whole-circle f k is e z h = rw (is, z) (sym (ap answered-whole e ∙ layered-circle f (λ (n : circle-of weak (f .rules) ≡ 0). omega arith)))
 
-  pub whole-unlayered : (f : File) (u : Table) → w ≡ way.Marks → parse text ≡ accepted f → u ≡ table-for f → record { outcome = Accepted; table = u } ≡ read-by w text
-  unfolding unlayered
-  whole-unlayered f u is e d = rw is (ap (λ (x : Table). record { outcome = Accepted; table = x }) d ∙ sym (without-18-file text f e))
+  pub whole-unlayered : (f : File) (u : Table) → w ≡ way.Marks → parse-by l text ≡ accepted f → u ≡ table-for f → record { outcome = Accepted; table = u } ≡ read-within w l text
+  unfolding unlayered answered-without-18
+  whole-unlayered f u is e d = rw is (ap (λ (x : Table). record { outcome = Accepted; table = x }) d ∙ sym (ap answered-without-18 e))
 
-  pub whole-refused : (k n : ℕ) → parse text ≡ refused k n → record { outcome = Refused k n; table = empty-table } ≡ read-by w text
+  pub whole-refused : (k n : ℕ) → parse-by l text ≡ refused k n → record { outcome = Refused k n; table = empty-table } ≡ read-within w l text
+  unfolding answered-whole answered-without-18
   whole-refused k n e = go w
     where
-      go : (v : Way) → record { outcome = Refused k n; table = empty-table } ≡ read-by v text
-      go way.Strata = sym (reading-refused text k n e)
-      go way.Marks = sym (without-18-refused text k n e)
+      go : (v : Way) → record { outcome = Refused k n; table = empty-table } ≡ read-within v l text
+      go way.Strata = sym (ap answered-whole e)
+      go way.Marks = sym (ap answered-without-18 e)
 
 -- The grammar's reading gives 10 to 17.
 pub refused-range : (text : List ℕ) (k n : ℕ) → parse text ≡ refused k n → (10 ≤ k) × (k ≤ 17)

@@ -112,7 +112,7 @@ rule-for-shaped r few-l few-a t ls ps =
       each-literal = filled-each LiteralShaped literal-limit zero-literal (map literal-for (r .literals)) zero-literal (omega (arith, few-l, sized)) (record { slot-byte = omega arith; value-byte = omega arith }) literal;
       assignment-places = filled-length assignment-limit zero-assignment (map assignment-for (r .assignments)) (omega (arith, few-a, counted));
       each-assignment = filled-each AssignmentShaped assignment-limit zero-assignment (map assignment-for (r .assignments)) zero-assignment (omega (arith, few-a, counted)) (record { slot-byte = omega arith; value-byte = omega arith }) assignment;
-      stratum-byte = omega arith;
+      stratum-small = omega arith;
     }
   where
     sized : length (map literal-for (r .literals)) ≡ length (r .literals)
@@ -184,6 +184,11 @@ module _ (f : File) (D : Declared-file f) where
       rw (any-default (map slot-for (f .slots)) i zero-slot (slot-for files.no-slot) h, List·getD-map slot-for (f .slots) i files.no-slot)
       (record { value-places = filled-length value-limit zero-name (map name-for (getD (f .slots) i files.no-slot .values)) (omega (arith, slot-some i k .1, length-map (getD (f .slots) i files.no-slot .values) name-for)) })
 
+  -- The table has all places for rules.
+  pub file-places : length (table-for f .rules) ≡ rule-limit
+  unfolding table-for
+  file-places = filled-length rule-limit unused-rule (map rule-for (f .rules)) (omega (arith, length-map (f .rules) rule-for, D .few-rules))
+
   -- The table's places are full.
   pub file-shaped : Shaped (table-for f)
   unfolding table-for
@@ -193,8 +198,8 @@ module _ (f : File) (D : Declared-file f) where
       record {
         slot-places = filled-length slot-limit unused-slot (map slot-for (f .slots)) (omega (arith, s, D .few-slots));
         each-slot = filled-each SlotShaped slot-limit unused-slot (map slot-for (f .slots)) zero-slot (omega (arith, s, D .few-slots)) (record { value-places = refl }) slot-shaped;
-        rule-places = filled-length rule-limit unused-rule (map rule-for (f .rules)) (omega (arith, r, D .few-rules));
-        each-rule = filled-each RuleShaped rule-limit unused-rule (map rule-for (f .rules)) zero-rule (omega (arith, r, D .few-rules)) unused-shaped declared-shaped;
+        rule-places = λ h. rw file-places h;
+        each-rule = λ i h. filled-each RuleShaped rule-limit unused-rule (map rule-for (f .rules)) zero-rule (omega (arith, r, D .few-rules)) unused-shaped declared-shaped i (rw file-places at h);
       }
 
   -- The rule at a place used, and the number of values of a slot.

@@ -2,15 +2,17 @@
 ghost use mathlib.Core.Path.{_≡_};
 ghost use Rattle.table.specs.Empty.{empty-table};
 ghost use Rattle.reader.specs.declared.Outcome.the-variants as outcome;
-ghost use Rattle.rule_file.specs.Whole.{read-by};
+ghost use Rattle.rule_file.specs.Whole.{read-within};
 use lines::enter;
 use lines::slot_of;
 use reader::FileRead;
 use reader::Outcome;
-use reader::TEXT_LIMIT;
+use reader::most_bytes;
+use reader::most_rules;
 use reader::statements::Kind;
 use reader::statements::statement_next;
 use rows::NUMBERS;
+use table::Limits;
 use table::PAIRS;
 use table::RULES;
 use table::SLOTS;
@@ -27,14 +29,15 @@ fn refused(k: u8, n: usize) -> FileRead
     }
 }
 
-// The reading of any bytes of any length: the statements one after the other, after each of which the remainder is handed on; at the end the strata, if asked.
+// The reading of any bytes of any length, by the library's limits or the program's: the statements one after the other, after each of which the remainder is handed on; at the end the strata, if asked.
 // The table stands in this function alone, from the first statement to the last stratum, so that it is copied once: where it is returned.
-pub fn read(text: &[u8], way: Way) -> FileRead
-    ensures { λ r. ⌜ r ≡ read-by way (now (text .entry)) ⌝ }
+pub fn read(text: &[u8], way: Way, limits: Limits) -> FileRead
+    ensures { λ r. ⌜ r ≡ read-within way limits (now (text .entry)) ⌝ }
 {
-    if TEXT_LIMIT < text.len() {
+    if most_bytes(limits) < text.len() {
         return refused(10, 0);
     }
+    let most = most_rules(limits);
     let classes = classes::table();
     let mut t = table::empty_table();
     let mut slotspans: [usize; SLOTS] = [0; SLOTS];
@@ -53,6 +56,7 @@ pub fn read(text: &[u8], way: Way) -> FileRead
             &valuespans,
             width,
             count,
+            most,
         );
         let kind = statement.kind;
         match kind {

@@ -24,7 +24,7 @@ pub enum Number {
 }
 
 // What a key is multiplied by in a span: more than every place times 32.
-pub const KEYED: usize = 2097152;
+pub const KEYED: usize = 16777216;
 
 // A byte as a larger number.
 fn wide(b: u8) -> usize

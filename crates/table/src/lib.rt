@@ -25,6 +25,12 @@ pub enum Way {
     Marks,
 }
 
+// Whose limits a text is read by (document 02, section 7): the library's, or the smaller ones of the program.
+pub enum Limits {
+    Library,
+    Program,
+}
+
 // A stratum, from 1.
 pub type Stratum = u16;
 

@@ -4,19 +4,21 @@ mod Places
 use Prim.Native.Nat.{ℕ}
 use native.Mathlib.Omega.{arith}
 use mathlib.Core.Path.{_≡_, refl, sym, ap, _∙_}
-use lib.ListN.{length-take, length-drop}
+use lib.ListN.{replicate, length-take, length-drop, length-replicate, length-set}
 use borrow.Author.Needs.{needs}
-use Rattle.grammar.specs.Reading.{refused}
-use Rattle.grammar.proofs.Forward.{read-short, read-long}
+use Rattle.laws.specs.Limits.{rule-limit}
+use Rattle.grammar.specs.Reading.{refused, bytes-by, rules-by}
+use Rattle.grammar.proofs.Forward.{read-long}
+use Rattle.grammar.proofs.Within.{bytes-low, rules-low}
 use Rattle.lines.proofs.LineLaws.{remainder-place}
 use Rattle.reader.proofs.ReadLaws.{halfway-start, halfway-width, halfway-count, halfway-slot, halfway-rule}
-use Rattle.rows.proofs.Laws.{zero-shaped, entered-start, entered-next, entered-fits}
+use Rattle.rows.proofs.Laws.{zero-shaped, entered-start, entered-next}
 use Rattle.strata.specs.Layered.{with-strata}
 use Rattle.model.specs.Strata.{weak}
 use Rattle.model.specs.Circles.{circle-of}
 use Rattle.strata.proofs.Layered.{number-small, numbering-start, numbering-step, numbering-end}
 use Rattle.rule_file.proofs.Answers.{whole-layered, whole-circle, whole-unlayered, whole-refused}
-use Rattle.rule_file.proofs.read.Proof.Places.{Inv-rows, μ-rows, Inv-strata, μ-strata, Inv-statements, μ-statements, text-at, way-at, table-at, halfway, answer, slot-lies, rule-lies, file-of, ended, fits, shape, rules-are, end-at, table-in-rows, by-strata, entered, circle-is, numbers-are}
+use Rattle.rule_file.proofs.read.Proof.Places.{Inv-rows, μ-rows, Inv-strata, μ-strata, Inv-statements, μ-statements, text-at, way-at, limits-at, most-at, most-is, table-at, halfway, answer, slot-lies, rule-lies, file-of, within, ended-by, fits, shape, places, rules-are, end-at, table-in-rows, by-strata, entered, rows-fit, circle-is, numbers-are}
 use Rattle.rule_file.proofs.read.Statement.{statement}
 use Rattle.rule_file.proofs.read.Tie as tie
 
@@ -27,7 +29,7 @@ refused-requires c κs = search needs
 returns : tie.Need-returns Inv-rows μ-rows Inv-strata μ-strata Inv-statements μ-statements
 returns c =
     let s = c .before .before .before in
-    c .refused .ensures ∙ whole-refused (s .args .way) (s .args .text .now) 10 0 (read-long (s .args .text .now) (c .before .if1 .taken))
+    c .refused .ensures ∙ whole-refused (s .args .way) (s .args .limits) (s .args .text .now) 10 0 (read-long (bytes-by (s .args .limits)) (rules-by (s .args .limits)) (s .args .text .now) (omega (arith, c .before .if1 .taken, c .before .before .most-bytes .ensures)))
 
 table-requires : tie.Need-table-requires Inv-rows μ-rows Inv-strata μ-strata Inv-statements μ-statements
 table-requires c κs = search needs
@@ -38,13 +40,13 @@ empty-table-requires c κs = search needs
 
 statements-holds :
     tie.Need-statements-holds Inv-rows μ-rows Inv-strata μ-strata Inv-statements μ-statements
-statements-holds c = rw (c .empty-table .ensures) (halfway-start (c .before .before .before .before .args .text .now) (omega (arith, c .before .before .if1 .left)))
+statements-holds c = rw (c .empty-table .ensures) (halfway-start (c .before .before .most-rules .result) (c .before .before .before .before .args .text .now) (omega (arith, c .before .before .before .if1 .left, c .before .before .before .before .most-bytes .ensures, bytes-low (c .before .before .before .before .args .limits))))
 
 cast-width : tie.Need-cast-width Inv-rows μ-rows Inv-strata μ-strata Inv-statements μ-statements
 cast-width c = let H = c .statements .inv in record { fits = omega (arith, halfway-width H, H .indexed .few) }
 
 cast-count : tie.Need-cast-count Inv-rows μ-rows Inv-strata μ-strata Inv-statements μ-statements
-cast-count c = let H = c .statements .inv in record { fits = omega (arith, halfway-count H, H .few) }
+cast-count c = let H = c .statements .inv in record { fits = omega (arith, halfway-count H, H .few, c .before .most-rules .ensures, rules-low (c .before .args .limits)) }
 
 slice-aggregate-statement-next :
     tie.Need-slice-aggregate-statement-next
@@ -76,13 +78,13 @@ returns-2 : tie.Need-returns-2 Inv-rows μ-rows Inv-strata μ-strata Inv-stateme
 returns-2 c =
     let e = c .before .before in
     let k = e .before .before in
-    whole-unlayered (way-at k) (text-at k) (file-of e) (table-at k) (c .enum-told2 .given .1) (ended e) (halfway k .tabled)
+    whole-unlayered (way-at k) (limits-at k) (text-at k) (file-of e) (table-at k) (c .enum-told2 .given .1) (ended-by e) (halfway k .tabled)
 
 enum-told-3 : tie.Need-enum-told-3 Inv-rows μ-rows Inv-strata μ-strata Inv-statements μ-statements
 enum-told-3 c = search needs
 
 rows-holds : tie.Need-rows-holds Inv-rows μ-rows Inv-strata μ-strata Inv-statements μ-statements
-rows-holds c = (fits (c .before .before) .rules-fit, search needs, entered-start _ _ zero-shaped)
+rows-holds c = (fits (c .before .before) .rules-fit, search needs, length-replicate rule-limit (replicate {A = ℕ} 16 0), entered-start _ _ (zero-shaped rule-limit))
 
 mul-r : tie.Need-mul-r Inv-rows μ-rows Inv-strata μ-strata Inv-statements μ-statements
 mul-r c = record { fits = omega (arith, c .rows-test .taken, c .before .rows .inv .0) }
@@ -110,11 +112,11 @@ rows-less : tie.Need-rows-less Inv-rows μ-rows Inv-strata μ-strata Inv-stateme
 rows-less c = omega (arith, c .before .before .before .rows-test .taken)
 
 rows-again : tie.Need-rows-again Inv-rows μ-rows Inv-strata μ-strata Inv-statements μ-statements
-rows-again c = let a = c .before .before .before .before in (a .rows .inv .0, omega (arith, c .before .before .before .rows-test .taken), entered-next _ (a .rows .rows) (a .rows .i) _ (omega (arith, c .before .before .before .rows-test .taken, a .rows .inv .0)) (c .enter-rule .ensures) (a .rows .inv .2))
+rows-again c = let a = c .before .before .before .before in (a .rows .inv .0, omega (arith, c .before .before .before .rows-test .taken), length-set (a .rows .rows) _ _ ∙ a .rows .inv .2, entered-next _ (a .rows .rows) (a .rows .i) _ (omega (arith, c .before .before .before .rows-test .taken, a .rows .inv .0, a .rows .inv .2)) (c .enter-rule .ensures) (a .rows .inv .3))
 
 find-requires :
     tie.Need-find-requires Inv-rows μ-rows Inv-strata μ-strata Inv-statements μ-statements
-find-requires c κs = (entered-fits _ _ _ (c .before .before .before .rows .inv .0) (entered c), refl)
+find-requires c κs = (rows-fit c, refl)
 
 refused-requires-2 :
     tie.Need-refused-requires-2 Inv-rows μ-rows Inv-strata μ-strata Inv-statements μ-statements
@@ -126,7 +128,7 @@ returns-3 c =
     let r = d .before .before .before .before in
     let e = end-at r in
     let k = e .before .before in
-    c .refused2 .ensures ∙ whole-circle (way-at k) (text-at k) (file-of e) (d .find .result) (by-strata r) (ended e) (circle-is d ∙ ap (circle-of weak) (rules-are e)) (c .before .if2 .taken)
+    c .refused2 .ensures ∙ whole-circle (way-at k) (limits-at k) (text-at k) (file-of e) (d .find .result) (by-strata r) (ended-by e) (circle-is d ∙ ap (circle-of weak) (rules-are e)) (c .before .if2 .taken)
 
 strata-holds :
     tie.Need-strata-holds Inv-rows μ-rows Inv-strata μ-strata Inv-statements μ-statements
@@ -165,7 +167,7 @@ strata-again :
 strata-again c =
     let a = c .before .before in
     let r = a .before .before .before .before .before .before in
-    (a .strata .inv .0, omega (arith, c .before .strata-test .taken), numbering-step _ (table-in-rows r) (a .strata .j) (a .strata .t) (omega (arith, shape (end-at r) .rule-places, c .before .strata-test .taken, a .strata .inv .0)) (a .strata .inv .2))
+    (a .strata .inv .0, omega (arith, c .before .strata-test .taken), numbering-step _ (table-in-rows r) (a .strata .j) (a .strata .t) (omega (arith, places (end-at r), c .before .strata-test .taken, a .strata .inv .0)) (a .strata .inv .2))
 
 returns-4 : tie.Need-returns-4 Inv-rows μ-rows Inv-strata μ-strata Inv-statements μ-statements
 returns-4 c =
@@ -176,8 +178,8 @@ returns-4 c =
     let k = e .before .before in
     let z : d .find .result ≡ 0 = omega (arith, a .before .if2 .left) in
     let w : a .strata .j ≡ table-at k .count = omega (arith, a .strata .inv .1, c .strata-test .left) in
-    let u = numbering-end (table-at k) (fits e) (shape e) _ (a .strata .t) (numbers-are d z) (rw w at (a .strata .inv .2)) in
-    whole-layered (way-at k) (text-at k) (file-of e) (a .strata .t) (by-strata r) (ended e) (ap (circle-of weak) (sym (rules-are e)) ∙ sym (circle-is d) ∙ z) (u ∙ ap with-strata (halfway k .tabled))
+    let u = numbering-end (table-at k) (fits e) (shape e) (places e) _ (a .strata .t) (numbers-are d z) (rw w at (a .strata .inv .2)) in
+    whole-layered (way-at k) (limits-at k) (text-at k) (file-of e) (a .strata .t) (by-strata r) (ended-by e) (ap (circle-of weak) (sym (rules-are e)) ∙ sym (circle-is d) ∙ z) (u ∙ ap with-strata (halfway k .tabled))
 
 enum-known-kind :
     tie.Need-enum-known-kind Inv-rows μ-rows Inv-strata μ-strata Inv-statements μ-statements
@@ -227,7 +229,7 @@ statements-again c =
     let H = halfway k in
     let l = slot-lies a in
     let e = c .before .before .enter .ensures in
-    rw (e .0, e .1, c .before .slot-of .ensures) (halfway-slot _ _ _ _ _ _ _ _ _ _ H (l .2) (l .4) (l .5) (l .6) (H .same ∙ answer k (a .kind .given .1)))
+    rw (e .0, e .1, c .before .slot-of .ensures) (halfway-slot (most-at k) _ _ _ _ _ _ _ _ _ _ H (l .2) (l .4) (l .5) (l .6) (H .same ∙ answer k (a .kind .given .1)))
 
 enum-known-kind-2 :
     tie.Need-enum-known-kind-2 Inv-rows μ-rows Inv-strata μ-strata Inv-statements μ-statements
@@ -268,7 +270,7 @@ statements-again-2 c =
     let k = a .before .before in
     let H = halfway k in
     let l = rule-lies a in
-    halfway-rule _ _ _ _ _ _ _ _ H (l .2) (l .3) (H .same ∙ answer k (a .kind2 .given .1))
+    halfway-rule (most-at k) _ _ _ _ _ _ _ _ H (l .2) (omega (arith, most-is k, rules-low (limits-at k))) (l .3) (H .same ∙ answer k (a .kind2 .given .1))
 
 enum-known-kind-3 :
     tie.Need-enum-known-kind-3 Inv-rows μ-rows Inv-strata μ-strata Inv-statements μ-statements
@@ -283,7 +285,7 @@ returns-5 c =
     let a = c .before .before in
     let k = a .before .before in
     let H = halfway k in
-    c .refused3 .ensures ∙ whole-refused (way-at k) (text-at k) _ _ (read-short (text-at k) (omega (arith, k .before .before .before .before .before .before .before .if1 .left)) ∙ answer k (a .kind3 .given .1) ∙ ap (λ (n : ℕ). refused (a .kind3 .given .0 .0) n) (sym (halfway-count H)))
+    c .refused3 .ensures ∙ whole-refused (way-at k) (limits-at k) (text-at k) _ _ (within k _ (answer k (a .kind3 .given .1) ∙ ap (λ (n : ℕ). refused (a .kind3 .given .0 .0) n) (sym (halfway-count H))))
 
 pub read-spec : {M : Type 1} → statement M
 read-spec =

@@ -15,7 +15,7 @@ key-of n = ((getD n 0 0 * 256 + getD n (length n / 2) 0) * 256 + getD n (length 
 
 -- What a key is multiplied by in a span: more than every place times 32.
 abbrev pub keyed : ℕ
-keyed = (text-limit + 1) * 32
+keyed = 2 * text-limit * 32
 
 -- A span: the key of a name, its place times 32, and its length, which is at most 24.
 abbrev pub span : ℕ → ℕ → ℕ → ℕ

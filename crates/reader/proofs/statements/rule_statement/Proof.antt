@@ -19,7 +19,7 @@ empty-rule-requires c κs = search needs
 returns : tie.Need-returns
 returns c =
     let h = c .before .before .if1 .taken in
-    (λ base slots rules I e n w. statements.next-full slots rules _ _ n (omega arith) w, λ width. tt)
+    (λ base slots rules I e n w. statements.next-full _ slots rules _ _ n (omega arith) w, λ width. tt)
 
 rule-next-requires : tie.Need-rule-next-requires
 rule-next-requires c κs = c .before .before .before .before .pre
@@ -44,7 +44,7 @@ returns-2 c =
     let r = k .rule-next .result in
     let rest = k .before .before .before .before .before .args .rest .now in
     let l = subst (Step-lies _ _) (a .outcome .given .1) (k .rule-next .ensures .1) in (
-      λ base slots rules I e n w. statements.next-rule slots rules _ _ _ n (omega arith) (k .rule-next .ensures .0 base _ slots w (statements.looked _ _ _ slots I) ∙ ap (outcome-part rest base (rule-of (r .rule))) (a .outcome .given .1)),
+      λ base slots rules I e n w. statements.next-rule _ slots rules _ _ _ n (omega arith) (k .rule-next .ensures .0 base _ slots w (statements.looked _ _ _ slots I) ∙ ap (outcome-part rest base (rule-of (r .rule))) (a .outcome .given .1)),
       λ width. (omega (arith, l .0), l .1, h, k .rule-next .ensures .2),
     )
 
@@ -55,7 +55,7 @@ returns-3 c =
     let h = k .before .if1 .left in
     let r = k .rule-next .result in
     let rest = k .before .before .before .before .before .args .rest .now in
-    (λ base slots rules I e n w. statements.next-stop slots rules _ _ n (omega arith) (k .rule-next .ensures .0 base _ slots w (statements.looked _ _ _ slots I) ∙ ap (outcome-part rest base (rule-of (r .rule))) (a .outcome2 .given .1)), λ width. tt)
+    (λ base slots rules I e n w. statements.next-stop _ slots rules _ _ n (omega arith) (k .rule-next .ensures .0 base _ slots w (statements.looked _ _ _ slots I) ∙ ap (outcome-part rest base (rule-of (r .rule))) (a .outcome2 .given .1)), λ width. tt)
 
 pub rule-statement-spec : {M : Type 1} → statement M
 rule-statement-spec =

@@ -23,7 +23,7 @@ empty-rule-requires c κs = search needs
 returns : tie.Need-returns
 returns c =
     let h = c .before .before .if1 .taken in
-    (λ slots valuespans I e n. statements.on-line-full slots _ (omega arith) (places.expects-took SLOT _ _ tt n .0), tt)
+    (λ most slots valuespans I e n. statements.on-line-full most slots _ (omega arith) (places.expects-took SLOT _ _ tt n .0), λ most. tt)
 
 line-next-requires : tie.Need-line-next-requires
 line-next-requires c κs = c .before .before .before .pre
@@ -50,8 +50,8 @@ returns-2 c =
     let rest = k .before .before .before .before .args .rest .now in
     let l = subst (Step-lies _ _) (a .outcome .given .1) (k .line-next .ensures .1) in
     let d = subst (Line-lies text (r .name) (r .spans) (r .count)) (a .outcome .given .1) (k .line-next .ensures .2) in (
-      λ slots valuespans I e n. statements.on-line slots _ _ _ (omega arith) (places.expects-took SLOT _ _ tt n .0) (k .line-next .ensures .0 _ slots n (indexed-slots I) ∙ ap (outcome-part rest (k .before .before .before .before .args .base) (span-slot text (r .name) (r .spans) (r .count))) (a .outcome .given .1)),
-      (omega (arith, l .0), l .1, h, refl, d .0, d .1, d .2),
+      λ most slots valuespans I e n. statements.on-line most slots _ _ _ (omega arith) (places.expects-took SLOT _ _ tt n .0) (k .line-next .ensures .0 _ slots n (indexed-slots I) ∙ ap (outcome-part rest (k .before .before .before .before .args .base) (span-slot text (r .name) (r .spans) (r .count))) (a .outcome .given .1)),
+      λ most. (omega (arith, l .0), l .1, h, refl, d .0, d .1, d .2),
     )
 
 returns-3 : tie.Need-returns-3
@@ -62,7 +62,7 @@ returns-3 c =
     let r = k .line-next .result in
     let text = k .before .before .before .before .args .text .now in
     let rest = k .before .before .before .before .args .rest .now in
-    (λ slots valuespans I e n. statements.on-line-stop slots _ _ (omega arith) (places.expects-took SLOT _ _ tt n .0) (k .line-next .ensures .0 _ slots n (indexed-slots I) ∙ ap (outcome-part rest (k .before .before .before .before .args .base) (span-slot text (r .name) (r .spans) (r .count))) (a .outcome2 .given .1)), tt)
+    (λ most slots valuespans I e n. statements.on-line-stop most slots _ _ (omega arith) (places.expects-took SLOT _ _ tt n .0) (k .line-next .ensures .0 _ slots n (indexed-slots I) ∙ ap (outcome-part rest (k .before .before .before .before .args .base) (span-slot text (r .name) (r .spans) (r .count))) (a .outcome2 .given .1)), λ most. tt)
 
 pub slot-statement-spec : {M : Type 1} → statement M
 slot-statement-spec =

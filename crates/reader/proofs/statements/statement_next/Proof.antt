@@ -49,7 +49,7 @@ returns c =
     let a = c .before .before in
     let k = a .before .before in
     let s = k .before .before .before .before .args in
-    (λ slots rules I e f. ap (read-on slots rules) (places.stands (s .rest .now) (s .base) 0 _ _ (k .first-token .ensures) (a .enum-told .given .1)) ∙ statements.on-end slots rules, tt)
+    (λ slots rules I e f. ap (read-on (s .most) slots rules) (places.stands (s .rest .now) (s .base) 0 _ _ (k .first-token .ensures) (a .enum-told .given .1)) ∙ statements.on-end _ slots rules, tt)
 
 word-of-requires : tie.Need-word-of-requires
 word-of-requires c κs = search needs
@@ -67,9 +67,9 @@ returns-2 c =
     let z = w .before .if1 .taken in
     let s = w .before .before .before .before .before .before .before .args in (
       λ slots rules I e f. let r = statements.no-rules rules (sym f ∙ z) in
-          subst (λ (rs : List model.Rule). read-on slots rs (tokens-past (s .rest .now) (s .base) 0) ≡ statement-answer (s .text .now) (s .rest .now) (s .base) slots rs (c .slot-statement .result)) (sym r)
-          (c .slot-statement .ensures .0 slots (s .valuespans .now) I e (slot-read w ∙ ap (step-part _ (s .base)) (a .slot .given .1))),
-      subst (λ (k : ℕ). Statement-lies (s .text .now) (length (s .rest .now)) (s .width) k (c .slot-statement .result)) (sym z) (c .slot-statement .ensures .1),
+          subst (λ (rs : List model.Rule). read-on (s .most) slots rs (tokens-past (s .rest .now) (s .base) 0) ≡ statement-answer (s .most) (s .text .now) (s .rest .now) (s .base) slots rs (c .slot-statement .result)) (sym r)
+          (c .slot-statement .ensures .0 (s .most) slots (s .valuespans .now) I e (slot-read w ∙ ap (step-part _ (s .base)) (a .slot .given .1))),
+      subst (λ (k : ℕ). Statement-lies (s .most) (s .text .now) (length (s .rest .now)) (s .width) k (c .slot-statement .result)) (sym z) (c .slot-statement .ensures .1 (s .most)),
     )
 
 enum-told-2 : tie.Need-enum-told-2
@@ -105,7 +105,7 @@ returns-4 c =
     let a = c .before .before .before in
     let w = a .before .before in
     let s = w .before .before .before .before .before .before .before .args in
-    (λ slots rules I e f. statements.no-when slots rules _ _ (rule-stands w rules f) (when-read w ∙ ap (step-part _ (s .base)) (a .when2 .given .1)), tt)
+    (λ slots rules I e f. statements.no-when _ slots rules _ _ (rule-stands w rules f) (when-read w ∙ ap (step-part _ (s .base)) (a .when2 .given .1)), tt)
 
 pub statement-next-spec : {M : Type 1} → statement M
 statement-next-spec =

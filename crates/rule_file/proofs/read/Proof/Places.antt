@@ -7,10 +7,12 @@ use mathlib.Core.List.{List}
 use Rattle.laws.specs.Limits.{rule-limit}
 use lib.ListN.{length}
 use Rattle.text.specs.Tokens.{tokens}
-use Rattle.grammar.specs.Reading.{parse, accepted, read-tokens}
+use Rattle.grammar.specs.Reading.{Parsed, parse, parse-by, bytes-by, rules-by, accepted, read-tokens}
+use Rattle.grammar.proofs.Within.{accepted-by}
 use Rattle.grammar.specs.Files.{File}
 use Rattle.grammar.proofs.Forward.{read-short}
 use Rattle.table.specs.declared.Table.{Table}
+use Rattle.table.specs.declared.Limits.{Limits}
 use Rattle.table.specs.declared.Way.{Way}
 use Rattle.table.specs.declared.Way.the-variants as way
 use Rattle.table.specs.inner.Fits.{TableFits}
@@ -19,19 +21,19 @@ use Rattle.reader.specs.inner.Statements.{kind-answer, Kind-lies}
 use Rattle.reader.proofs.ReadLaws.{Halfway, halfway-width, halfway-count}
 use Rattle.reader.specs.declared.statements.Kind.{Kind}
 use Rattle.reader.specs.declared.statements.Kind.the-variants as kind
-use Rattle.rows.specs.inner.Rows.{table-in, Entered}
-use Rattle.rows.proofs.Laws.{entered-rules, rows-count}
+use Rattle.rows.specs.inner.Rows.{table-in, Entered, RowsFit}
+use Rattle.rows.proofs.Laws.{entered-rules, entered-fits, rows-count}
 use Rattle.strata.specs.inner.Heights.{least-numbers}
 use Rattle.model.specs.Strata.{weak}
 use Rattle.model.specs.Circles.{circle-of}
 use Rattle.table.specs.Link.{rules-of}
 use Rattle.rule_file.proofs.FileTable.{file-rules}
 use Rattle.strata.proofs.Layered.{same-numbers, Numbering}
-use Rattle.rule_file.proofs.Answers.{file-table-fits, file-table-shaped}
+use Rattle.rule_file.proofs.Answers.{file-table-fits, file-table-shaped, file-table-places}
 use Rattle.rule_file.proofs.read.Tie as tie
 
 abbrev pub Inv-rows : tie.InvT-rows
-Inv-rows text t base width count rows₀ i₀ rows i = (count ≤ rule-limit) × (i ≤ count) × Entered (t .rules) rows i
+Inv-rows text t base width count rows₀ i₀ rows i = (count ≤ rule-limit) × (i ≤ count) × (length rows ≡ rule-limit) × Entered (t .rules) rows i
 
 abbrev pub μ-rows : tie.MeasureT-rows
 μ-rows text t base width count rows₀ i₀ rows i = count - i
@@ -43,10 +45,10 @@ abbrev pub μ-strata : tie.MeasureT-strata
 μ-strata text t₀ base width count i numbers k j₀ t j = count - j
 
 abbrev pub Inv-statements : tie.InvT-statements
-Inv-statements text way classes t₀ slotspans₀ valuespans₀ rest₀ base₀ t slotspans valuespans rest base = Halfway text t slotspans valuespans rest base
+Inv-statements text way limits most classes t₀ slotspans₀ valuespans₀ rest₀ base₀ t slotspans valuespans rest base = Halfway most text t slotspans valuespans rest base
 
 abbrev pub μ-statements : tie.MeasureT-statements
-μ-statements text way classes t₀ slotspans₀ valuespans₀ rest₀ base₀ t slotspans valuespans rest base = length rest
+μ-statements text way limits most classes t₀ slotspans₀ valuespans₀ rest₀ base₀ t slotspans valuespans rest base = length rest
 
 -- The places in the code that the proofs speak of: a statement that is read, the end of the text, and there the response by strata.
 abbrev pub Reads : Type 0
@@ -65,6 +67,16 @@ text-at c = c .before .before .before .before .before .before .before .before .b
 abbrev pub way-at : Reads → Way
 way-at c = c .before .before .before .before .before .before .before .before .before .args .way
 
+abbrev pub limits-at : Reads → Limits
+limits-at c = c .before .before .before .before .before .before .before .before .before .args .limits
+
+-- How many rules are taken.
+abbrev pub most-at : Reads → ℕ
+most-at c = c .before .before .before .before .before .before .before .most-rules .result
+
+pub most-is : (c : Reads) → most-at c ≡ rules-by (limits-at c)
+most-is c = c .before .before .before .before .before .before .before .most-rules .ensures
+
 abbrev pub rest-at : Reads → List ℕ
 rest-at c = c .before .before .before .before .statements .rest .now
 
@@ -74,40 +86,48 @@ base-at c = c .before .before .before .before .statements .base
 abbrev pub table-at : Reads → Table
 table-at c = c .before .before .before .before .statements .t
 
-pub halfway : (c : Reads) → Halfway (text-at c) (table-at c) (c .before .before .before .before .statements .slotspans) (c .before .before .before .before .statements .valuespans) (rest-at c) (base-at c)
+pub halfway : (c : Reads) → Halfway (most-at c) (text-at c) (table-at c) (c .before .before .before .before .statements .slotspans) (c .before .before .before .before .statements .valuespans) (rest-at c) (base-at c)
 halfway c = c .before .before .before .before .statements .inv
 
 -- What the reading comes to by the statement.
 pub answer : (c : Reads) {x : Kind} → c .statement-next .result .kind ≡ x
-    → read-tokens rule-limit (tokens (text-at c)) ≡ kind-answer (text-at c) (rest-at c) (base-at c) (halfway c .slots) (halfway c .rules) x (c .statement-next .result .line) (c .statement-next .result .rule)
+    → read-tokens (most-at c) (tokens (text-at c)) ≡ kind-answer (most-at c) (text-at c) (rest-at c) (base-at c) (halfway c .slots) (halfway c .rules) x (c .statement-next .result .line) (c .statement-next .result .rule)
 answer c e =
     let H = halfway c in
     sym (H .same) ∙ c .statement-next .ensures .0 (H .slots) (H .rules) (H .indexed) (halfway-width H) (halfway-count H)
-    ∙ ap (λ x. kind-answer (text-at c) (rest-at c) (base-at c) (H .slots) (H .rules) x (c .statement-next .result .line) (c .statement-next .result .rule)) e
+    ∙ ap (λ x. kind-answer (most-at c) (text-at c) (rest-at c) (base-at c) (H .slots) (H .rules) x (c .statement-next .result .line) (c .statement-next .result .rule)) e
 
 -- Where the statement lies.
 pub lies : (c : Reads) {x : Kind} → c .statement-next .result .kind ≡ x
-    → Kind-lies (text-at c) (length (rest-at c)) (table-at c .width) (table-at c .count) x (c .statement-next .result .line) (c .statement-next .result .rule)
-lies c e = subst (λ x. Kind-lies (text-at c) (length (rest-at c)) (table-at c .width) (table-at c .count) x (c .statement-next .result .line) (c .statement-next .result .rule)) e (c .statement-next .ensures .1)
+    → Kind-lies (most-at c) (text-at c) (length (rest-at c)) (table-at c .width) (table-at c .count) x (c .statement-next .result .line) (c .statement-next .result .rule)
+lies c e = subst (λ x. Kind-lies (most-at c) (text-at c) (length (rest-at c)) (table-at c .width) (table-at c .count) x (c .statement-next .result .line) (c .statement-next .result .rule)) e (c .statement-next .ensures .1)
 
 pub slot-lies : (c : tie.After-kind Inv-rows μ-rows Inv-strata μ-strata Inv-statements μ-statements) →
     let k = c .before .before in
-    Kind-lies (text-at k) (length (rest-at k)) (table-at k .width) (table-at k .count) (kind.Slot (c .kind .given .0 .0)) (k .statement-next .result .line) (k .statement-next .result .rule)
+    Kind-lies (most-at k) (text-at k) (length (rest-at k)) (table-at k .width) (table-at k .count) (kind.Slot (c .kind .given .0 .0)) (k .statement-next .result .line) (k .statement-next .result .rule)
 slot-lies c = lies (c .before .before) (c .kind .given .1)
 
 pub rule-lies : (c : tie.After-kind2 Inv-rows μ-rows Inv-strata μ-strata Inv-statements μ-statements) →
     let k = c .before .before in
-    Kind-lies (text-at k) (length (rest-at k)) (table-at k .width) (table-at k .count) (kind.Rule (c .kind2 .given .0 .0)) (k .statement-next .result .line) (k .statement-next .result .rule)
+    Kind-lies (most-at k) (text-at k) (length (rest-at k)) (table-at k .width) (table-at k .count) (kind.Rule (c .kind2 .given .0 .0)) (k .statement-next .result .line) (k .statement-next .result .rule)
 rule-lies c = lies (c .before .before) (c .kind2 .given .1)
 
 -- At the end of the text: the file that it is.
 abbrev pub file-of : Ends → File
 file-of e = record { slots = halfway (e .before .before) .slots; rules = halfway (e .before .before) .rules }
 
+-- What the reading of the text by its limits comes to.
+pub short : (c : Reads) → length (text-at c) ≤ bytes-by (limits-at c)
+short c = omega (arith, c .before .before .before .before .before .before .before .before .if1 .left, c .before .before .before .before .before .before .before .before .before .most-bytes .ensures)
+
+pub within : (c : Reads) (a : Parsed) → read-tokens (most-at c) (tokens (text-at c)) ≡ a → parse-by (limits-at c) (text-at c) ≡ a
+within c a e = read-short (bytes-by (limits-at c)) (rules-by (limits-at c)) (text-at c) (short c) ∙ ap (λ (m : ℕ). read-tokens m (tokens (text-at c))) (sym (most-is c)) ∙ e
+
+pub ended-by : (e : Ends) → parse-by (limits-at (e .before .before)) (text-at (e .before .before)) ≡ accepted (file-of e)
+ended-by e = let k = e .before .before in within k _ (answer k (e .enum-told .given .1))
+
 pub ended : (e : Ends) → parse (text-at (e .before .before)) ≡ accepted (file-of e)
-ended e =
-    let k = e .before .before in
-    read-short (text-at k) (omega (arith, k .before .before .before .before .before .before .before .if1 .left)) ∙ answer k (e .enum-told .given .1)
+ended e = let k = e .before .before in accepted-by (limits-at k) (text-at k) (file-of e) (ended-by e) .0
 
 -- Its table fits, has its places and has the file's rules.
 pub fits : (e : Ends) → TableFits (table-at (e .before .before))
@@ -115,6 +135,9 @@ fits e = rw (halfway (e .before .before) .tabled) (file-table-fits (text-at (e .
 
 pub shape : (e : Ends) → Shaped (table-at (e .before .before))
 shape e = rw (halfway (e .before .before) .tabled) (file-table-shaped (text-at (e .before .before)) (file-of e) (ended e))
+
+pub places : (e : Ends) → length (table-at (e .before .before) .rules) ≡ rule-limit
+places e = rw (halfway (e .before .before) .tabled) (file-table-places (text-at (e .before .before)) (file-of e) (ended e))
 
 pub rules-are : (e : Ends) → rules-of (table-at (e .before .before)) ≡ file-of e .rules
 rules-are e = ap rules-of (halfway (e .before .before) .tabled) ∙ file-rules (file-of e)
@@ -136,7 +159,12 @@ pub entered : (c : tie.After-numbers Inv-rows μ-rows Inv-strata μ-strata Inv-s
 entered c =
     let a = c .before .before .before in
     let e : a .rows .i ≡ table-in-rows a .count = omega (arith, a .rows .inv .1, c .before .before .rows-test .left) in
-    rw e at (a .rows .inv .2)
+    rw e at (a .rows .inv .3)
+
+pub rows-fit : (c : tie.After-numbers Inv-rows μ-rows Inv-strata μ-strata Inv-statements μ-statements) →
+    let a = c .before .before .before in
+    RowsFit (a .rows .rows) (table-in-rows a .count)
+rows-fit c = let a = c .before .before .before in entered-fits _ _ _ (a .rows .inv .0) (omega (arith, a .rows .inv .0, a .rows .inv .2)) (entered c)
 
 -- What is found of them is what the table's rules have.
 pub circle-is : (c : tie.After-find Inv-rows μ-rows Inv-strata μ-strata Inv-statements μ-statements) → c .find .result ≡ circle-of weak (rules-of (table-in-rows (c .before .before .before .before)))
@@ -144,7 +172,7 @@ circle-is c =
     let n = c .before in
     let a = n .before .before .before in
     let e = end-at a in
-    c .find .ensures .0 ∙ ap (circle-of weak) (entered-rules (table-in-rows a) (a .rows .rows) (shape e) (fits e .rules-fit) (entered n))
+    c .find .ensures .0 ∙ ap (circle-of weak) (entered-rules (table-in-rows a) (a .rows .rows) (shape e) (rows-fit n) (entered n))
 
 pub numbers-are : (c : tie.After-find Inv-rows μ-rows Inv-strata μ-strata Inv-statements μ-statements) → c .find .result ≡ 0 → c .find .last .1 .1 .0 ≡ least-numbers (table-in-rows (c .before .before .before .before))
 numbers-are c z =
@@ -152,4 +180,4 @@ numbers-are c z =
     let a = n .before .before .before in
     let e = end-at a in
     let t = table-in-rows a in
-    c .find .ensures .1 z ∙ same-numbers (table-in (a .rows .rows) (t .count)) t (rows-count (a .rows .rows) (t .count)) (entered-rules t (a .rows .rows) (shape e) (fits e .rules-fit) (entered n))
+    c .find .ensures .1 z ∙ same-numbers (table-in (a .rows .rows) (t .count)) t (rows-count (a .rows .rows) (t .count)) (entered-rules t (a .rows .rows) (shape e) (rows-fit n) (entered n))
