@@ -60,6 +60,7 @@ fn assign(
 
 // Fires the rules stratum by stratum, in passes over the rules of a stratum until one fires nothing: a plain test may wait for another rule of its own stratum.
 // A rule is passed over at its first false literal. The passes end: each fires a rule, and none fires twice, or is the last of its stratum.
+// It is lent room for the sorted rules and where their strata begin, for the rules that wait and for those woken.
 fn fire_within(
     rows: &[[u16; NUMBERS]],
     n: usize,
@@ -132,7 +133,7 @@ fn fire_within(
     }
 }
 
-// Fires the rules of rows, with room for as many as there are.
+// The same, with arrays of the least of the three sizes that has room for the rules.
 pub fn fire(
     rows: &[[u16; NUMBERS]],
     n: usize,

@@ -28,7 +28,7 @@ pub record Fired (t : Table) (slip : List Bool) (ns : List ℕ) (ended fired : L
 abbrev pub TableFired : Table → List ℕ → List Bool → List Bool → List Bool → Type 0
 TableFired t S slip ended fired = Fired t slip (response weak (rules-of t) S (pairs-of slip)) ended fired
 
--- What firing is lent to work with has room for n rules and for one stratum more than the highest can be and where that ends; no start is entered and no rule waits.
+-- What firing is lent to work with has room for n rules, and for where the strata up to n begin and the last ends; no start is entered yet, and no rule waits.
 pub record Room (n : ℕ) (positions starts nexts woken : List ℕ) : Type 0 where
   pub positions-room : n ≤ length positions
   pub starts-room : n + 2 ≤ length starts
