@@ -86,6 +86,9 @@ Tested = tie.After-is-true2 Inv-literals μ-literals Inv-rules μ-rules Inv-pass
 abbrev pub start : Passing → Begins
 start p = p .before .before .before .before .before .before .before .before .before .before .before .before .before .before .before
 
+abbrev pub passing : InPass → Passing
+passing c = c .before .before .before
+
 abbrev pub pass : Going → Passing
 pass u = u .before .before .before .before .before .before .before .before
 
@@ -130,30 +133,32 @@ positions-at p = sorted p .sort .last .1 .1 .1 .0
 pub sorts : (p : Passing) → Sorts (table (start p)) (positions-at p) (starts-at p)
 sorts p = sorts-rules (start p .args .rows .now) (start p .args .n) (positions-at p) (starts-at p) (sorted p .sort .ensures .0) (sorted p .sort .ensures .1)
 
+-- The starts are as many as were lent.
+pub starts-room : (p : Passing) → start p .args .n + 2 ≤ length (starts-at p)
+starts-room p = omega (arith, start p .pre .6 .starts-room, p .before .before .before .before .before .before .starts .given)
+
 -- The stratum has a place.
 pub placed : (p : Passing) → (p .passes .stratum < length (starts-at p)) × (p .passes .stratum ≤ rule-limit + 1)
 placed p =
     let o = sorts p in
-    let s = start p in
-    let kept = p .before .before .before .before .before .before .starts .given in
-    (omega (arith, p .passes .inv .0 o, o .top-low, counted s, s .pre .6 .starts-room, kept), omega (arith, p .passes .inv .0 o, o .top-low, counted s, s .pre .0 .few))
+    let h : p .passes .stratum ≤ start p .args .n + 1 = omega (arith, p .passes .inv .0 o, o .top-low, counted (start p)) in
+    (omega (arith, h, starts-room p), omega (arith, h, start p .pre .0 .few))
 
 -- One with rules is below the top.
-pub below-top : (c : InPass) (o : Sorts (table (start (c .before .before .before))) (positions-at (c .before .before .before)) (starts-at (c .before .before .before))) → c .before .before .before .passes .stratum < o .top
+pub below-top : (c : InPass) (o : Sorts (table (start (passing c))) (positions-at (passing c)) (starts-at (passing c))) → passing c .passes .stratum < o .top
 below-top c o =
-    let p = c .before .before .before in
+    let p = passing c in
     ⊎-elim
     (λ e. absurd (omega (arith, c .if1 .taken, c .before .wide .ensures ∙ ap (λ (x : ℕ). getD (starts-at p) x 0) e, o .end, counted (start p))))
     (λ l. l) (eq-or-lt-of-le (p .passes .inv .0 o))
 
 -- The next has a place too.
-pub low : (c : InPass) → (c .before .before .before .passes .stratum + 1 < length (starts-at (c .before .before .before))) × (c .before .before .before .passes .stratum ≤ start (c .before .before .before) .args .n)
+pub low : (c : InPass) → (passing c .passes .stratum + 1 < length (starts-at (passing c))) × (passing c .passes .stratum ≤ start (passing c) .args .n)
 low c =
-    let p = c .before .before .before in
+    let p = passing c in
     let o = sorts p in
-    let s = start p in
-    let kept = p .before .before .before .before .before .before .starts .given in
-    (omega (arith, below-top c o, o .top-low, counted s, s .pre .6 .starts-room, kept), omega (arith, below-top c o, o .top-low, counted s))
+    let h : p .passes .stratum ≤ start p .args .n = omega (arith, below-top c o, o .top-low, counted (start p)) in
+    (omega (arith, h, starts-room p), h)
 
 -- Where its rules begin and end.
 pub from-is : (u : Going) → u .before .wide3 .result ≡ getD (starts-at (pass u)) (pass u .passes .stratum) 0
