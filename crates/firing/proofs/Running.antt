@@ -8,17 +8,16 @@ use Prim.Native.Nat.{ℕ, zero, suc, _+_, _-_, _*_, _≤_, _<_}
 use native.Mathlib.Numerals.{add-one}
 use native.Mathlib.Omega.{arith}
 use native.Mathlib.Nat.{eq-or-lt-of-le}
-use lib.ListN.{length, getD, set, replicate, length-set, length-replicate, getD-replicate}
+use lib.ListN.{length, getD, set, replicate, length-set}
 use lib.Seq.{getD-set-same, getD-set-other}
 use borrow.Author.Tests.{eq-eqb, ne-eqb}
 use Rattle.laws.specs.Truth.{_∨ᵇ_}
 use Rattle.laws.specs.Numbers.{Numbered}
-use Rattle.laws.specs.Tabulated.{tabulate}
 use Rattle.laws.proofs.Equations.{from-true, either}
 use Rattle.laws.proofs.Numbers.{is-false}
 use Rattle.laws.specs.inner.Flags.{flags-set}
+use Rattle.laws.proofs.Filled.{replicate-at}
 use Rattle.laws.proofs.Flags.{flags-more, flags-top}
-use Rattle.laws.proofs.Tabulated.{is-tabulate}
 use Rattle.model.specs.Rules.{enabled}
 use Rattle.model.specs.Orders.{names, changes}
 use Rattle.model.specs.Strata.{Grading, Strata}
@@ -31,12 +30,12 @@ use Rattle.laws.specs.Limits.{rule-limit}
 use Rattle.table.specs.Zero.{zero-rule}
 use Rattle.table.specs.inner.Shape.{Shaped}
 use Rattle.table.specs.Link.{rule-of, rules-of, assignments-of, stratum-at}
-use Rattle.table.specs.inner.Flat.{set-of, flags-of, pairs-of, add-pairs, pair-places}
+use Rattle.table.specs.inner.Flat.{set-of, pairs-of, add-pairs, pair-places}
 use Rattle.table.specs.inner.Fits.{TableFits}
 use Rattle.table.proofs.Link.{rule-at-is}
 use Rattle.table.proofs.Fits.{assigned-placed, count-of, number}
 use Rattle.table.proofs.Flat.{added, added-length, pairs-of-set, is-flags}
-use Rattle.firing.specs.inner.Firing.{FiredFlags, fired-in, carried-firing}
+use Rattle.firing.specs.inner.Firing.{Fired}
 use Rattle.testing.specs.declared.waiting.Turn.{Turn}
 use Rattle.testing.specs.inner.Waiting.{turn-of}
 use Rattle.testing.proofs.Lists.{turn-place, turn-less}
@@ -44,44 +43,44 @@ use Rattle.firing.proofs.Sorted.{Sorts}
 
 -- In a pass the flags of fired rules are kept, and where something fired there are more.
 pub record Kept (fired₀ fired : List Bool) (moved : Bool) : Type 0 where
-  pub size : length fired ≡ rule-limit
+  pub size : length fired ≡ length fired₀
   pub not-fewer : flags-set fired₀ ≤ flags-set fired
   pub more : moved ≡ true → flags-set fired₀ < flags-set fired
 
-pub kept-fire : (fired₀ fired : List Bool) (moved : Bool) (i : ℕ) → i < rule-limit → getD fired i false ≡ false → Kept fired₀ fired moved → Kept fired₀ (set fired i true) true
+pub kept-fire : (fired₀ fired : List Bool) (moved : Bool) (i : ℕ) → i < length fired → getD fired i false ≡ false → Kept fired₀ fired moved → Kept fired₀ (set fired i true) true
 kept-fire fired₀ fired moved i h e k =
-    let m = flags-more fired i (omega (arith, k .size)) e in
+    let m = flags-more fired i h e in
     record { size = length-set fired i true ∙ k .size; not-fewer = omega (arith, k .not-fewer); more = λ z. omega (arith, k .not-fewer) }
 
 -- How much a pass may still look at: each rule that fires may wake others, and each rule looked at is one less.
 unfoldable pub turns-left : List Bool → ℕ → ℕ → ℕ → ℕ
-turns-left fired to k left = (rule-limit - flags-set fired) * (rule-limit + 1) + (left + (to - k))
+turns-left fired to k left = (length fired - flags-set fired) * (rule-limit + 1) + (left + (to - k))
 
 pub turn-over : (positions woken : List ℕ) (fired : List Bool) (to k left : ℕ) (u : Turn) → u ≡ turn-of positions k woken left → k < to + left → turns-left fired to (u .place) (u .left) < turns-left fired to k left
 unfolding turns-left
 turn-over positions woken fired to k left u e h = omega (arith, turn-less positions k woken left u e to h)
 
-pub turn-fire : (positions woken : List ℕ) (fired : List Bool) (to k left : ℕ) (u : Turn) → u ≡ turn-of positions k woken left → (left′ i : ℕ) → i < rule-limit → length fired ≡ rule-limit → getD fired i false ≡ false
+pub turn-fire : (positions woken : List ℕ) (fired : List Bool) (to k left : ℕ) (u : Turn) → u ≡ turn-of positions k woken left → (left′ i : ℕ) → i < length fired → getD fired i false ≡ false
     → left′ ≤ rule-limit → turns-left (set fired i true) to (u .place) left′ < turns-left fired to k left
 unfolding turns-left
-turn-fire positions woken fired to k left u e left′ i h l un few =
-    let m = flags-more fired i (omega arith) un in
+turn-fire positions woken fired to k left u e left′ i h un few =
+    let m = flags-more fired i h un in
     let n = flags-top (set fired i true) in
     let v = length-set fired i true in
     let w = turn-place positions k woken left u e in
     omega arith
 
--- How many passes may still come: each fires a rule or is the last of its stratum.
-unfoldable pub passes-left : ℕ → List Bool → ℕ
-passes-left stratum fired = (256 - stratum) + (rule-limit - flags-set fired)
+-- How many passes may still come, where no stratum is at a number or above: each fires a rule or is the last of its stratum.
+unfoldable pub passes-left : ℕ → ℕ → List Bool → ℕ
+passes-left above stratum fired = (above - stratum) + (length fired - flags-set fired)
 
-pub pass-moved : (s : ℕ) (fired₀ fired : List Bool) (moved : Bool) → Kept fired₀ fired moved → moved ≡ true → passes-left s fired < passes-left s fired₀
+pub pass-moved : (above s : ℕ) (fired₀ fired : List Bool) (moved : Bool) → Kept fired₀ fired moved → moved ≡ true → passes-left above s fired < passes-left above s fired₀
 unfolding passes-left
-pass-moved s fired₀ fired moved k e = omega (arith, k .more e, flags-top fired, k .size)
+pass-moved above s fired₀ fired moved k e = omega (arith, k .more e, flags-top fired, k .size)
 
-pub pass-last : (s : ℕ) (fired₀ fired : List Bool) (moved : Bool) → Kept fired₀ fired moved → s < 256 → passes-left (s + 1) fired < passes-left s fired₀
+pub pass-last : (above s : ℕ) (fired₀ fired : List Bool) (moved : Bool) → Kept fired₀ fired moved → s < above → passes-left above (s + 1) fired < passes-left above s fired₀
 unfolding passes-left
-pass-last s fired₀ fired moved k h = omega (arith, k .not-fewer)
+pass-last above s fired₀ fired moved k h = omega (arith, k .not-fewer, k .size)
 
 module _ (t : Table) (S : List ℕ) (slip : List Bool) (positions : List ℕ) where
   -- The rules of `done`, last first, have fired lowest strata first; the arrays stand for them; nothing ready stands lower than the stratum.
@@ -91,23 +90,21 @@ module _ (t : Table) (S : List ℕ) (slip : List Bool) (positions : List ℕ) wh
     pub reached : Reached (rules-of t) S (pairs-of slip) (stratum-at t) done
     pub low : (m : ℕ) → Ready (rules-of t) S (pairs-of slip) done m → stratum ≤ stratum-at t m
     pub passed : moved ≡ false → (q : ℕ) → from ≤ q → q < k → ¬ Ready (rules-of t) S (pairs-of slip) done (suc (getD positions q 0))
-    pub flagged : (i : ℕ) → i < rule-limit → getD fired i false ≡ names done (suc i)
+    pub flagged : (i : ℕ) → i < t .count → getD fired i false ≡ names done (suc i)
     pub stands : set-of bs ≡ changes (rules-of t) (pairs-of slip) done
     pub changes-size : length bs ≡ pair-places
-    pub fired-size : length fired ≡ rule-limit
 
   -- At the start nothing has fired.
-  pub run-start : length slip ≡ pair-places → Running 0 0 0 true slip (replicate rule-limit false)
+  pub run-start : (fired : List Bool) → fired ≡ replicate (length fired) false → length slip ≡ pair-places → Running 0 0 0 true slip fired
   unfolding changes names
-  run-start l = record {
+  run-start fired e l = record {
     done = [];
     reached = start;
     low = λ m r. omega arith;
     passed = λ z. absurd (true≢false z);
-    flagged = λ i h. getD-replicate rule-limit i false false h;
+    flagged = λ i h. ap (λ (bs : List Bool). getD bs i false) e ∙ replicate-at (length fired) false i;
     stands = fun-ext (λ p. sym (pairs-of-set slip p l));
     changes-size = l;
-    fired-size = length-replicate rule-limit false;
   }
 
   -- Before a pass something may have moved.
@@ -120,7 +117,6 @@ module _ (t : Table) (S : List ℕ) (slip : List Bool) (positions : List ℕ) wh
     flagged = p .flagged;
     stands = p .stands;
     changes-size = p .changes-size;
-    fired-size = p .fired-size;
   }
 
   -- At the start of a pass none of its rules is passed yet.
@@ -133,7 +129,6 @@ module _ (t : Table) (S : List ℕ) (slip : List Bool) (positions : List ℕ) wh
     flagged = p .flagged;
     stands = p .stands;
     changes-size = p .changes-size;
-    fired-size = p .fired-size;
   }
 
   module _ (fits : TableFits t) (sh : Shaped t) where
@@ -152,12 +147,11 @@ module _ (t : Table) (S : List ℕ) (slip : List Bool) (positions : List ℕ) wh
       flagged = p .flagged;
       stands = p .stands;
       changes-size = p .changes-size;
-      fired-size = p .fired-size;
     })
       where
         not-ready : ¬ Ready (rules-of t) S (pairs-of slip) (p .done) (suc i)
         not-ready r =
-            let u = p .flagged i (omega (arith, fits .rules-fit)) ∙ is-false (names (p .done) (suc i)) (r .unfired) in
+            let u = p .flagged i h ∙ is-false (names (p .done) (suc i)) (r .unfired) in
             rw (rule-at-is t i h, ← (p .stands), off u) at (r .enabled-then)
 
     -- So is one that was woken, or the next of the stratum.
@@ -182,7 +176,6 @@ module _ (t : Table) (S : List ℕ) (slip : List Bool) (positions : List ℕ) wh
       flagged = p .flagged;
       stands = p .stands;
       changes-size = p .changes-size;
-      fired-size = p .fired-size;
     }
       where
         none-here : (m : ℕ) → Ready (rules-of t) S (pairs-of slip) (p .done) m → (s ≡ stratum-at t m) → ⊥
@@ -196,50 +189,46 @@ module _ (t : Table) (S : List ℕ) (slip : List Bool) (positions : List ℕ) wh
 
     module _ (G : Grading) (strata : Strata G (rules-of t) (stratum-at t)) where
       -- An unfired rule of the stratum that is enabled fires.
-      pub run-fire : (s from k k′ i : ℕ) (b : Bool) (bs fired : List Bool) → i < t .count → stratum-at t (suc i) ≡ s → getD fired i false ≡ false
+      pub run-fire : (s from k k′ i : ℕ) (b : Bool) (bs fired : List Bool) → i < t .count → i < length fired → stratum-at t (suc i) ≡ s → getD fired i false ≡ false
           → enabled S (set-of bs) (rule-of (getD (t .rules) i zero-rule)) ≡ true
           → Running s from k b bs fired → Running s from k′ true (add-pairs (assignments-of (getD (t .rules) i zero-rule)) bs) (set fired i true)
       unfolding changes names _∨ᵇ_
-      run-fire s from k k′ i b bs fired h st un en p = record {
+      run-fire s from k k′ i b bs fired h room st un en p = record {
         done = suc i ∷ p .done;
         reached = fires .0;
         low = fires .1;
         passed = λ z. absurd (true≢false z);
         flagged = λ j l. ⊎-elim
-            (λ (e : j ≡ i). rw (e, eq-eqb (suc i) (suc i) refl) (getD-set-same fired i true false (omega (arith, p .fired-size, fits .rules-fit))))
+            (λ (e : j ≡ i). rw (e, eq-eqb (suc i) (suc i) refl) (getD-set-same fired i true false room))
             (λ n. rw (ne-eqb (suc j) (suc i) (λ e. n (omega arith))) (getD-set-other fired i j true false n ∙ p .flagged j l))
             (either j i);
         stands = fun-ext (λ q. added (assignments-of (getD (t .rules) i zero-rule)) bs q (p .changes-size) (λ x a. assigned-placed (getD (t .rules) i zero-rule) x (fits .each-fits i h) a) ∙ rw (p .stands, rule-at-is t i h));
         changes-size = added-length _ bs ∙ p .changes-size;
-        fired-size = length-set fired i true ∙ p .fired-size;
       }
         where
           fires : Reached (rules-of t) S (pairs-of slip) (stratum-at t) (suc i ∷ p .done) × ((m : ℕ) → Ready (rules-of t) S (pairs-of slip) (suc i ∷ p .done) m → s ≤ stratum-at t m)
           fires = level-fires (rules-of t) S (pairs-of slip) (stratum-at t) G strata s (p .done) (suc i) (p .reached) (p .low)
               (record {
                 rule = number t fits sh i h;
-                unfired = λ e. rw (sym (p .flagged i (omega (arith, fits .rules-fit))) ∙ un) at e;
+                unfired = λ e. rw (sym (p .flagged i h) ∙ un) at e;
                 enabled-then = rw (rule-at-is t i h, ← (p .stands)) (from-true _ en);
               }) st
 
       -- Past the last stratum that has rules the arrays are those of the response by the numbers carried.
-      pub run-end : (starts : List ℕ) (sorts : Sorts t positions starts) (s from k : ℕ) (b : Bool) (bs fired : List Bool) → s ≤ sorts .top → t .count ≤ getD starts s 0 → Running s from k b bs fired → _≡_ {A = FiredFlags} (record { changes = bs; fired = fired }) (carried-firing t S slip)
-      unfolding carried-firing fired-in
-      run-end starts sorts s from k b bs fired small past p = λ j. record { changes = left j; fired = right j }
+      pub run-end : (starts : List ℕ) (sorts : Sorts t positions starts) (s from k : ℕ) (b : Bool) (bs fired : List Bool) → s ≤ sorts .top → t .count ≤ getD starts s 0 → Running s from k b bs fired
+          → Fired t slip (response-by (rules-of t) S (pairs-of slip) (stratum-at t)) bs fired
+      run-end starts sorts s from k b bs fired small past p = record {
+        changes-are = is-flags _ bs (p .changes-size) (p .stands ∙ ended .1);
+        flagged = λ i h. p .flagged i h ∙ ap (λ (f : ℕ → Bool). f (suc i)) (ended .0);
+      }
         where
-          order : List ℕ
-          order = response-by (rules-of t) S (pairs-of slip) (stratum-at t)
-
           top : (m : ℕ) → Numbered (length (rules-of t)) m → stratum-at t m < s
           top zero i = absurd (omega (arith, i .first))
           top (suc m) i = sorts .past s m small past (omega (arith, i .last, count-of t fits sh))
 
+          order : List ℕ
+          order = response-by (rules-of t) S (pairs-of slip) (stratum-at t)
+
           ended : (names (p .done) ≡ names order) × (changes (rules-of t) (pairs-of slip) (p .done) ≡ changes (rules-of t) (pairs-of slip) order)
           ended = loop-end G (rules-of t) (stratum-at t) strata S (pairs-of slip) (p .done) (p .reached)
               (levels-end (rules-of t) S (pairs-of slip) (stratum-at t) s (p .done) (p .low) top)
-
-          left : bs ≡ flags-of (changes (rules-of t) (pairs-of slip) order)
-          left = is-flags _ bs (p .changes-size) (p .stands ∙ ended .1)
-
-          right : fired ≡ tabulate (λ i. names order (suc i)) rule-limit
-          right = is-tabulate (λ i. names order (suc i)) rule-limit false fired (p .fired-size) (λ i h. p .flagged i h ∙ ap (λ (f : ℕ → Bool). f (suc i)) (ended .0))

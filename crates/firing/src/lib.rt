@@ -10,10 +10,12 @@ ghost use Rattle.laws.specs.Limits.{slot-limit, row, rule-limit};
 ghost use Rattle.table.specs.Link.{assignments-of};
 ghost use Rattle.table.specs.inner.Flat.{pair-places, add-pairs};
 ghost use Rattle.rows.specs.inner.Rows.{rule-in, table-in, RowFits, RowsFit};
-ghost use Rattle.firing.specs.inner.Firing.{CanFire, table-firing};
+ghost use Rattle.firing.specs.inner.Firing.{CanFire, TableFired, Room};
 ghost use Rattle.testing.specs.inner.Truth.{Truth};
 ghost use Rattle.testing.specs.inner.Waiting.{Waiting, Woken};
+use rows::FEW;
 use rows::NUMBERS;
+use rows::SOME;
 use rows::wide;
 use table::PAIRS;
 use table::RULES;
@@ -32,11 +34,11 @@ fn assign(
     changes: &mut [bool; PAIRS],
     truth: &mut [bool; WITHOUT_NOT],
     heads: &mut [u16; PAIRS],
-    nexts: &[u16; RULES],
-    woken: &mut [u16; RULES],
+    nexts: &[u16],
+    woken: &mut [u16],
     left: usize,
 ) -> usize
-    requires { ⌜ RowFits (now assigning) × (length (now changes) ≡ pair-places) × (n ≤ rule-limit) × Waiting n (now heads) (now nexts) × Woken n left (now woken) ⌝ }
+    requires { ⌜ RowFits (now assigning) × (length (now changes) ≡ pair-places) × (n ≤ rule-limit) × (n ≤ length (now nexts)) × Waiting n (now heads) (now nexts) × Woken n left (now woken) ⌝ }
     ensures { λ r. ⌜ (now (changes .exit) ≡ add-pairs (assignments-of (rule-in (now (assigning .entry)))) (now (changes .entry)))
         × ((S : List ℕ) → Truth S (now (changes .entry)) (now (truth .entry)) → Truth S (now (changes .exit)) (now (truth .exit)))
         × Waiting n (now (heads .exit)) (now (nexts .entry)) × Woken n r (now (woken .exit)) ⌝ }
@@ -58,26 +60,25 @@ fn assign(
 
 // Fires the rules stratum by stratum, in passes over the rules of a stratum until one fires nothing: a plain test may wait for another rule of its own stratum.
 // A rule is passed over at its first false literal. The passes end: each fires a rule, and none fires twice, or is the last of its stratum.
-pub fn fire(
-    rows: &[[u16; NUMBERS]; RULES],
+// It is lent room for the sorted rules and where their strata begin, for the rules that wait and for those woken.
+fn fire_within(
+    rows: &[[u16; NUMBERS]],
     n: usize,
     card: &[u8; SLOTS],
     changes: &mut [bool; PAIRS],
-    fired: &mut [bool; RULES],
+    fired: &mut [bool],
+    positions: &mut [u16],
+    starts: &mut [u16],
+    nexts: &mut [u16],
+    woken: &mut [u16],
 )
-    requires { ⌜ RowsFit (now rows) n × CanFire (table-in (now rows) n) × ((s : ℕ) → s < slot-limit → getD (now card) s 0 < row)
-        × (length (now changes) ≡ pair-places) × (now fired ≡ replicate rule-limit false) ⌝ }
-    ensures { λ _. ⌜ (now (changes .exit) ≡ table-firing (table-in (now (rows .entry)) n) (now (card .entry)) (now (changes .entry)) .changes)
-        × (now (fired .exit) ≡ table-firing (table-in (now (rows .entry)) n) (now (card .entry)) (now (changes .entry)) .fired) ⌝ }
+    requires { ⌜ RowsFit (now rows) n × CanFire (table-in (now rows) n) × ((s : ℕ) → s < slot-limit → getD (now card) s 0 < row) × (length (now changes) ≡ pair-places)
+        × (n ≤ length (now fired)) × (now fired ≡ replicate (length (now fired)) false) × Room n (now positions) (now starts) (now nexts) (now woken) ⌝ }
+    ensures { λ _. ⌜ TableFired (table-in (now (rows .entry)) n) (now (card .entry)) (now (changes .entry)) (now (changes .exit)) (now (fired .exit)) ⌝ }
 {
-    let strata = order::strata_of(rows, n);
-    let sorted = order::sort(&strata, n);
-    let positions = sorted.positions;
-    let starts = sorted.starts;
+    order::sort(rows, n, starts, positions);
     let mut truth = truth_of(card, changes);
     let mut heads: [u16; PAIRS] = [0; PAIRS];
-    let mut nexts: [u16; RULES] = [0; RULES];
-    let mut woken: [u16; RULES] = [0; RULES];
     let mut first = true;
     let mut stratum: usize = 0;
     'passes: while wide(starts[stratum]) < n {
@@ -86,7 +87,7 @@ pub fn fire(
         let mut left: usize = 0;
         let mut moved = false;
         'rules: while k < to + left {
-            let turn = next_rule(&positions, k, &woken, left);
+            let turn = next_rule(positions, k, woken, left);
             let i = turn.rule;
             k = turn.place;
             left = turn.left;
@@ -98,7 +99,7 @@ pub fn fire(
             }
             let trigger = rows::trigger(&rows[i]);
             if !is_true(trigger, &truth) {
-                wait(first, trigger, i, &mut heads, &mut nexts);
+                wait(first, trigger, i, &mut heads, nexts);
                 continue 'rules;
             }
             let m = rows::tested(&rows[i]);
@@ -106,7 +107,7 @@ pub fn fire(
             'literals: while j < m {
                 let number = rows::literal(&rows[i], j);
                 if !is_true(number, &truth) {
-                    wait(first, number, i, &mut heads, &mut nexts);
+                    wait(first, number, i, &mut heads, nexts);
                     continue 'rules;
                 }
                 j += 1;
@@ -117,8 +118,8 @@ pub fn fire(
                 changes,
                 &mut truth,
                 &mut heads,
-                &nexts,
-                &mut woken,
+                nexts,
+                woken,
                 left,
             );
             fired[i] = true;
@@ -130,4 +131,67 @@ pub fn fire(
         }
         stratum += 1;
     }
+}
+
+// The same, with arrays of the least of the three sizes that has room for the rules.
+pub fn fire(
+    rows: &[[u16; NUMBERS]],
+    n: usize,
+    card: &[u8; SLOTS],
+    changes: &mut [bool; PAIRS],
+    fired: &mut [bool],
+)
+    requires { ⌜ RowsFit (now rows) n × CanFire (table-in (now rows) n) × ((s : ℕ) → s < slot-limit → getD (now card) s 0 < row) × (length (now changes) ≡ pair-places)
+        × (n ≤ length (now fired)) × (now fired ≡ replicate (length (now fired)) false) ⌝ }
+    ensures { λ _. ⌜ TableFired (table-in (now (rows .entry)) n) (now (card .entry)) (now (changes .entry)) (now (changes .exit)) (now (fired .exit)) ⌝ }
+{
+    if n <= FEW {
+        let mut positions: [u16; FEW] = [0; FEW];
+        let mut starts: [u16; FEW + 2] = [0; FEW + 2];
+        let mut nexts: [u16; FEW] = [0; FEW];
+        let mut woken: [u16; FEW] = [0; FEW];
+        return fire_within(
+            rows,
+            n,
+            card,
+            changes,
+            fired,
+            &mut positions,
+            &mut starts,
+            &mut nexts,
+            &mut woken,
+        );
+    }
+    if n <= SOME {
+        let mut positions: [u16; SOME] = [0; SOME];
+        let mut starts: [u16; SOME + 2] = [0; SOME + 2];
+        let mut nexts: [u16; SOME] = [0; SOME];
+        let mut woken: [u16; SOME] = [0; SOME];
+        return fire_within(
+            rows,
+            n,
+            card,
+            changes,
+            fired,
+            &mut positions,
+            &mut starts,
+            &mut nexts,
+            &mut woken,
+        );
+    }
+    let mut positions: [u16; RULES] = [0; RULES];
+    let mut starts: [u16; RULES + 2] = [0; RULES + 2];
+    let mut nexts: [u16; RULES] = [0; RULES];
+    let mut woken: [u16; RULES] = [0; RULES];
+    fire_within(
+        rows,
+        n,
+        card,
+        changes,
+        fired,
+        &mut positions,
+        &mut starts,
+        &mut nexts,
+        &mut woken,
+    )
 }
