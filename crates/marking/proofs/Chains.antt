@@ -4,27 +4,25 @@ use mathlib.Core.Path.{_≡_}
 use mathlib.Core.List.{List}
 use Prim.Native.Nat.{ℕ, zero, suc, _+_, _-_, _≤_, _<_}
 use native.Mathlib.Omega.{arith}
-use lib.ListN.{getD, set, replicate}
+use lib.ListN.{length, getD, set, replicate, length-set}
 use Rattle.laws.proofs.Filled.{replicate-at}
 use Rattle.table.specs.inner.Flat.{pair-places}
 use Rattle.testing.specs.declared.waiting.Turn.{Turn}
 use Rattle.testing.proofs.Lists.{set-low}
-use Rattle.marking.specs.inner.Waking.{Chained, test-places, turn-at}
+use Rattle.marking.specs.inner.Waking.{Chained, turn-at}
 
 -- At first nothing is chained.
-pub chained-start : Chained 0 (replicate pair-places 0) (replicate test-places 0)
-chained-start = record {
-  heads-low = λ p. rw (replicate-at {A = ℕ} pair-places 0 p) (omega arith);
-  nexts-fall = λ o. rw (replicate-at {A = ℕ} test-places 0 o) (omega arith);
-}
+pub chained-start : (nexts : List ℕ) → ((o : ℕ) → getD nexts o 0 ≡ 0) → Chained 0 (replicate pair-places 0) nexts
+chained-start nexts e = record { room = omega arith; heads-low = λ p. rw (replicate-at {A = ℕ} pair-places 0 p) (omega arith); nexts-fall = λ o. rw (e o) (omega arith) }
 
 -- Chains of the first places are chains of more.
-pub chained-past : (m n : ℕ) (heads nexts : List ℕ) → m ≤ n → Chained m heads nexts → Chained n heads nexts
-chained-past m n heads nexts h c = record { heads-low = λ p. omega (arith, c .heads-low p); nexts-fall = c .nexts-fall }
+pub chained-past : (m n : ℕ) (heads nexts : List ℕ) → m ≤ n → n ≤ length nexts → Chained m heads nexts → Chained n heads nexts
+chained-past m n heads nexts h l c = record { room = l; heads-low = λ p. omega (arith, c .heads-low p); nexts-fall = c .nexts-fall }
 
 -- The next place comes to the head of a chain.
-pub chained-more : (o p : ℕ) (heads nexts : List ℕ) → Chained o heads nexts → Chained (o + 1) (set heads p (o + 1)) (set nexts o (getD heads p 0))
-chained-more o p heads nexts c = record {
+pub chained-more : (o p : ℕ) (heads nexts : List ℕ) → o < length nexts → Chained o heads nexts → Chained (o + 1) (set heads p (o + 1)) (set nexts o (getD heads p 0))
+chained-more o p heads nexts h c = record {
+  room = rw (length-set nexts o (getD heads p 0)) (omega arith);
   heads-low = set-low heads p (o + 1) (λ k. o + 1) (λ k. omega (arith, c .heads-low k)) (omega arith);
   nexts-fall = set-low nexts o (getD heads p 0) (λ k. k) (c .nexts-fall) (c .heads-low p);
 }

@@ -5,7 +5,7 @@ ghost use mathlib.Core.List.{List};
 ghost use lib.Dec.{T};
 ghost use Rattle.model.specs.Rules.{Pair, among};
 ghost use Prim.Native.Nat.{ℕ, _*_, _≤_, _<_};
-ghost use lib.ListN.{getD};
+ghost use lib.ListN.{length, getD};
 ghost use Rattle.laws.specs.Limits.{slot-limit, value-limit, rule-limit};
 ghost use Rattle.table.specs.Link.{assignments-of};
 ghost use Rattle.table.specs.inner.Flat.{pair-places};
@@ -14,12 +14,10 @@ ghost use Rattle.testing.specs.inner.Waiting.{Woken};
 ghost use Rattle.judging.specs.inner.Known.{known};
 ghost use Rattle.marking.specs.inner.Waking.{Chained};
 ghost use Rattle.marking.specs.inner.Marked.{ruled-out, marked, assigned, clashes, unassigned-out, FirstNegative, AllMarked, NotMarked};
-use crate::waking::TESTS;
 use crate::waking::wake;
 use rows::NUMBERS;
 use table::PAIRS;
 use table::ROW;
-use table::RULES;
 use table::SLOTS;
 use testing::truth::WITHOUT_NOT;
 use truths::FALSE;
@@ -32,12 +30,12 @@ fn rule_out(
     negative: &mut [bool; PAIRS],
     truth: &mut [u8; WITHOUT_NOT],
     heads: &[u16; PAIRS],
-    nexts: &[u16; TESTS],
-    queued: &mut [bool; RULES],
-    woken: &mut [u16; RULES],
+    nexts: &[u16],
+    queued: &mut [bool],
+    woken: &mut [u16],
     left: usize,
 ) -> usize
-    requires { ⌜ (p < pair-places) × (n ≤ rule-limit) × Chained (n * 9) (now heads) (now nexts) × Woken n left (now woken) ⌝ }
+    requires { ⌜ (p < pair-places) × (n ≤ rule-limit) × Chained (n * 9) (now heads) (now nexts) × Woken n left (now woken) × (n ≤ length (now queued)) ⌝ }
     ensures { λ r. ⌜ ((positive : List Bool) → known positive (now (negative .exit)) (now (truth .exit)) ≡ ruled-out p (known positive (now (negative .entry)) (now (truth .entry)))) × Woken n r (now (woken .exit)) ⌝ }
 {
     negative[p] = true;
@@ -54,12 +52,12 @@ fn mark(
     negative: &mut [bool; PAIRS],
     truth: &mut [u8; WITHOUT_NOT],
     heads: &[u16; PAIRS],
-    nexts: &[u16; TESTS],
-    queued: &mut [bool; RULES],
-    woken: &mut [u16; RULES],
+    nexts: &[u16],
+    queued: &mut [bool],
+    woken: &mut [u16],
     left: usize,
 ) -> usize
-    requires { ⌜ (p < pair-places) × (count ≤ value-limit) × (n ≤ rule-limit) × Chained (n * 9) (now heads) (now nexts) × Woken n left (now woken) ⌝ }
+    requires { ⌜ (p < pair-places) × (count ≤ value-limit) × (n ≤ rule-limit) × Chained (n * 9) (now heads) (now nexts) × Woken n left (now woken) × (n ≤ length (now queued)) ⌝ }
     ensures { λ r. ⌜ (known (now (positive .exit)) (now (negative .exit)) (now (truth .exit)) ≡ marked p count (known (now (positive .entry)) (now (negative .entry)) (now (truth .entry)))) × Woken n r (now (woken .exit)) ⌝ }
 {
     positive[p] = true;
@@ -97,12 +95,12 @@ pub fn assign(
     negative: &mut [bool; PAIRS],
     truth: &mut [u8; WITHOUT_NOT],
     heads: &[u16; PAIRS],
-    nexts: &[u16; TESTS],
-    queued: &mut [bool; RULES],
-    woken: &mut [u16; RULES],
+    nexts: &[u16],
+    queued: &mut [bool],
+    woken: &mut [u16],
     left: usize,
 ) -> Marked
-    requires { ⌜ RowFits (now row) × ((p : Pair) → T (among p (assignments-of (rule-in (now row)))) → getD (now counts) (p .slot) 0 ≤ value-limit) × (n ≤ rule-limit) × Chained (n * 9) (now heads) (now nexts) × Woken n left (now woken) ⌝ }
+    requires { ⌜ RowFits (now row) × ((p : Pair) → T (among p (assignments-of (rule-in (now row)))) → getD (now counts) (p .slot) 0 ≤ value-limit) × (n ≤ rule-limit) × Chained (n * 9) (now heads) (now nexts) × Woken n left (now woken) × (n ≤ length (now queued)) ⌝ }
     ensures { λ r. ⌜ (r .clash ≡ clashes (now (counts .entry)) (assignments-of (rule-in (now (row .entry)))) (known (now (positive .entry)) (now (negative .entry)) (now (truth .entry))))
         × (r .clash ≡ false → known (now (positive .exit)) (now (negative .exit)) (now (truth .exit)) ≡ assigned (now (counts .entry)) (assignments-of (rule-in (now (row .entry)))) (known (now (positive .entry)) (now (negative .entry)) (now (truth .entry))))
         × Woken n (r .left) (now (woken .exit)) ⌝ }
@@ -153,12 +151,12 @@ pub fn rule_out_unassigned(
     negative: &mut [bool; PAIRS],
     truth: &mut [u8; WITHOUT_NOT],
     heads: &[u16; PAIRS],
-    nexts: &[u16; TESTS],
-    queued: &mut [bool; RULES],
-    woken: &mut [u16; RULES],
+    nexts: &[u16],
+    queued: &mut [bool],
+    woken: &mut [u16],
     left: usize,
 ) -> usize
-    requires { ⌜ RowFits (now row) × (n ≤ rule-limit) × Chained (n * 9) (now heads) (now nexts) × Woken n left (now woken) ⌝ }
+    requires { ⌜ RowFits (now row) × (n ≤ rule-limit) × Chained (n * 9) (now heads) (now nexts) × Woken n left (now woken) × (n ≤ length (now queued)) ⌝ }
     ensures { λ r. ⌜ (known (now (positive .entry)) (now (negative .exit)) (now (truth .exit)) ≡ unassigned-out (now (live .entry)) (assignments-of (rule-in (now (row .entry)))) (known (now (positive .entry)) (now (negative .entry)) (now (truth .entry))))
         × Woken n r (now (woken .exit)) ⌝ }
 {

@@ -1,6 +1,7 @@
 // Which rule selection looks at next. The rules that test a pair by `*=` are chained to it, and are woken when it is marked; this saves sweeps over the rules and decides nothing.
 ghost use mathlib.Core.Path.{_≡_};
 ghost use Prim.Native.Nat.{_+_, _*_, _≤_, _<_};
+ghost use lib.ListN.{length};
 ghost use Rattle.laws.specs.Limits.{rule-limit};
 ghost use Rattle.table.specs.inner.Flat.{pair-places};
 ghost use Rattle.rows.specs.inner.Rows.{RowFits};
@@ -10,18 +11,14 @@ use rows::NUMBERS;
 use rows::wide;
 use table::LITERALS;
 use table::PAIRS;
-use table::RULES;
 use testing::waiting::Turn;
 
 // The places where a rule can test a pair: its trigger and its literals.
-const EACH: usize = LITERALS + 1;
-
-// The places of all rules.
-pub const TESTS: usize = RULES * EACH;
+pub const EACH: usize = LITERALS + 1;
 
 // The rule woken last, or else rule k.
-pub fn next_rule(k: usize, woken: &[u16; RULES], left: usize) -> Turn
-    requires { ⌜ (left ≤ rule-limit) × (k ≤ rule-limit) ⌝ }
+pub fn next_rule(k: usize, woken: &[u16], left: usize) -> Turn
+    requires { ⌜ (left ≤ length (now woken)) × (k ≤ rule-limit) ⌝ }
     ensures { λ r. ⌜ r ≡ turn-at k (now (woken .entry)) left ⌝ }
 {
     if 0 < left {
@@ -40,8 +37,8 @@ pub fn next_rule(k: usize, woken: &[u16; RULES], left: usize) -> Turn
 }
 
 // Chains the place o to the pair at p.
-fn link(p: usize, o: usize, heads: &mut [u16; PAIRS], nexts: &mut [u16; TESTS])
-    requires { ⌜ (p < pair-places) × (o < test-places) ⌝ }
+fn link(p: usize, o: usize, heads: &mut [u16; PAIRS], nexts: &mut [u16])
+    requires { ⌜ (p < pair-places) × (o < test-places) × (o < length (now nexts)) ⌝ }
     ensures { λ _. ⌜ (Chained o (now (heads .entry)) (now (nexts .entry)) → Chained (o + 1) (now (heads .exit)) (now (nexts .exit))) ⌝ }
 {
     let head = heads[p];
@@ -50,8 +47,8 @@ fn link(p: usize, o: usize, heads: &mut [u16; PAIRS], nexts: &mut [u16; TESTS])
 }
 
 // Chains the places of rule i, from 0, to the pairs that it tests by `*=`.
-pub fn chain(row: &[u16; NUMBERS], i: usize, heads: &mut [u16; PAIRS], nexts: &mut [u16; TESTS])
-    requires { ⌜ RowFits (now row) × (i < rule-limit) ⌝ }
+pub fn chain(row: &[u16; NUMBERS], i: usize, heads: &mut [u16; PAIRS], nexts: &mut [u16])
+    requires { ⌜ RowFits (now row) × (i < rule-limit) × ((i + 1) * 9 ≤ length (now nexts)) ⌝ }
     ensures { λ _. ⌜ (Chained (i * 9) (now (heads .entry)) (now (nexts .entry)) → Chained ((i + 1) * 9) (now (heads .exit)) (now (nexts .exit))) ⌝ }
 {
     let first = i * EACH;
@@ -76,12 +73,12 @@ pub fn wake(
     p: usize,
     n: usize,
     heads: &[u16; PAIRS],
-    nexts: &[u16; TESTS],
-    queued: &mut [bool; RULES],
-    woken: &mut [u16; RULES],
+    nexts: &[u16],
+    queued: &mut [bool],
+    woken: &mut [u16],
     left: usize,
 ) -> usize
-    requires { ⌜ (p < pair-places) × (n ≤ rule-limit) × Chained (n * 9) (now heads) (now nexts) × Woken n left (now woken) ⌝ }
+    requires { ⌜ (p < pair-places) × (n ≤ rule-limit) × Chained (n * 9) (now heads) (now nexts) × Woken n left (now woken) × (n ≤ length (now queued)) ⌝ }
     ensures { λ r. ⌜ Woken n r (now (woken .exit)) ⌝ }
 {
     let mut top = left;

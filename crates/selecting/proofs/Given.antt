@@ -1,13 +1,15 @@
 -- What the selection is given: a declared pair has a place, and rule i + 1 is that of row i.
 -- Assumes nothing.
 use mathlib.Core.Path.{_≡_, refl, ap, _∙_}
+use mathlib.Core.Bool.{false}
 use mathlib.Core.List.{List, []}
-use Prim.Native.Nat.{ℕ, zero, suc, _≤_, _<_}
+use Prim.Native.Nat.{ℕ, zero, suc, _*_, _≤_, _<_}
 use native.Mathlib.Omega.{arith}
 use lib.Dec.{T}
-use lib.ListN.{length, getD}
+use lib.ListN.{length, getD, replicate, length-replicate}
 use Rattle.laws.specs.Limits.{slot-limit, value-limit}
 use Rattle.laws.specs.Numbers.{Numbered}
+use Rattle.laws.proofs.Filled.{replicate-at}
 use Rattle.model.specs.Rules.{Pair, Rule, among}
 use Rattle.model.specs.Orders.{rule-at}
 use Rattle.table.specs.Link.{rule-of, rules-of}
@@ -19,7 +21,7 @@ use Rattle.rows.proofs.Laws.{rule-row, rows-count, rows-table-shaped, rows-tabl
 use Rattle.marks.specs.Marks.{declared-pairs}
 use Rattle.marks.specs.inner.Declared.{Declared}
 use Rattle.marks.proofs.Pairs.{declared-iff}
-use Rattle.selecting.specs.inner.Selected.{Counts}
+use Rattle.selecting.specs.inner.Selected.{SetAside, Counts}
 use Rattle.selecting.proofs.Live.{assigned-at}
 
 -- The rules of the first n rows.
@@ -37,6 +39,17 @@ pub record Given (rows : List (List ℕ)) (n : ℕ) (ks : List ℕ) (width : ℕ
 -- Rule i + 1 is that of row i.
 pub rule-at-row : (rows : List (List ℕ)) (n i : ℕ) → i < n → rule-at (rules-in rows n) (suc i) ≡ rule-of (rule-in (getD rows i []))
 rule-at-row rows n i h = rule-at-is (table-in rows n) i (rw (rows-count rows n) h) ∙ ap rule-of (rule-row rows n i)
+
+-- Arrays of as many places as m rules take are set aside for n.
+pub set-aside : (m n : ℕ) → n ≤ m → SetAside n (replicate (m * 9) 0) (replicate m false) (replicate m false) (replicate m 0)
+set-aside m n h = record {
+  nexts-room = rw (length-replicate {A = ℕ} (m * 9) 0) (omega arith);
+  none-chained = replicate-at (m * 9) 0;
+  dead-room = rw (length-replicate m false) h;
+  none-dead = replicate-at m false;
+  queued-room = rw (length-replicate m false) h;
+  woken-room = rw (length-replicate {A = ℕ} m 0) h;
+}
 
 module _ (rows : List (List ℕ)) (n : ℕ) (ks : List ℕ) (width : ℕ) (counts : List ℕ) (I : List Pair) (G : Given rows n ks width counts I) where
   -- A declared pair has one of the slots, and NONE or one of its values.
@@ -56,7 +69,7 @@ module _ (rows : List (List ℕ)) (n : ℕ) (ks : List ℕ) (width : ℕ) (count
 
   -- There are n rules.
   rule-count : length (rules-in rows n) ≡ n
-  rule-count = count-of (table-in rows n) (rows-table-fits rows n (G .rows-fit)) (rows-table-shaped rows n (G .rows-fit .rows-shaped)) ∙ rows-count rows n
+  rule-count = count-of (table-in rows n) (rows-table-fits rows n (G .rows-fit)) (rows-table-shaped rows n (G .rows-fit)) ∙ rows-count rows n
 
   -- Row i has a number of a rule.
   pub row-number : (i : ℕ) → i < n → Numbered (length (rules-in rows n)) (suc i)

@@ -12,7 +12,7 @@ use lib.Dec.{T, eqb}
 use lib.ListN.{length, getD, set, replicate, length-map, length-take, List·getD-eq-default}
 use lib.Seq.{getD-set-same, getD-set-other}
 use borrow.Author.Tests.{eq-eqb, ne-eqb}
-use Rattle.laws.specs.Limits.{row, rule-limit, assignment-limit}
+use Rattle.laws.specs.Limits.{row, assignment-limit}
 use Rattle.laws.proofs.Truth.{or-l, or-r, or-e, le-or-lt}
 use Rattle.laws.proofs.Equations.{either}
 use Rattle.laws.proofs.Filled.{replicate-at}
@@ -119,10 +119,10 @@ module _ (rows : List (List ℕ)) where
   live-start dead live e q b = rw (e, replicate-at {A = ℕ} pair-places 0 q)
 
   -- One rule more is counted.
-  pub live-next : (n : ℕ) (live live′ : List ℕ) → Live rows (replicate rule-limit false) n live
-      → ((q : ℕ) → q < pair-places → getD live′ q 0 ≡ getD live q 0 + times q (assigned-at rows n)) → Live rows (replicate rule-limit false) (n + 1) live′
+  pub live-next : (dead : List Bool) (n : ℕ) (live live′ : List ℕ) → getD dead n false ≡ false → Live rows dead n live
+      → ((q : ℕ) → q < pair-places → getD live′ q 0 ≡ getD live q 0 + times q (assigned-at rows n)) → Live rows dead (n + 1) live′
   unfolding Live live-below
-  live-next n live live′ L k q b = rw (add-one n, replicate-at rule-limit false n) (omega (arith, L q b, k q b))
+  live-next dead n live live′ e L k q b = rw (add-one n, e) (omega (arith, L q b, k q b))
 
   -- No pair is assigned more often than rules have assignments.
   live-top : (n : ℕ) → RowsFit rows n → (dead : List Bool) (q m : ℕ) → m ≤ n → live-below rows dead q m ≤ m * assignment-limit

@@ -7,11 +7,11 @@ use mathlib.Core.Logic.{⊎-elim}
 use Prim.Native.Nat.{ℕ, zero, suc, _+_, _≤_, _<_}
 use native.Mathlib.Omega.{arith}
 use lib.Dec.{T, eqb, eqb→eq}
-use lib.ListN.{length, getD, set, replicate}
+use lib.ListN.{length, getD, set}
 use lib.Seq.{getD-set-same, getD-set-other}
 use borrow.Author.Tests.{eq-eqb, ne-eqb}
 use Rattle.laws.specs.Truth.{_∧ᵇ_, _∨ᵇ_, notᵇ}
-use Rattle.laws.specs.Limits.{row, rule-limit}
+use Rattle.laws.specs.Limits.{row}
 use Rattle.laws.specs.Numbers.{Numbered}
 use Rattle.laws.proofs.Truth.{bool-ext, and-l, and-r, and-i, or-l, or-r, or-e, not-i, not-e, stable, le-or-lt}
 use Rattle.laws.specs.Listed.{all-of}
@@ -19,7 +19,6 @@ use Rattle.laws.proofs.Equations.{either, from-true}
 use Rattle.laws.proofs.Equations as equations
 use Rattle.laws.proofs.Numbers.{is-false}
 use Rattle.laws.proofs.Flags.{flag-from}
-use Rattle.laws.proofs.Filled.{replicate-at}
 use Rattle.model.specs.Rules.{Pair, Pairs, Rule, among}
 use Rattle.model.specs.Orders.{rule-at, names}
 use Rattle.model.specs.Result.{pair, value-in, is-changed}
@@ -104,7 +103,7 @@ module _ (rows : List (List ℕ)) (n : ℕ) (ks : List ℕ) (width : ℕ) (count
 
   -- A rule that is True is fired, and nothing that it assigns is negative.
   pub fire : (k : Known) (live : List ℕ) (dead fired : List Bool) (i : ℕ) → Standing rows n ks S I k live dead fired → i < n → getD fired i false ≡ false
-      → truth-rule S (marks-of k) (rule-at (rules-in rows n) (suc i)) ≡ True → clashes counts (assigned-at rows i) k ≡ false → length fired ≡ rule-limit
+      → truth-rule S (marks-of k) (rule-at (rules-in rows n) (suc i)) ≡ True → clashes counts (assigned-at rows i) k ≡ false → i < length fired
       → Standing rows n ks S I (assigned counts (assigned-at rows i) k) live dead (set fired i true)
   unfolding update
   fire k live dead fired i X h u t c l =
@@ -119,7 +118,7 @@ module _ (rows : List (List ℕ)) (n : ℕ) (ks : List ℕ) (width : ℕ) (count
         negative-size = A .0 .whole .negative-size;
         selecting = fire-one ps rs S I (G .all-declared) (marks-of k) (fired-at fired) (X .selecting) (marks-of k′) (fired-at (set fired i true)) (suc i) (X .clear)
             (row-number rows n ks width counts I G i h) (λ x. subst T u x) (comes-true _ t) (λ p o. rw (rule-at-row rows n i h) (A .1 p o))
-            (λ m j. fired-more fired i (omega (arith, h, l, G .rows-fit .few)) m);
+            (λ m j. fired-more fired i l m);
         clear = A .0 .clear;
         truths = A .0 .whole .truths;
         inside = A .0 .inside;
@@ -188,14 +187,15 @@ module _ (rows : List (List ℕ)) (n : ℕ) (ks : List ℕ) (width : ℕ) (count
       clear p o x y = without-clear ps Z (unassigned live (Z .positive)) c open-one p o (subst T (e p o .same-positive) x) (subst T (e p o .same-negative) y)
 
   -- The start: the slip's pairs are positive and their rivals negative; so are the pairs that no rule assigns.
-  pub start : (positive negative : List Bool) (truth live : List ℕ) → SlipIs I positive → OneValue I → FirstNegative width live positive negative
-      → Truths S (known positive negative truth) → Live rows (replicate rule-limit false) n live → length positive ≡ pair-places
-      → Standing rows n ks S I (known positive negative truth) live (replicate rule-limit false) (replicate rule-limit false)
+  pub start : (positive negative : List Bool) (truth live : List ℕ) (dead fired : List Bool)
+      → ((i : ℕ) → getD dead i false ≡ false) → ((i : ℕ) → getD fired i false ≡ false) → SlipIs I positive → OneValue I → FirstNegative width live positive negative
+      → Truths S (known positive negative truth) → Live rows dead n live → length positive ≡ pair-places
+      → Standing rows n ks S I (known positive negative truth) live dead fired
   unfolding update no-marks without unassigned SlipIs OneValue Clear
-  start positive negative truth live slip one N W L l =
-      settled (known positive negative truth) live (replicate rule-limit false) (replicate rule-limit false) (update no-marks I)
-      (loop.start ps (rules-in rows n) S I (update no-marks I) (fired-at (replicate rule-limit false)) (λ p o. same-at-refl (update no-marks I) p) none)
-      (λ p o a b. single p (given p a) (rival p b)) L (λ i h t. absurd (rw (replicate-at rule-limit false i) at t)) l (N .size) W (λ p t. G .all-declared .slip p (rw (slip p) at t))
+  start positive negative truth live dead fired none-dead none-fired slip one N W L l =
+      settled (known positive negative truth) live dead fired (update no-marks I)
+      (loop.start ps (rules-in rows n) S I (update no-marks I) (fired-at fired) (λ p o. same-at-refl (update no-marks I) p) none)
+      (λ p o a b. single p (given p a) (rival p b)) L (λ i h t. absurd (rw (none-dead i) at t)) l (N .size) W (λ p t. G .all-declared .slip p (rw (slip p) at t))
       (λ p o. record {
         same-positive = slip p ∙ bool-ext _ _ (or-l _ _) (given p);
         same-negative = rw (set-in negative p (declared-placed rows n ks width counts I G p o .in-row)) (first p o ∙ bool-ext _ _ (there p o) (back p o));
@@ -204,9 +204,9 @@ module _ (rows : List (List ℕ)) (n : ℕ) (ks : List ℕ) (width : ℕ) (count
       ps : List Pair
       ps = declared-pairs ks
 
-      none : (m : ℕ) → Numbered (length (rules-in rows n)) m → fired-at (replicate rule-limit false) m ≡ false
+      none : (m : ℕ) → Numbered (length (rules-in rows n)) m → fired-at fired m ≡ false
       none zero j = refl
-      none (suc i) j = replicate-at rule-limit false i
+      none (suc i) j = none-fired i
 
       given : (p : Pair) → T (among p I ∨ᵇ false) → T (among p I)
       given p t = ⊎-elim (λ x. x) (λ x. absurd x) (or-e _ _ t)
@@ -250,13 +250,13 @@ module _ (rows : List (List ℕ)) (n : ℕ) (ks : List ℕ) (width : ℕ) (count
   -- A rule is False: its assignments are left no more, and the pairs that have none left are ruled out.
   pub kill : (k : Known) (live live′ : List ℕ) (dead fired : List Bool) (i : ℕ) → Standing rows n ks S I k live dead fired → i < n → getD dead i false ≡ false
       → truth-rule S (marks-of k) (rule-at (rules-in rows n) (suc i)) ≡ False → ((q : ℕ) → q < pair-places → getD live′ q 0 + times q (assigned-at rows i) ≡ getD live q 0)
-      → length dead ≡ rule-limit → Standing rows n ks S I (unassigned-out live′ (assigned-at rows i) k) live′ (set dead i true) fired
+      → i < length dead → Standing rows n ks S I (unassigned-out live′ (assigned-at rows i) k) live′ (set dead i true) fired
   unfolding without unassigned
   kill k live live′ dead fired i X h u t r l =
       let placed : (p : Pair) → T (among p (declared-pairs ks)) → Placed (p .slot) (p .value) = declared-placed rows n ks width counts I G in
       let O = unassigned-outs S live′ (assigned-at rows i) k (λ q a. placed q (assigns-declared rows n ks width counts I G i q h a)) (tidy-of k live dead fired X .whole) in
       settled (unassigned-out live′ (assigned-at rows i) k) live′ (set dead i true) fired (marks-of k) (X .selecting) (X .clear)
-      (live-released rows dead n i live live′ (X .counted) h (omega (arith, h, l, G .rows-fit .few)) u r)
+      (live-released rows dead n i live live′ (X .counted) h l u r)
       (λ j b x. ⊎-elim (λ (z : j ≡ i). rw z (comes-false _ t)) (λ y. X .dead-False j b y) (flag-from dead i j x))
       (O .whole .positive-size) (O .whole .negative-size) (O .whole .truths) (λ p x. X .inside p (rw (O .positive-same) at x))
       (λ p o. record {

@@ -25,7 +25,7 @@ module _ (k : ℕ) (woken : List ℕ) where
   pub turn-woken : (left : ℕ) (u : Turn) → u ≡ turn-at k woken left → (n : ℕ) → Woken n left woken → Woken n (u .left) woken
   unfolding turn-at
   turn-woken zero u e n w = rw e w
-  turn-woken (suc left) u e n w = rw e (record { size = w .size; few = omega (arith, w .few); low = λ j h. w .low j (omega arith) })
+  turn-woken (suc left) u e n w = rw e (record { room = w .room; few = omega (arith, w .few); low = λ j h. w .low j (omega arith) })
 
   -- the place stays within the rules,
   pub turn-place : (left : ℕ) (u : Turn) → u ≡ turn-at k woken left → (n : ℕ) → k < n + left → k ≤ n → u .place ≤ n
@@ -50,46 +50,46 @@ module _ (k : ℕ) (woken : List ℕ) where
   turn-less zero u e n h = rw e (omega (arith, h))
   turn-less (suc left) u e n h = rw e (omega arith)
 
--- How many rules are not done, a rule counted for being unfired and for not being dead.
+-- How many places of rules are not done, each counted for being unfired and for not being dead.
 unfoldable pub open-rules : List Bool → List Bool → ℕ
-open-rules fired dead = (rule-limit + rule-limit) - (flags-set fired + flags-set dead)
+open-rules fired dead = (length fired + length dead) - (flags-set fired + flags-set dead)
 
 -- In a sweep what has fired and what is dead stays, and where something moved there is more.
 pub record Kept (fired₀ dead₀ fired dead : List Bool) (moved : Bool) : Type 0 where
-  pub fired-size : length fired ≡ rule-limit
-  pub dead-size : length dead ≡ rule-limit
+  pub fired-size : length fired ≡ length fired₀
+  pub dead-size : length dead ≡ length dead₀
   pub no-more-open : open-rules fired dead ≤ open-rules fired₀ dead₀
   pub fewer-open : moved ≡ true → open-rules fired dead < open-rules fired₀ dead₀
 
-open-fired : (fired dead : List Bool) (i : ℕ) → i < rule-limit → length fired ≡ rule-limit → length dead ≡ rule-limit → getD fired i false ≡ false → open-rules (set fired i true) dead < open-rules fired dead
+open-fired : (fired dead : List Bool) (i : ℕ) → i < length fired → getD fired i false ≡ false → open-rules (set fired i true) dead < open-rules fired dead
 unfolding open-rules
-open-fired fired dead i h f d e =
-    let m = flags-more fired i (omega arith) e in
+open-fired fired dead i h e =
+    let m = flags-more fired i h e in
     let t = flags-top (set fired i true) in
     let u = flags-top dead in
     let l = length-set fired i true in
     omega arith
 
-open-dead : (fired dead : List Bool) (i : ℕ) → i < rule-limit → length fired ≡ rule-limit → length dead ≡ rule-limit → getD dead i false ≡ false → open-rules fired (set dead i true) < open-rules fired dead
+open-dead : (fired dead : List Bool) (i : ℕ) → i < length dead → getD dead i false ≡ false → open-rules fired (set dead i true) < open-rules fired dead
 unfolding open-rules
-open-dead fired dead i h f d e =
-    let m = flags-more dead i (omega arith) e in
+open-dead fired dead i h e =
+    let m = flags-more dead i h e in
     let t = flags-top (set dead i true) in
     let u = flags-top fired in
     let l = length-set dead i true in
     omega arith
 
-module _ (fired₀ dead₀ fired dead : List Bool) (moved : Bool) (i : ℕ) (h : i < rule-limit) (k : Kept fired₀ dead₀ fired dead moved) where
+module _ (fired₀ dead₀ fired dead : List Bool) (moved : Bool) (i : ℕ) (k : Kept fired₀ dead₀ fired dead moved) where
   -- A rule fires.
-  pub kept-fire : getD fired i false ≡ false → Kept fired₀ dead₀ (set fired i true) dead true
-  kept-fire e =
-      let m = open-fired fired dead i h (k .fired-size) (k .dead-size) e in
+  pub kept-fire : i < length fired → getD fired i false ≡ false → Kept fired₀ dead₀ (set fired i true) dead true
+  kept-fire h e =
+      let m = open-fired fired dead i h e in
       record { fired-size = length-set fired i true ∙ k .fired-size; dead-size = k .dead-size; no-more-open = omega (arith, k .no-more-open); fewer-open = λ z. omega (arith, k .no-more-open) }
 
   -- A rule is found False.
-  pub kept-kill : getD dead i false ≡ false → Kept fired₀ dead₀ fired (set dead i true) true
-  kept-kill e =
-      let m = open-dead fired dead i h (k .fired-size) (k .dead-size) e in
+  pub kept-kill : i < length dead → getD dead i false ≡ false → Kept fired₀ dead₀ fired (set dead i true) true
+  kept-kill h e =
+      let m = open-dead fired dead i h e in
       record { fired-size = k .fired-size; dead-size = length-set dead i true ∙ k .dead-size; no-more-open = omega (arith, k .no-more-open); fewer-open = λ z. omega (arith, k .no-more-open) }
 
 -- How much a sweep may still look at: each rule that is done may wake others.
@@ -101,14 +101,14 @@ module _ (woken : List ℕ) (fired dead : List Bool) (n k left : ℕ) (u : Turn)
   unfolding turns-left
   turn-over = omega (arith, turn-less k woken left u e n h)
 
-  module _ (left′ i : ℕ) (l : i < rule-limit) (f : length fired ≡ rule-limit) (d : length dead ≡ rule-limit) (few : left′ ≤ rule-limit) where
-    pub turn-fire : getD fired i false ≡ false → turns-left (set fired i true) dead n (u .place) left′ < turns-left fired dead n k left
+  module _ (left′ i : ℕ) (few : left′ ≤ n) (top : n ≤ rule-limit) where
+    pub turn-fire : i < length fired → getD fired i false ≡ false → turns-left (set fired i true) dead n (u .place) left′ < turns-left fired dead n k left
     unfolding turns-left
-    turn-fire o = let m = open-fired fired dead i l f d o in omega (arith, m, further k woken left u e)
+    turn-fire l o = let m = open-fired fired dead i l o in omega (arith, m, further k woken left u e)
 
-    pub turn-kill : getD dead i false ≡ false → turns-left fired (set dead i true) n (u .place) left′ < turns-left fired dead n k left
+    pub turn-kill : i < length dead → getD dead i false ≡ false → turns-left fired (set dead i true) n (u .place) left′ < turns-left fired dead n k left
     unfolding turns-left
-    turn-kill o = let m = open-dead fired dead i l f d o in omega (arith, m, further k woken left u e)
+    turn-kill l o = let m = open-dead fired dead i l o in omega (arith, m, further k woken left u e)
 
 -- How many sweeps may still come.
 unfoldable pub sweeps-left : List Bool → List Bool → Bool → ℕ

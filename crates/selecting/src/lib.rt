@@ -1,18 +1,5 @@
 // The selection of document 02, section 3, over rows: rules are fired and pairs ruled out until nothing more applies.
-ghost use mathlib.Core.Path.{_≡_};
-ghost use mathlib.Core.Bool.{false};
-ghost use mathlib.Core.List.{List, []};
-ghost use Prim.Native.Nat.{ℕ, _≤_, _<_};
-ghost use lib.ListN.{length, getD, replicate};
-ghost use Rattle.laws.specs.Limits.{slot-limit, value-limit, row, rule-limit};
-ghost use lib.Dec.{T};
-ghost use Rattle.model.specs.Rules.{Pair, among};
-ghost use Rattle.table.specs.inner.Flat.{pair-places};
-ghost use Rattle.table.specs.Link.{assignments-of, rules-of};
-ghost use Rattle.rows.specs.inner.Rows.{rule-in, table-in, RowsFit};
-ghost use Rattle.marks.specs.Marks.{declared-pairs};
-ghost use Rattle.marks.specs.inner.Declared.{Declared};
-ghost use Rattle.selecting.specs.inner.Selected.{Counts, CardIs, SlipIs, OneValue, Selected};
+ghost use Rattle.selecting.specs.inner.Selected.{Selectable, SetAside, Selects};
 use judging::counting::count_assigned;
 use judging::counting::release;
 use judging::truth::rule_truth;
@@ -21,10 +8,12 @@ use marking::pairs::all_known;
 use marking::pairs::assign;
 use marking::pairs::first_negative;
 use marking::pairs::rule_out_unassigned;
-use marking::waking::TESTS;
+use marking::waking::EACH;
 use marking::waking::chain;
 use marking::waking::next_rule;
+use rows::FEW;
 use rows::NUMBERS;
+use rows::SOME;
 use table::PAIRS;
 use table::RULES;
 use table::SLOTS;
@@ -33,42 +22,40 @@ use truths::Truth3;
 // Selects until nothing more applies: an unfired rule that is True is fired, a pair that only False rules assign is ruled out.
 // 0 with the positive pairs and the fired rules, 41 where a pair would be both positive and negative, else 42 where a pair stays unknown.
 // A rule is looked at again when a pair that it tests is marked; a sweep over all rules that moves nothing is the last.
-pub fn select(
-    rows: &[[u16; NUMBERS]; RULES],
+// What it keeps of each rule stands in arrays that it is lent.
+fn select_with(
+    rows: &[[u16; NUMBERS]],
     n: usize,
     width: usize,
     counts: &[usize; SLOTS],
     card: &[u8; SLOTS],
     positive: &mut [bool; PAIRS],
-    fired: &mut [bool; RULES],
+    fired: &mut [bool],
+    nexts: &mut [u16],
+    dead: &mut [bool],
+    queued: &mut [bool],
+    woken: &mut [u16],
 ) -> u8
-    requires { ⌜ RowsFit (now rows) n × (width ≤ slot-limit) × ((i : ℕ) → i < width → getD (now counts) i 0 ≤ value-limit)
-        × ((i : ℕ) (p : Pair) → i < n → T (among p (assignments-of (rule-in (getD (now rows) i [])))) → p .slot < width)
-        × ((s : ℕ) → s < slot-limit → getD (now card) s 0 < row) × (length (now positive) ≡ pair-places) × (now fired ≡ replicate rule-limit false) ⌝ }
-    ensures { λ r. ⌜ ((ks : List ℕ) (S : List ℕ) (I : List Pair) → Counts ks width (now (counts .entry)) → CardIs S (now (card .entry)) → SlipIs I (now (positive .entry)) → OneValue I
-        → Declared (declared-pairs ks) (rules-of (table-in (now (rows .entry)) n)) I → Selected (declared-pairs ks) (rules-of (table-in (now (rows .entry)) n)) S I r (now (positive .exit)) (now (fired .exit))) ⌝ }
+    requires { ⌜ Selectable (now rows) n width (now counts) (now card) (now positive) (now fired) × SetAside n (now nexts) (now dead) (now queued) (now woken) ⌝ }
+    ensures { λ r. ⌜ Selects (now (rows .entry)) n width (now (counts .entry)) (now (card .entry)) (now (positive .entry)) r (now (positive .exit)) (now (fired .exit)) ⌝ }
 {
     let mut live: [u16; PAIRS] = [0; PAIRS];
     let mut heads: [u16; PAIRS] = [0; PAIRS];
-    let mut nexts: [u16; TESTS] = [0; TESTS];
     let mut e: usize = 0;
     'enter: while e < n {
         count_assigned(&rows[e], &mut live);
-        chain(&rows[e], e, &mut heads, &mut nexts);
+        chain(&rows[e], e, &mut heads, nexts);
         e += 1;
     }
     let mut negative = first_negative(width, &live, positive);
     let mut truth = truth_of(card, positive, &negative);
-    let mut dead: [bool; RULES] = [false; RULES];
-    let mut queued: [bool; RULES] = [false; RULES];
-    let mut woken: [u16; RULES] = [0; RULES];
     let mut moved = true;
     'sweeps: while moved {
         moved = false;
         let mut k: usize = 0;
         let mut left: usize = 0;
         'rules: while k < n + left {
-            let turn = next_rule(k, &woken, left);
+            let turn = next_rule(k, woken, left);
             let i = turn.rule;
             k = turn.place;
             left = turn.left;
@@ -92,9 +79,9 @@ pub fn select(
                         &mut negative,
                         &mut truth,
                         &heads,
-                        &nexts,
-                        &mut queued,
-                        &mut woken,
+                        nexts,
+                        queued,
+                        woken,
                         left,
                     );
                     if marked.clash {
@@ -115,9 +102,9 @@ pub fn select(
                         &mut negative,
                         &mut truth,
                         &heads,
-                        &nexts,
-                        &mut queued,
-                        &mut woken,
+                        nexts,
+                        queued,
+                        woken,
                         left,
                     );
                     continue 'rules;
@@ -133,4 +120,74 @@ pub fn select(
     } else {
         42
     }
+}
+
+// Selects in arrays of one of three sizes, by how many rules there are.
+pub fn select(
+    rows: &[[u16; NUMBERS]],
+    n: usize,
+    width: usize,
+    counts: &[usize; SLOTS],
+    card: &[u8; SLOTS],
+    positive: &mut [bool; PAIRS],
+    fired: &mut [bool],
+) -> u8
+    requires { ⌜ Selectable (now rows) n width (now counts) (now card) (now positive) (now fired) ⌝ }
+    ensures { λ r. ⌜ Selects (now (rows .entry)) n width (now (counts .entry)) (now (card .entry)) (now (positive .entry)) r (now (positive .exit)) (now (fired .exit)) ⌝ }
+{
+    if n <= FEW {
+        let mut nexts: [u16; FEW * EACH] = [0; FEW * EACH];
+        let mut dead: [bool; FEW] = [false; FEW];
+        let mut queued: [bool; FEW] = [false; FEW];
+        let mut woken: [u16; FEW] = [0; FEW];
+        return select_with(
+            rows,
+            n,
+            width,
+            counts,
+            card,
+            positive,
+            fired,
+            &mut nexts,
+            &mut dead,
+            &mut queued,
+            &mut woken,
+        );
+    }
+    if n <= SOME {
+        let mut nexts: [u16; SOME * EACH] = [0; SOME * EACH];
+        let mut dead: [bool; SOME] = [false; SOME];
+        let mut queued: [bool; SOME] = [false; SOME];
+        let mut woken: [u16; SOME] = [0; SOME];
+        return select_with(
+            rows,
+            n,
+            width,
+            counts,
+            card,
+            positive,
+            fired,
+            &mut nexts,
+            &mut dead,
+            &mut queued,
+            &mut woken,
+        );
+    }
+    let mut nexts: [u16; RULES * EACH] = [0; RULES * EACH];
+    let mut dead: [bool; RULES] = [false; RULES];
+    let mut queued: [bool; RULES] = [false; RULES];
+    let mut woken: [u16; RULES] = [0; RULES];
+    select_with(
+        rows,
+        n,
+        width,
+        counts,
+        card,
+        positive,
+        fired,
+        &mut nexts,
+        &mut dead,
+        &mut queued,
+        &mut woken,
+    )
 }

@@ -1,7 +1,7 @@
 -- The places where rules test a pair by `*=`, chained to it: the last one of each pair, and the one before each, counted from 1 with 0 for none.
 use Prim.Native.Nat.{ℕ, zero, suc, _+_, _*_, _≤_}
 use mathlib.Core.List.{List}
-use lib.ListN.{getD}
+use lib.ListN.{length, getD}
 use Rattle.laws.specs.Limits.{rule-limit, literal-limit}
 use Rattle.testing.specs.declared.waiting.Turn.{Turn}
 
@@ -9,8 +9,9 @@ use Rattle.testing.specs.declared.waiting.Turn.{Turn}
 abbrev pub test-places : ℕ
 test-places = rule-limit * (literal-limit + 1)
 
--- The chains name the first m places only, and fall.
+-- The chains name the first m places only, which find room, and fall.
 pub record Chained (m : ℕ) (heads nexts : List ℕ) : Type 0 where
+  pub room : m ≤ length nexts
   pub heads-low : (p : ℕ) → getD heads p 0 ≤ m
   pub nexts-fall : (o : ℕ) → getD nexts o 0 ≤ o
 

@@ -6,7 +6,7 @@ use mathlib.Core.Logic.{⊎-elim}
 use Prim.Native.Nat.{ℕ, suc, _+_, _*_, _/_, _-_, _≤_, _<_}
 use native.Mathlib.Omega.{arith}
 use lib.Dec.{eqb}
-use lib.ListN.{getD, set}
+use lib.ListN.{length, getD, set}
 use borrow.Author.Tests.{eq-eqb, ne-eqb}
 use borrow.Author.Needs.{needs}
 use Rattle.laws.specs.Limits.{row}
@@ -21,23 +21,25 @@ use Rattle.marking.proofs.pairs.mark.Tie as tie
 abbrev Inv-values : tie.InvT-values
 Inv-values p n count positive negative₀ truth₀ heads nexts queued₀ woken₀ left had top₀ first rival₀ negative truth queued woken top rival =
     (rival ≤ count + 1) × (known positive negative truth ≡ rivals-out p rival (known positive negative₀ truth₀)) × Woken n top woken
+    × (length queued ≡ length queued₀) × (length woken ≡ length woken₀)
 
 abbrev μ-values : tie.MeasureT-values
 μ-values p n count positive negative₀ truth₀ heads nexts queued₀ woken₀ left had top₀ first rival₀ negative truth queued woken top rival = count + 1 - rival
 
 -- What the test of the pair comes to: False where the card has it.
-turned : (c : tie.Joined1 Inv-values μ-values) → let s = c .before .before in c .if1 .truth ≡ cond (eqb (getD (s .args .truth .now) (s .args .p) 0) 2) 0 2
+turned : (c : tie.Joined1 Inv-values μ-values) → let s = c .before .before .before .before .before in c .if1 .truth ≡ cond (eqb (getD (s .args .truth .now) (s .args .p) 0) 2) 0 2
 turned c =
-    let x = getD (c .before .before .args .truth .now) (c .before .before .args .p) 0 in
+    let s = c .before .before .before .before .before in
+    let x = getD (s .args .truth .now) (s .args .p) 0 in
     ⊎-elim (λ w. rw (eq-eqb x 2 (w .0 .taken)) (w .1)) (λ w. rw (ne-eqb x 2 (w .0 .left)) (w .1)) (c .if1 .came)
 
 -- The value at hand has its place.
 placed : (c : tie.In-values Inv-values μ-values) →
     let a = c .before in
-    let s = c .before .before .before .before .before .before .before in
+    let s = c .before .before .before .before .before .before .before .before .before .before .before .before .before .before in
     s .args .p / row * row + a .values .rival < pair-places
 placed c =
-    let s = c .before .before .before .before .before .before .before in
+    let s = c .before .before .before .before .before .before .before .before .before .before .before .before .before .before in
     omega (arith, s .pre .0, s .pre .1, c .values-test .taken)
 
 element-write-positive : tie.Need-element-write-positive Inv-values μ-values
@@ -53,14 +55,14 @@ element-write-truth : tie.Need-element-write-truth Inv-values μ-values
 element-write-truth c = search needs
 
 wake-requires : tie.Need-wake-requires Inv-values μ-values
-wake-requires c κs = let s = c .before .before .before .before in (s .pre .0, s .pre .2, s .pre .3, s .pre .4)
+wake-requires c κs = let s = c .before .before .before .before .before .before .before in (s .pre .0, s .pre .2, s .pre .3, s .pre .4, s .pre .5)
 
 mul-first : tie.Need-mul-first Inv-values μ-values
 mul-first c = search needs
 
 values-holds : tie.Need-values-holds Inv-values μ-values
 unfolding rivals-out
-values-holds c = (search needs, refl, c .wake .ensures)
+values-holds c = (search needs, refl, c .before .before .before .before .wake .ensures, refl, refl)
 
 add-at : tie.Need-add-at Inv-values μ-values
 add-at c = search needs
@@ -74,7 +76,7 @@ values-less c = search needs
 values-again : tie.Need-values-again Inv-values μ-values
 values-again c =
     let a = c .before .before in
-    (search needs, rivals-self _ _ _ _ (c .if2 .taken) (a .values .inv .1), a .values .inv .2)
+    (search needs, rivals-self _ _ _ _ (c .if2 .taken) (a .values .inv .1), a .values .inv .2, a .values .inv .3, a .values .inv .4)
 
 element-copy-out-if3 : tie.Need-element-copy-out-if3 Inv-values μ-values
 element-copy-out-if3 c = placed (c .before)
@@ -85,29 +87,36 @@ values-less-2 c = search needs
 values-again-2 : tie.Need-values-again-2 Inv-values μ-values
 values-again-2 c =
     let a = c .before .before .before .before in
-    (search needs, rivals-negative _ _ _ _ (c .if3 .taken) (a .values .inv .1), a .values .inv .2)
+    (search needs, rivals-negative _ _ _ _ (c .if3 .taken) (a .values .inv .1), a .values .inv .2, a .values .inv .3, a .values .inv .4)
 
 rule-out-requires : tie.Need-rule-out-requires Inv-values μ-values
 rule-out-requires c κs =
     let i = c .before .before .before .before .before .before .before in
-    let s = i .before .before .before .before .before .before .before in
-    (placed i, s .pre .2, s .pre .3, i .before .values .inv .2)
+    let s = i .before .before .before .before .before .before .before .before .before .before .before .before .before .before in
+    (placed i, s .pre .2, s .pre .3, i .before .values .inv .2, search needs)
 
 values-less-3 : tie.Need-values-less-3 Inv-values μ-values
 values-less-3 c = search needs
 
 values-again-3 : tie.Need-values-again-3 Inv-values μ-values
 values-again-3 c =
-    let e = c .before .before .before .before .before in
+    let r = c .before .before .before .before in
+    let e = r .before .before .before .before .before in
     let a = e .before .before .before .before in
-    (search needs, c .rule-out .ensures .0 _ ∙ rivals-more _ _ _ _ (e .before .before .if2 .left) (e .if3 .left) (a .values .inv .1), c .rule-out .ensures .1)
+    (search needs, r .rule-out .ensures .0 _ ∙ rivals-more _ _ _ _ (e .before .before .if2 .left) (e .if3 .left) (a .values .inv .1), r .rule-out .ensures .1, search needs, search needs)
+
+same-length : tie.Need-same-length Inv-values μ-values
+same-length c = search needs
+
+same-length-2 : tie.Need-same-length-2 Inv-values μ-values
+same-length-2 c = search needs
 
 returns : tie.Need-returns Inv-values μ-values
 unfolding marked made-positive
 returns c =
     let a = c .before in
-    let j = a .before .before .before .before in
-    let s = j .before .before in
+    let j = a .before .before .before .before .before .before .before .before in
+    let s = j .before .before .before .before .before in
     let last : a .values .rival ≡ suc (s .args .count) = omega (arith, a .values .inv .0, c .values-test .left) in
     let from : ℕ → ℕ → Known = λ v t. rivals-out (s .args .p) v (known (set (s .args .positive .now) (s .args .p) true) (s .args .negative .now) (set (s .args .truth .now) (pair-places + s .args .p) t)) in
     (a .values .inv .1 ∙ ap₂ from last (turned j), a .values .inv .2)
@@ -135,4 +144,6 @@ mark-spec =
     rule-out-requires
     values-less-3
     values-again-3
+    same-length
+    same-length-2
     returns)

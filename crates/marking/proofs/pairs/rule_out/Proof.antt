@@ -16,11 +16,24 @@ element-write-truth : tie.Need-element-write-truth
 element-write-truth c = search needs
 
 wake-requires : tie.Need-wake-requires
-wake-requires c κs = let s = c .before .before in (s .pre .0, s .pre .1, s .pre .2, s .pre .3)
+wake-requires c κs = let s = c .before .before .before .before .before in (s .pre .0, s .pre .1, s .pre .2, s .pre .3, s .pre .4)
+
+same-length : tie.Need-same-length
+same-length c = search needs
+
+same-length-2 : tie.Need-same-length-2
+same-length-2 c = search needs
 
 returns : tie.Need-returns
 unfolding ruled-out
-returns c = (λ positive. refl, c .wake .ensures)
+returns c = (λ positive. refl, c .before .before .before .before .wake .ensures)
 
 pub rule-out-spec : {M : Type 1} → statement M
-rule-out-spec = tie.close (tie.spec element-write-negative add-truth element-write-truth wake-requires returns)
+rule-out-spec = tie.close (tie.spec
+    element-write-negative
+    add-truth
+    element-write-truth
+    wake-requires
+    same-length
+    same-length-2
+    returns)

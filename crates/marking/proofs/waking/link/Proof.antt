@@ -14,8 +14,8 @@ element-copy-out-head c = search needs
 mul-nexts : tie.Need-mul-nexts
 mul-nexts c = search needs
 
-element-write-nexts : tie.Need-element-write-nexts
-element-write-nexts c = search needs
+slice-write-nexts : tie.Need-slice-write-nexts
+slice-write-nexts c = search needs
 
 add-heads : tie.Need-add-heads
 add-heads c = search needs
@@ -29,8 +29,11 @@ mul-heads c = search needs
 element-write-heads : tie.Need-element-write-heads
 element-write-heads c = search needs
 
+same-length : tie.Need-same-length
+same-length c = search needs
+
 returns : tie.Need-returns
-returns c = λ w. chained-more _ _ _ _ w
+returns c = λ w. chained-more _ _ _ _ (c .before .pre .2) w
 
 pub link-spec : {M : Type 1} → statement M
 link-spec =
@@ -39,9 +42,10 @@ link-spec =
     mul-head
     element-copy-out-head
     mul-nexts
-    element-write-nexts
+    slice-write-nexts
     add-heads
     cast-heads
     mul-heads
     element-write-heads
+    same-length
     returns)
