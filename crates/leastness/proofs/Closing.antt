@@ -1,6 +1,6 @@
 -- What the test keeps while it goes through the rules: those held are justified, their pairs are flagged and queued, and the others wait on the chains of the pairs that they need.
 -- Assumes nothing.
-use mathlib.Core.Path.{_≡_, refl, sym, _∙_}
+use mathlib.Core.Path.{_≡_, refl, sym}
 use mathlib.Core.Bool.{Bool, true, false, cond}
 use mathlib.Core.List.{List, [], _∷_}
 use mathlib.Core.Logic.{_⊎_, inl, inr, ⊎-elim}
@@ -14,7 +14,6 @@ use Rattle.laws.specs.inner.Flags.{flags-set}
 use Rattle.laws.proofs.Flags.{flag-here, flag-kept, flag-from}
 use Rattle.laws.proofs.Filled.{replicate-at}
 use Rattle.model.specs.Rules.{Pair, Literal, among}
-use Rattle.model.specs.Rules as model
 use Rattle.model.specs.Orders.{rule-at}
 use Rattle.model.specs.Strata.{weak, pairs-where, is-plain, tested, needed, barred, depends-under-not, must-fall}
 use Rattle.model.specs.inner.Justified.{Justified, at-first, one-above}
@@ -34,7 +33,7 @@ use Rattle.leastness.specs.inner.Chains.{heads-with, nexts-with}
 use Rattle.leastness.specs.inner.Low.{Unheld, Unchained}
 use Rattle.leastness.specs.inner.Flagging.{Flagging, flagging, flag-all}
 use Rattle.leastness.proofs.Flagging.{Queued, FlaggedAll, flagged-all}
-use Rattle.leastness.proofs.Chains.{On, first, Falls, Linked, LinkedAll, Kept, linked-all, on-none, nexts-length}
+use Rattle.leastness.proofs.Chains.{On, Falls, Linked, LinkedAll, Kept, linked-all, on-none, nexts-length}
 use Rattle.leastness.proofs.Carried.{Carried}
 
 picked-few : (f : Literal → Bool) (ls : List Literal) → length (pairs-where f ls) ≤ length ls

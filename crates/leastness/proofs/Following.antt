@@ -3,7 +3,7 @@
 use mathlib.Core.Path.{_≡_, sym, _∙_, subst}
 use mathlib.Core.Bool.{Bool, true, false}
 use mathlib.Core.List.{List, _∷_}
-use mathlib.Core.Logic.{_⊎_, inl, inr, ⊎-elim}
+use mathlib.Core.Logic.{inl, inr, ⊎-elim}
 use Prim.Native.Nat.{ℕ, zero, suc, _+_, _-_, _/_, _≤_, _<_, _*_}
 use native.Mathlib.Nat.{eq-or-lt-of-le}
 use native.Mathlib.Omega.{arith}
@@ -14,7 +14,6 @@ use Rattle.laws.specs.inner.Flags.{all-set}
 use Rattle.laws.proofs.Truth.{bool-ext, le-or-lt}
 use Rattle.laws.proofs.Flags.{flag-here, flag-kept, all-set-i, all-set-e}
 use Rattle.model.specs.Rules.{Pair, among}
-use Rattle.model.specs.Rules as model
 use Rattle.model.specs.Orders.{rule-at}
 use Rattle.model.specs.Strata.{weak, needed, barred, depends-plainly, depends-under-not, may-stay-level, must-fall}
 use Rattle.model.specs.inner.Justified.{Justified, level-with}

@@ -1,6 +1,5 @@
 -- `leastness::chain` meets its contract.
 -- Assumes nothing.
-use Prim.Native.Nat.{_-_}
 use Rattle.leastness.proofs.Chains.{at-level, off-level}
 use borrow.Author.Needs.{needs}
 use Rattle.leastness.proofs.chain.Statement.{statement}

@@ -1,13 +1,11 @@
 -- `leastness::is_low` meets its contract.
 -- Assumes nothing.
-use mathlib.Core.Path.{_≡_, _∙_, sym, ap}
+use mathlib.Core.Path.{_∙_, sym, ap}
 use mathlib.Core.Bool.{true≢false, false≢true}
 use mathlib.Core.List.{[]}
-use mathlib.Core.Logic.{⊎-elim}
 use Prim.Native.Nat.{ℕ, _-_, _≤_, _<_}
-use native.Mathlib.Nat.{eq-or-lt-of-le}
 use lib.ListN.{getD}
-use Rattle.rows.specs.inner.Rows.{table-in, rule-in}
+use Rattle.rows.specs.inner.Rows.{table-in}
 use Rattle.rows.proofs.Laws.{rule-row, rows-count, rows-table-fits, rows-table-shaped, at-last}
 use Rattle.table.specs.declared.Rule.{Rule}
 use Rattle.leastness.proofs.Carried.{not-low}
@@ -22,7 +20,6 @@ Inv-loop rows n i₀ i = (i ≤ n) × ((k : ℕ) → k < i → getD (getD rows k
 abbrev μ-loop : tie.MeasureT-loop
 μ-loop rows n i₀ i = n - i
 
--- The table that the rows stand for has as many rules.
 loop-holds : tie.Need-loop-holds Inv-loop μ-loop
 loop-holds c = (search needs, λ k h. absurd (let z = h in omega arith))
 
