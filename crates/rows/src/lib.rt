@@ -23,11 +23,6 @@ pub const SOME: usize = 256;
 // The numbers of a row.
 pub const NUMBERS: usize = 4 + LITERALS + ASSIGNMENTS;
 
-// What is set aside for rules has one of three sizes, each about eight times the one before: for a few rules, for some, and for as many as a file may have (table::RULES).
-pub const FEW: usize = 32;
-
-pub const SOME: usize = 256;
-
 // What a test's number has more for `*=`.
 pub const BECOMES: u16 = 512;
 
