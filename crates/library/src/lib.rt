@@ -19,6 +19,7 @@ use cards::Card;
 use cards::Packing;
 use cards::Slip;
 use printing::Printing;
+use table::Limits;
 use table::Name;
 use table::Slot;
 use table::Table;
@@ -107,7 +108,7 @@ fn second_of(outcome: reader::Outcome) -> usize
 pub extern "C" fn rl_read(text: &[u8]) -> RlRead
     ensures { λ r. ⌜ r ≡ reading-numbers (reading (now (text .entry))) ⌝ }
 {
-    let read = rule_file::read(text, Way::Strata);
+    let read = rule_file::read(text, Way::Strata, Limits::Library);
     let outcome = read.outcome;
     let t = read.table;
     RlRead {
@@ -122,7 +123,7 @@ pub extern "C" fn rl_read(text: &[u8]) -> RlRead
 pub extern "C" fn rl_read_unlayered(text: &[u8]) -> RlRead
     ensures { λ r. ⌜ r ≡ reading-numbers (reading-without-18 (now (text .entry))) ⌝ }
 {
-    let read = rule_file::read(text, Way::Marks);
+    let read = rule_file::read(text, Way::Marks, Limits::Library);
     let outcome = read.outcome;
     let t = read.table;
     RlRead {

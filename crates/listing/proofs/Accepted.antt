@@ -2,7 +2,7 @@
 -- Assumes nothing.
 use Prim.Native.Nat.{ℕ, suc, _-_, _≤_, _<_}
 use native.Mathlib.Omega.{arith}
-use mathlib.Core.Path.{_≡_, refl, sym, ap, _∙_}
+use mathlib.Core.Path.{_≡_, refl, sym, ap, subst, _∙_}
 use mathlib.Core.Bool.{Bool, true, false, cond}
 use mathlib.Core.List.{List}
 use lib.ListN.{length, getD, length-map}
@@ -10,7 +10,7 @@ use Rattle.laws.specs.Numbers.{Numbered}
 use Rattle.laws.proofs.Listed.{each-at}
 use Rattle.model.specs.Strata.{weak}
 use Rattle.model.proofs.Strata.{least-top}
-use Rattle.laws.specs.Limits.{name-limit, slot-limit, rule-limit}
+use Rattle.laws.specs.Limits.{name-limit, slot-limit, program-rule-limit}
 use Rattle.grammar.specs.Files.{Slot, File, no-slot, values-of}
 use Rattle.grammar.proofs.Accepts.{accepts-iff, one-meaning}
 use Rattle.grammar.proofs.Declared.{Declared-file, file-declared}
@@ -23,7 +23,9 @@ use Rattle.names.proofs.Names.{slot-inside, value-inside}
 use Rattle.strata.specs.Layered.{with-strata}
 use Rattle.grammar.specs.TableFor.{table-for}
 use Rattle.reader.specs.declared.Outcome.the-variants.{Accepted}
-use Rattle.rule_file.specs.Whole.{reading}
+use Rattle.reader.specs.declared.FileRead.{FileRead}
+use Rattle.rule_file.specs.Whole.{reading, program-reading}
+use Rattle.rule_file.proofs.Within.{program-accepted, program-few}
 use Rattle.rule_file.specs.Carries.{Carries, declared, declared-slot, declared-value}
 use Rattle.rule_file.proofs.Answers.{accepted-table, reading-carries}
 
@@ -46,18 +48,25 @@ value-le slots s v named = go (has-slot (length slots) s) refl (has-value (lengt
     go true e false h = omega arith
     go false e c h = omega arith
 
-module _ (text : List ℕ) (o : reading text .outcome ≡ Accepted) where
+module _ (text : List ℕ) (o : program-reading text .outcome ≡ Accepted) where
   abbrev read-table : Table
-  read-table = reading text .table
+  read-table = program-reading text .table
+
+  -- The library accepts it too, with the same table.
+  library-accepts : reading text .outcome ≡ Accepted
+  library-accepts = ap (λ (r : FileRead). r .outcome) (program-accepted text o) ∙ o
+
+  same-table : reading text .table ≡ read-table
+  same-table = ap (λ (r : FileRead). r .table) (program-accepted text o)
 
   abbrev carries : Carries text read-table
-  carries = reading-carries text o
+  carries = subst (Carries text) same-table (reading-carries text library-accepts)
 
   abbrev file : File
   file = carries .file
 
-  same-file : accepted-table text o .0 ≡ file
-  same-file = one-meaning text (accepted-table text o .0) file (accepts-iff text (accepted-table text o .0) .0 (accepted-table text o .1)) (carries .is-file)
+  same-file : accepted-table text library-accepts .0 ≡ file
+  same-file = one-meaning text (accepted-table text library-accepts .0) file (accepts-iff text (accepted-table text library-accepts .0) .0 (accepted-table text library-accepts .1)) (carries .is-file)
 
   file-is : Declared-file file
   file-is = file-declared text file (carries .is-file)
@@ -65,11 +74,11 @@ module _ (text : List ℕ) (o : reading text .outcome ≡ Accepted) where
   -- The table counts the slots and rules of its file.
   width-is : read-table .width ≡ length (file .slots)
   unfolding with-strata table-for
-  width-is = ap (λ (t : Table). t .width) (accepted-table text o .2) ∙ ap (λ (f : File). length (f .slots)) same-file
+  width-is = ap (λ (t : Table). t .width) (sym same-table ∙ accepted-table text library-accepts .2) ∙ ap (λ (f : File). length (f .slots)) same-file
 
   count-is : read-table .count ≡ length (file .rules)
   unfolding with-strata table-for
-  count-is = ap (λ (t : Table). t .count) (accepted-table text o .2) ∙ ap (λ (f : File). length (f .rules)) same-file
+  count-is = ap (λ (t : Table). t .count) (sym same-table ∙ accepted-table text library-accepts .2) ∙ ap (λ (f : File). length (f .rules)) same-file
 
   pub slots-counted : length (value-counts read-table) ≡ read-table .width
   slots-counted = ap length (carries .counts-are) ∙ length-map (file .slots) (λ (s : Slot). length (s .values)) ∙ sym width-is
@@ -80,11 +89,11 @@ module _ (text : List ℕ) (o : reading text .outcome ≡ Accepted) where
   pub few-slots : read-table .width ≤ slot-limit
   few-slots = omega (arith, width-is, file-is .few-slots)
 
-  pub few-rules : read-table .count ≤ rule-limit
-  few-rules = omega (arith, count-is, file-is .few-rules)
+  pub few-rules : read-table .count ≤ program-rule-limit
+  few-rules = omega (arith, count-is, program-few text o file (accepts-iff text file .1 (carries .is-file)))
 
   -- No stratum is above the number of rules.
-  pub strata-low : (i : ℕ) → i < read-table .count → stratum-at read-table (suc i) ≤ rule-limit
+  pub strata-low : (i : ℕ) → i < read-table .count → stratum-at read-table (suc i) ≤ program-rule-limit
   strata-low i h =
       let n : Numbered (length (file .rules)) (suc i) = record { first = omega arith; last = omega (arith, h, count-is) } in
       omega (arith, carries .strata-are (suc i) n, least-top weak (file .rules) (carries .no-circle) (suc i) n, count-is, few-rules)

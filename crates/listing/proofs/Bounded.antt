@@ -20,7 +20,7 @@ use Rattle.table.specs.declared.Way.the-variants.{Strata}
 use Rattle.names.specs.Names.{show-slot, show-value}
 use Rattle.reader.specs.declared.Outcome.{Outcome}
 use Rattle.reader.specs.declared.Outcome.the-variants.{Accepted, Refused}
-use Rattle.rule_file.specs.Whole.{reading}
+use Rattle.rule_file.specs.Whole.{program-reading}
 use Rattle.cards.specs.Forms.{card-bits, changes-in}
 use Rattle.cards.proofs.Taken.{changes-length}
 use Rattle.tally.specs.declared.Tally.{Tally}
@@ -88,9 +88,9 @@ listed-short zero name h = omega arith
 listed-short (suc k) name h = rw (ne-eqb (suc k) 0 (λ e. omega arith)) h
 
 -- The line of a change, by the names of an accepted text.
-module _ (text : List ℕ) (o : reading text .outcome ≡ Accepted) where
+module _ (text : List ℕ) (o : program-reading text .outcome ≡ Accepted) where
   abbrev t : Table
-  t = reading text .table
+  t = program-reading text .table
 
   change-le : (p : Pair) → length (change-text (change-line text t p)) ≤ change-text-most
   unfolding change-text bytes bytes-from
@@ -145,15 +145,15 @@ module _ (text : List ℕ) (o : reading text .outcome ≡ Accepted) where
   response-bounded n card slip (refused k s) w e h = refusal-le k s h
 
 -- What the reading comes to for an editor.
-reading-bounded : (text card slip : List ℕ) (n : ℕ) → is-editor n ≡ true → length (printed (list-reading text (reading text .outcome) (reading text .table) (program-editors n) card slip)) ≤ page
+reading-bounded : (text card slip : List ℕ) (n : ℕ) → is-editor n ≡ true → length (printed (list-reading text (program-reading text .outcome) (program-reading text .table) (program-editors n) card slip)) ≤ page
 unfolding list-reading printed
-reading-bounded text card slip n w = go (reading text .outcome) refl (reading-small text)
+reading-bounded text card slip n w = go (program-reading text .outcome) refl (reading-small text)
   where
-    go : (q : Outcome) → reading text .outcome ≡ q → SmallOutcome q → length (printed (list-reading text q (reading text .table) (program-editors n) card slip)) ≤ page
+    go : (q : Outcome) → program-reading text .outcome ≡ q → SmallOutcome q → length (printed (list-reading text q (program-reading text .table) (program-editors n) card slip)) ≤ page
     go Accepted o h =
-        rw (program-answer n w (reading text .table) card slip program-rooms)
-        (response-bounded text o n card slip (answer-at Strata (reading text .table) fresh card slip program-rooms) w refl
-        (answer-small (reading text .table) fresh card slip program-rooms (omega (arith, slots-counted text o, few-slots text o))))
+        rw (program-answer n w (program-reading text .table) card slip program-rooms)
+        (response-bounded text o n card slip (answer-at Strata (program-reading text .table) fresh card slip program-rooms) w refl
+        (answer-small (program-reading text .table) fresh card slip program-rooms (omega (arith, slots-counted text o, few-slots text o))))
     go (Refused k m) o h = refusal-le k m h
 
 -- ALL THAT THE PROGRAM PRINTS goes onto a page.

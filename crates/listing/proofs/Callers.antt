@@ -10,7 +10,7 @@ use Rattle.laws.specs.Answers.{OrRefused, taken, refused}
 use Rattle.laws.proofs.Filled.{replicate-at}
 use Rattle.table.specs.declared.Table.{Table}
 use Rattle.table.specs.declared.Way.the-variants.{Strata}
-use Rattle.rule_file.specs.Whole.{reading}
+use Rattle.rule_file.specs.Whole.{program-reading}
 use Rattle.tally.specs.declared.Tally.{Tally}
 use Rattle.tally.specs.Counting.{fresh}
 use Rattle.tally.specs.Editors.{is-editor, has-record, record-at, own-record, with-record}
@@ -54,7 +54,7 @@ module _ (n : ℕ) (e : is-editor n ≡ true) where
 -- The listing is what the reading comes to where the editor file holds an editor's number, else 44.
 module _ (text card slip editor : List ℕ) where
   abbrev read : Listing
-  read = list-reading text (reading text .outcome) (reading text .table) (program-editors (editor-number editor)) card slip
+  read = list-reading text (program-reading text .outcome) (program-reading text .table) (program-editors (editor-number editor)) card slip
 
   by-number : (b : Bool) → is-editor (editor-number editor) ≡ b → listing text card slip editor ≡ cond b read (refusal 44 0)
   unfolding listing listing-in

@@ -18,7 +18,7 @@ use Rattle.table.specs.declared.Way.the-variants.{Strata}
 use Rattle.soundness.specs.Sound.{takes}
 use Rattle.reader.specs.declared.Outcome.{Outcome}
 use Rattle.reader.specs.declared.Outcome.the-variants.{Accepted, Refused}
-use Rattle.rule_file.specs.Whole.{answered-whole, reading}
+use Rattle.rule_file.specs.Whole.{answered-whole, program-reading}
 use Rattle.cards.specs.Forms.{read-card, read-slip}
 use Rattle.cards.proofs.Taken.{card-short, slip-short}
 use Rattle.tally.specs.Counting.{is-full}
@@ -36,12 +36,12 @@ long-slip counts ys h = slip-short counts ys (λ (e : length ys ≡ _). omega (a
 
 -- What a reading comes to.
 abbrev read : List ℕ → Editors → List ℕ → List ℕ → Listing
-read text y card slip = list-reading text (reading text .outcome) (reading text .table) y card slip
+read text y card slip = list-reading text (program-reading text .outcome) (program-reading text .table) y card slip
 
 -- A text that fills its room is too long.
 long-text : (text : List ℕ) (y : Editors) (card slip : List ℕ) → text-room ≤ length text → read text y card slip ≡ refusal 10 0
-unfolding list-reading reading answered-whole
-long-text text y card slip h = rw (read-long text (omega (arith, h)))
+unfolding list-reading answered-whole
+long-text text y card slip h = rw (read-long program-text-limit program-rule-limit text (omega (arith, h)))
 
 -- What fills a room.
 full : (n : ℕ) (ys : List ℕ) → n ≤ length ys → n ≤ length (take n ys)
@@ -74,7 +74,7 @@ entries-cut text card slip (Refused k n) t y = refl
 reading-cut : (text card slip : List ℕ) (y : Editors) → read (take text-room text) y (take card-room card) (take slip-room slip) ≡ read text y card slip
 reading-cut text card slip y = ⊎-elim
     (λ (h : text-room ≤ length text). long-text (take text-room text) y (take card-room card) (take slip-room slip) (full text-room text h) ∙ sym (long-text text y card slip h))
-    (λ (h : length text < text-room). ap (λ (ys : List ℕ). read ys y (take card-room card) (take slip-room slip)) (take-all text-room text (omega arith)) ∙ entries-cut text card slip (reading text .outcome) (reading text .table) y) (le-or-lt text-room (length text))
+    (λ (h : length text < text-room). ap (λ (ys : List ℕ). read ys y (take card-room card) (take slip-room slip)) (take-all text-room text (omega arith)) ∙ entries-cut text card slip (program-reading text .outcome) (program-reading text .table) y) (le-or-lt text-room (length text))
 
 -- Two bytes are enough to see that an editor file has not one.
 number-cut : (editor : List ℕ) → editor-number (take editor-room editor) ≡ editor-number editor

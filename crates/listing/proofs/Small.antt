@@ -18,11 +18,13 @@ use Rattle.model.specs.Result.{conflict-slot}
 use Rattle.model.proofs.Steps.{lowest-through-not}
 use Rattle.text.specs.Tokens.{Token, WHEN, SLOT, tokens}
 use Rattle.table.specs.declared.Table.{Table}
-use Rattle.laws.specs.Limits.{slot-limit, row, text-limit, rule-limit}
+use Rattle.laws.specs.Limits.{slot-limit, row, program-text-limit, program-rule-limit}
 use Rattle.table.specs.Link.{rules-of, value-counts}
 use Rattle.grammar.specs.Files.{Slot}
 use Rattle.grammar.specs.Reading as grammar
-use Rattle.grammar.specs.Reading.{Part, took, stop, expects, begins-with, if-next, read-rule, read-line, go-on, read-rules, read-lines, read-tokens, parse, parse-within}
+use Rattle.grammar.specs.Reading.{Part, took, stop, expects, begins-with, if-next, read-rule, read-line, go-on, read-rules, read-lines, read-tokens, parse-within, parse-by}
+use Rattle.grammar.proofs.Within.{accepted-by}
+use Rattle.table.specs.declared.Limits.the-variants.{Program}
 use Rattle.grammar.proofs.Accepts.{accepts-iff}
 use Rattle.grammar.proofs.Declared.{file-declared}
 use Rattle.table.specs.Empty.{empty-table}
@@ -33,7 +35,7 @@ use Rattle.grammar.specs.TableFor.{table-for}
 use Rattle.reader.specs.declared.FileRead.{FileRead}
 use Rattle.reader.specs.declared.Outcome.{Outcome}
 use Rattle.reader.specs.declared.Outcome.the-variants.{Accepted, Refused}
-use Rattle.rule_file.specs.Whole.{layered, answered-whole, reading}
+use Rattle.rule_file.specs.Whole.{layered, answered-whole, program-reading}
 use Rattle.rule_file.proofs.Answers.{refused-range}
 use Rattle.cards.specs.Forms.{card-bits, slip-bits, count-in, values-in, changes-in, padding, values-test, card-test, change-fault, changes-test, read-card, read-slip}
 use Rattle.cards.proofs.Taken.{values-length, changes-length}
@@ -73,18 +75,18 @@ low-next w f g ts a b = go (begins-with w ts)
     go true = a
     go false = b
 
-low-lines : (room : ℕ) (slots : List Slot) (ts : List Token) → Low (read-lines rule-limit room slots ts)
+low-lines : (room : ℕ) (slots : List Slot) (ts : List Token) → Low (read-lines program-rule-limit room slots ts)
 unfolding read-lines
-low-lines zero slots ts = low-next SLOT (λ more. grammar.refused 15 0) (read-rules rule-limit slots []) ts (omega arith) (low-rules rule-limit slots [] ts (omega arith))
+low-lines zero slots ts = low-next SLOT (λ more. grammar.refused 15 0) (read-rules program-rule-limit slots []) ts (omega arith) (low-rules program-rule-limit slots [] ts (omega arith))
 low-lines (suc room) slots ts =
-    low-next SLOT (λ more. go-on 0 (read-line slots more) (λ s rest. read-lines rule-limit room (slots ++ s ∷ []) rest)) (read-rules rule-limit slots []) ts
-    (low-on 0 (read-line slots ts) (λ s rest. read-lines rule-limit room (slots ++ s ∷ []) rest) (omega arith) (λ s rest. low-lines room (slots ++ s ∷ []) rest)) (low-rules rule-limit slots [] ts (omega arith))
+    low-next SLOT (λ more. go-on 0 (read-line slots more) (λ s rest. read-lines program-rule-limit room (slots ++ s ∷ []) rest)) (read-rules program-rule-limit slots []) ts
+    (low-on 0 (read-line slots ts) (λ s rest. read-lines program-rule-limit room (slots ++ s ∷ []) rest) (omega arith) (λ s rest. low-lines room (slots ++ s ∷ []) rest)) (low-rules program-rule-limit slots [] ts (omega arith))
 
-low-read : (text : List ℕ) → Low (parse text)
+low-read : (text : List ℕ) → Low (parse-by Program text)
 unfolding parse-within read-tokens
-low-read text = go (leb (length text) text-limit)
+low-read text = go (leb (length text) program-text-limit)
   where
-    go : (b : Bool) → Low (cond b (read-lines rule-limit slot-limit [] (tokens text)) (grammar.refused 10 0))
+    go : (b : Bool) → Low (cond b (read-lines program-rule-limit slot-limit [] (tokens text)) (grammar.refused 10 0))
     go true = low-lines slot-limit [] (tokens text)
     go false = omega arith
 
@@ -93,11 +95,11 @@ abbrev pub SmallOutcome : Outcome → Type 0
 SmallOutcome Accepted = Unit
 SmallOutcome (Refused k n) = Small k n
 
-pub reading-small : (text : List ℕ) → SmallOutcome (reading text .outcome)
-unfolding reading answered-whole layered
-reading-small text = go (parse text) refl (low-read text)
+pub reading-small : (text : List ℕ) → SmallOutcome (program-reading text .outcome)
+unfolding answered-whole layered
+reading-small text = go (parse-by Program text) refl (low-read text)
   where
-    go : (a : grammar.Parsed) → parse text ≡ a → Low a → SmallOutcome (answered-whole a .outcome)
+    go : (a : grammar.Parsed) → parse-by Program text ≡ a → Low a → SmallOutcome (answered-whole a .outcome)
     go (grammar.accepted f) e l = by-circle (eqb (circle-of weak (f .rules)) 0) refl
       where
         by-circle : (b : Bool) → eqb (circle-of weak (f .rules)) 0 ≡ b

@@ -1,10 +1,10 @@
--- Document 01, 'The program': what is listed of a rule text, a card and a slip, from the tally 0 and 0; document 02, section 4: of an editor number too, which stands in the last line.
+-- Document 01, 'The program': what is listed of a rule text, a card and a slip, from the tally 0 and 0; document 02, section 4: of an editor number too, which stands in the last line. The text is read by the program's own limits (document 02, section 7).
 use Prim.Native.Nat.{ℕ, suc, _+_}
 use mathlib.Core.Bool.{Bool, cond}
 use mathlib.Core.List.{List, [], _∷_, map}
 use lib.Dec.{eqb}
 use Rattle.laws.specs.Quoted.{bytes}
-use Rattle.laws.specs.Limits.{text-limit, slot-limit, rule-limit}
+use Rattle.laws.specs.Limits.{slot-limit, program-text-limit, program-rule-limit}
 use Rattle.laws.specs.Packed.{byte-count}
 use Rattle.laws.specs.Tabulated.{tabulate}
 use Rattle.model.specs.Rules.{Pair}
@@ -13,7 +13,7 @@ use Rattle.table.specs.Link.{stratum-at}
 use Rattle.names.specs.Names.{show-slot, show-value}
 use Rattle.reader.specs.declared.Outcome as reader
 use Rattle.reader.specs.declared.Outcome.the-variants.{Accepted, Refused}
-use Rattle.rule_file.specs.Whole.{reading}
+use Rattle.rule_file.specs.Whole.{program-reading}
 use Rattle.laws.specs.Answers.{OrRefused, taken, refused}
 use Rattle.cards.specs.Forms.{card-bits, slip-bits, changes-in}
 use Rattle.tally.specs.declared.Tally.{Tally}
@@ -37,9 +37,9 @@ pub data Listing : Type 0 where
   listed : List RuleLine → List ChangeLine → List ℕ → ℕ → Tally → Listing
   refusal : ℕ → ℕ → Listing
 
--- The program's outputs are as long as any answer needs: as many slots, changes and rules as a file may have.
+-- The program's outputs are as long as any answer needs: as many slots, changes and rules as a file that the program takes may have.
 abbrev pub program-rooms : Rooms
-program-rooms = record { for-card = byte-count (card-bits slot-limit); for-changes = changes-room; for-fired = byte-count rule-limit }
+program-rooms = record { for-card = byte-count (card-bits slot-limit); for-changes = changes-room; for-fired = byte-count program-rule-limit }
 
 -- The number that the bytes of an editor file hold: the one byte that there is, else 0, which is no editor's.
 unfoldable pub editor-number : List ℕ → ℕ
@@ -76,15 +76,15 @@ list-reading text (Refused k n) t y card slip = refusal k n
 
 -- 44 comes before the reading too.
 unfoldable pub listing-in : List ℕ → Editors → List ℕ → List ℕ → Listing
-listing-in text y card slip = cond (has-record y) (list-reading text (reading text .outcome) (reading text .table) y card slip) (refusal 44 0)
+listing-in text y card slip = cond (has-record y) (list-reading text (program-reading text .outcome) (program-reading text .table) y card slip) (refusal 44 0)
 
 -- The listing of a rule text, a card, a slip and the bytes of an editor file.
 unfoldable pub listing : List ℕ → List ℕ → List ℕ → List ℕ → Listing
 listing text card slip editor = listing-in text (program-editors (editor-number editor)) card slip
 
--- What the program reads of its four files: a byte more than a text may have, a byte more than a card and a slip of the highest count that six bits hold, and a byte more than an editor file has. `listing-cut` says that the rest makes no difference.
+-- What the program reads of its four files: a byte more than a text that it takes may have, a byte more than a card and a slip of the highest count that six bits hold, and a byte more than an editor file has. `listing-cut` says that the rest makes no difference.
 abbrev pub text-room : ℕ
-text-room = text-limit + 1
+text-room = program-text-limit + 1
 
 abbrev pub card-room : ℕ
 card-room = byte-count (card-bits 63) + 1

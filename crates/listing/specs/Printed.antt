@@ -6,7 +6,7 @@ use lib.Dec.{ltb}
 use lib.ListN.{length}
 use Rattle.laws.specs.Quoted.{bytes}
 use Rattle.laws.specs.Answers.{written}
-use Rattle.laws.specs.Limits.{name-limit, slot-limit, rule-limit}
+use Rattle.laws.specs.Limits.{name-limit, slot-limit, program-rule-limit}
 use Rattle.laws.specs.Packed.{byte-count}
 use Rattle.cards.specs.Forms.{card-bits}
 use Rattle.tally.specs.declared.Tally.{Tally}
@@ -97,7 +97,7 @@ abbrev pub tally-text-most : ℕ
 tally-text-most = 13
 
 abbrev pub page : ℕ
-page = rule-limit * rule-text-most + slot-limit * change-text-most + card-text-most + tally-text-most
+page = program-rule-limit * rule-text-most + slot-limit * change-text-most + card-text-most + tally-text-most
 
 -- What the program prints of a listing: rules in number order, changes in slot order, the new card, the tally; or the one line of a refusal.
 unfoldable pub printed : Listing → List ℕ

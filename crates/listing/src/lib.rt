@@ -7,7 +7,7 @@ ghost use Rattle.laws.specs.Limits.{rule-limit};
 ghost use Rattle.tally.specs.Editors.{is-editor};
 ghost use Rattle.response.specs.Respond.{answer-to};
 ghost use Rattle.reader.specs.declared.Outcome.the-variants.{Accepted};
-ghost use Rattle.rule_file.specs.Whole.{reading};
+ghost use Rattle.rule_file.specs.Whole.{program-reading};
 ghost use Rattle.writing.specs.inner.Puts.{longest};
 ghost use Rattle.listing.specs.Listing.{refusal, program-rooms, editor-number, program-editors, list-response, listing};
 ghost use Rattle.listing.specs.Printed.{printed, placed};
@@ -15,8 +15,9 @@ ghost use Rattle.listing.specs.inner.AnswerLines.{answer-bytes, list-ans
 use answers::put_answer;
 use answers::put_refusal;
 use cards::fields::bytes_for;
-use reader::TEXT_LIMIT;
-use table::RULES;
+use reader::PROGRAM_RULES;
+use reader::PROGRAM_TEXT_LIMIT;
+use table::Limits;
 use table::SLOTS;
 use table::Table;
 use table::Way;
@@ -30,17 +31,17 @@ pub mod numbers;
 pub mod rules;
 
 // The most bytes that the program prints of any rule text, card, slip and editor number.
-pub const PAGE: usize = RULES * 27 + SLOTS * (9 + 2 * NAME_LIMIT) + (6 + 2 * CARD) + 13;
+pub const PAGE: usize = PROGRAM_RULES * 27 + SLOTS * (9 + 2 * NAME_LIMIT) + (6 + 2 * CARD) + 13;
 
-// Room for every new card, for all changes and for every fired record: as many slots, changes and rules as a file may have.
+// Room for every new card, for all changes and for every fired record: as many slots, changes and rules as a file that the program takes may have.
 const CARD: usize = (6 + 4 * SLOTS + 7) / 8;
 
 const CHANGES: usize = (6 + 9 * SLOTS + 7) / 8;
 
-const RECORD: usize = (RULES + 7) / 8;
+const RECORD: usize = (PROGRAM_RULES + 7) / 8;
 
-// What the program reads of its four files: a byte more than a text may have, a byte more than a card and a slip of the highest count that six bits hold, and a byte more than an editor file has.
-pub const TEXT_ROOM: usize = TEXT_LIMIT + 1;
+// What the program reads of its four files: a byte more than a text that it takes may have, a byte more than a card and a slip of the highest count that six bits hold, and a byte more than an editor file has.
+pub const TEXT_ROOM: usize = PROGRAM_TEXT_LIMIT + 1;
 
 pub const CARD_ROOM: usize = (6 + 4 * 63 + 7) / 8 + 1;
 
@@ -92,7 +93,7 @@ fn list_response(
     slip: &[u8],
     out: &mut [u8],
 ) -> usize
-    requires { ⌜ (reading (now text) .outcome ≡ Accepted) × (t ≡ reading (now text) .table) × (is-editor editor ≡ true) ⌝ }
+    requires { ⌜ (program-reading (now text) .outcome ≡ Accepted) × (t ≡ program-reading (now text) .table) × (is-editor editor ≡ true) ⌝ }
     ensures { λ r. ⌜ (r ≡ length (printed (list-response (now (text .entry)) t (program-editors editor) (answer-to t (program-editors editor) (now (card .entry)) (now (slip .entry)) program-rooms))))
         × (now (out .exit) ≡ placed (printed (list-response (now (text .entry)) t (program-editors editor) (answer-to t (program-editors editor) (now (card .entry)) (now (slip .entry)) program-rooms))) (now (out .entry))) ⌝ }
 {
@@ -146,7 +147,7 @@ pub fn list(text: &[u8], card: &[u8], slip: &[u8], editor: &[u8], out: &mut [u8]
     if !is_editor(caller) {
         return list_refusal(44, 0, out);
     }
-    let read = rule_file::read(text, Way::Strata);
+    let read = rule_file::read(text, Way::Strata, Limits::Program);
     let outcome = read.outcome;
     let t = read.table;
     match outcome {

@@ -9,6 +9,7 @@ ghost use Rattle.printing.specs.Printing.{print-of, fitted, print-into, 
 use crate::spans::enter_slots;
 use reader::Outcome;
 use reader::TEXT_LIMIT;
+use table::Limits;
 use table::PAIRS;
 use table::SLOTS;
 use table::Table;
@@ -47,7 +48,7 @@ fn print_table(text: &[u8], t: Table, out: &mut [u8]) -> Printing
 pub fn print(text: &[u8], out: &mut [u8]) -> Printing
     ensures { λ r. ⌜ (r ≡ printing-of (print-into (now (text .entry)) (length (now (out .entry))))) × (now (out .exit) ≡ output-of (print-into (now (text .entry)) (length (now (out .entry)))) (now (out .entry))) ⌝ }
 {
-    let read = rule_file::read(text, Way::Strata);
+    let read = rule_file::read(text, Way::Strata, Limits::Library);
     let outcome = read.outcome;
     let t = read.table;
     match outcome {

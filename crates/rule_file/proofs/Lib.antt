@@ -3,3 +3,4 @@ pub mod Shown
 pub mod Answers
 pub mod Unlayered
 pub mod Cases
+pub mod Within

@@ -8,7 +8,7 @@ use borrow.Author.Needs.{needs}
 use borrow.Author.Tests.{not-true, not-false}
 use Rattle.reader.specs.declared.FileRead.{FileRead}
 use Rattle.reader.specs.declared.Outcome.the-variants.{Accepted, Refused}
-use Rattle.rule_file.specs.Whole.{reading}
+use Rattle.rule_file.specs.Whole.{program-reading}
 use Rattle.tally.specs.Editors.{is-editor}
 use Rattle.response.specs.Respond.{answer-to}
 use Rattle.listing.specs.Listing.{refusal, program-rooms, editor-number, program-editors, list-response, list-reading, listing}
@@ -21,14 +21,14 @@ module _ (text card slip editor : List ℕ) (n : ℕ) (e : n ≡ editor-number e
   by-44 : is-editor n ≡ false → refusal 44 0 ≡ listing text card slip editor
   by-44 w = sym (listing-44 text card slip editor (ap is-editor (sym e) ∙ w))
 
-  by-reading : is-editor n ≡ true → list-reading text (reading text .outcome) (reading text .table) (program-editors n) card slip ≡ listing text card slip editor
+  by-reading : is-editor n ≡ true → list-reading text (program-reading text .outcome) (program-reading text .table) (program-editors n) card slip ≡ listing text card slip editor
   by-reading w = rw e (sym (listing-read text card slip editor (ap is-editor (sym e) ∙ w)))
 
-  by-response : is-editor n ≡ true → reading text .outcome ≡ Accepted → list-response text (reading text .table) (program-editors n) (answer-to (reading text .table) (program-editors n) card slip program-rooms) ≡ listing text card slip editor
+  by-response : is-editor n ≡ true → program-reading text .outcome ≡ Accepted → list-response text (program-reading text .table) (program-editors n) (answer-to (program-reading text .table) (program-editors n) card slip program-rooms) ≡ listing text card slip editor
   unfolding list-reading
   by-response w o = rw o at (by-reading w)
 
-  by-refusal : is-editor n ≡ true → {k s : ℕ} → reading text .outcome ≡ Refused k s → refusal k s ≡ listing text card slip editor
+  by-refusal : is-editor n ≡ true → {k s : ℕ} → program-reading text .outcome ≡ Refused k s → refusal k s ≡ listing text card slip editor
   unfolding list-reading
   by-refusal w o = rw o at (by-reading w)
 
@@ -68,7 +68,7 @@ enum-told : tie.Need-enum-told
 enum-told c = search needs
 
 -- The text is accepted where the reading's answer says so.
-accepted : (c : tie.After-enum-told) → reading (start (c .before .before .before .before .before) .args .text .now) .outcome ≡ Accepted
+accepted : (c : tie.After-enum-told) → program-reading (start (c .before .before .before .before .before) .args .text .now) .outcome ≡ Accepted
 accepted c = sym (ap (λ (r : FileRead). r .outcome) (c .before .before .before .read .ensures)) ∙ c .enum-told .given .1
 
 list-response-requires : tie.Need-list-response-requires

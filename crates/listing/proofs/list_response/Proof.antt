@@ -15,7 +15,7 @@ use Rattle.laws.specs.Limits.{slot-limit, rule-limit}
 use Rattle.tally.specs.Counting.{fresh}
 use Rattle.tally.specs.Editors.{is-editor}
 use Rattle.reader.specs.declared.Outcome.the-variants.{Accepted}
-use Rattle.rule_file.specs.Whole.{reading}
+use Rattle.rule_file.specs.Whole.{program-reading}
 use Rattle.response.specs.Ending.{Answer}
 use Rattle.response.specs.Respond.{answer-at}
 use Rattle.writing.specs.inner.Puts.{longest}
@@ -31,7 +31,7 @@ use Rattle.listing.proofs.list_response.Statement.{statement}
 use Rattle.listing.proofs.list_response.Tie as tie
 
 -- What is known of an answer by an accepted text's table, and how long its lines are.
-module _ (text : List ℕ) (o : reading text .outcome ≡ Accepted) (t : Table) (e : t ≡ reading text .table) (card slip : List ℕ) (a : Answer) (q : answer-at Strata t fresh card slip program-rooms ≡ taken a) where
+module _ (text : List ℕ) (o : program-reading text .outcome ≡ Accepted) (t : Table) (e : t ≡ program-reading text .table) (card slip : List ℕ) (a : Answer) (q : answer-at Strata t fresh card slip program-rooms ≡ taken a) where
   parts-for : Parts (t .width) (t .count) a
   parts-for = rw e (parts-of text o card slip a (rw e at q))
 
