@@ -18,6 +18,7 @@ use Rattle.table.specs.declared.Limits.the-variants.{Library, Program}
 use Rattle.grammar.specs.Files.{Slot, File}
 use Rattle.grammar.specs.Reading.{Part, took, stop, Parsed, accepted, refused, expects, _then_, begins-with, if-next, go-on, read-rule, read-line, read-rules, read-lines, read-tokens, parse-within, parse, parse-by, bytes-by, rules-by}
 use Rattle.grammar.proofs.Backward.{refused-never}
+use Rattle.grammar.proofs.Halting.{refused-same}
 use Rattle.grammar.specs.Within.{At-most, Beyond, Smaller, too-long, too-many, the-same}
 
 -- A reading came to at least so many rules.
@@ -139,10 +140,23 @@ smaller-accepted bytes most large more text f h l e = go (parse-within large mor
     go x y p q (too-many s b) = refused-never 15 most f q
     go x y p q (the-same s a) = (p ∙ q, subst (At-most most) q a)
 
+-- One that is refused is refused with 10, with 15, or as with the larger.
+smaller-refused : (bytes most large more : ℕ) (text : List ℕ) (k n : ℕ) → bytes ≤ large → most ≤ more → parse-within bytes most text ≡ refused k n → (k ≡ 10) ⊎ ((k ≡ 15) ⊎ (parse-within large more text ≡ refused k n))
+smaller-refused bytes most large more text k n h l e = go (parse-within large more text) (parse-within bytes most text) refl e (smaller bytes most large more text h l)
+  where
+    go : (x y : Parsed) → parse-within large more text ≡ x → y ≡ refused k n → Smaller bytes most text x y → (k ≡ 10) ⊎ ((k ≡ 15) ⊎ (parse-within large more text ≡ refused k n))
+    go x y p q (too-long s) = inl (sym (refused-same 10 0 k n q .0))
+    go x y p q (too-many s b) = inr (inl (sym (refused-same 15 most k n q .0)))
+    go x y p q (the-same s a) = inr (inr (p ∙ q))
+
 -- By the program's limits a text is accepted as the library accepts it, with no more rules than the program takes.
 pub accepted-by : (l : Limits) (text : List ℕ) (f : File) → parse-by l text ≡ accepted f → (parse text ≡ accepted f) × (length (f .rules) ≤ rules-by l)
 accepted-by Library text f = smaller-accepted text-limit rule-limit text-limit rule-limit text f (omega arith) (omega arith)
 accepted-by Program text f = smaller-accepted program-text-limit program-rule-limit text-limit rule-limit text f (omega arith) (omega arith)
+
+pub refused-by : (l : Limits) (text : List ℕ) (k n : ℕ) → parse-by l text ≡ refused k n → (k ≡ 10) ⊎ ((k ≡ 15) ⊎ (parse text ≡ refused k n))
+refused-by Library text k n = smaller-refused text-limit rule-limit text-limit rule-limit text k n (omega arith) (omega arith)
+refused-by Program text k n = smaller-refused program-text-limit program-rule-limit text-limit rule-limit text k n (omega arith) (omega arith)
 
 -- No limits are above the library's.
 pub rules-low : (l : Limits) → rules-by l ≤ rule-limit

@@ -23,7 +23,7 @@ use Rattle.table.specs.Link.{rules-of, value-counts}
 use Rattle.grammar.specs.Files.{Slot}
 use Rattle.grammar.specs.Reading as grammar
 use Rattle.grammar.specs.Reading.{Part, took, stop, expects, begins-with, if-next, read-rule, read-line, go-on, read-rules, read-lines, read-tokens, parse-within, parse-by}
-use Rattle.grammar.proofs.Within.{accepted-by}
+use Rattle.grammar.proofs.Within.{accepted-by, refused-by}
 use Rattle.table.specs.declared.Limits.the-variants.{Program}
 use Rattle.grammar.proofs.Accepts.{accepts-iff}
 use Rattle.grammar.proofs.Declared.{file-declared}
@@ -107,9 +107,8 @@ reading-small text = go (parse-by Program text) refl (low-read text)
         by-circle true q = tt
         by-circle false q =
             let n = lowest-through-not (f .rules) (eqb-false (circle-of weak (f .rules)) 0 q) .rule .last in
-            let d = file-declared text f (accepts-iff text f .0 e) .few-rules in
-            (omega arith, omega (arith, n, d))
-    go (grammar.refused k n) e l = (omega (arith, refused-range text k n e .1), l)
+            (omega arith, omega (arith, n, accepted-by Program text f e .1))
+    go (grammar.refused k n) e l = (⊎-elim (λ z. omega (arith, z)) (⊎-elim (λ z. omega (arith, z)) (λ z. omega (arith, refused-range text k n z .1))) (refused-by Program text k n e), l)
 
 -- What is taken or refused, and what a test says.
 abbrev pub SmallAnswer : {A : Type 0} → OrRefused A → Type 0

@@ -8,6 +8,7 @@ use Rattle.laws.specs.Limits.{program-rule-limit}
 use Rattle.table.specs.declared.Limits.the-variants.{Program}
 use Rattle.grammar.specs.Files.{File}
 use Rattle.grammar.specs.Reading.{Parsed, accepted, refused, parse, parse-by}
+use Rattle.grammar.proofs.Backward.{file-same}
 use Rattle.grammar.proofs.Within.{accepted-by}
 use Rattle.reader.specs.declared.Outcome.the-variants.{Accepted}
 use Rattle.rule_file.specs.Whole.{answered-whole, reading, program-reading}
