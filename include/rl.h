@@ -196,9 +196,9 @@ RlResponse rl_respond_by_marks(RlTable table, RlTally *records, size_t records_l
                                uint8_t *fired, size_t fired_length);
 
 _Static_assert(sizeof(RlPlace) == 8 && sizeof(RlSlot) == 132 && sizeof(RlLiteral) == 4, "layout");
-_Static_assert(sizeof(RlAssignment) == 2 && sizeof(RlRule) == 46 && sizeof(RlTable) == 96228 && sizeof(RlRead) == 96248, "layout");
+_Static_assert(sizeof(RlAssignment) == 2 && sizeof(RlRule) == 46 && sizeof(RlTable) == 96228, "layout");
 _Static_assert(sizeof(RlCardForm) == 40 && sizeof(RlSlipForm) == 72 && sizeof(RlTally) == 4, "layout");
-_Static_assert(sizeof(RlName) == 24 && sizeof(RlCard) == 56 && sizeof(RlSlip) == 88, "layout");
+_Static_assert(sizeof(RlRead) == 96248 && sizeof(RlName) == 24 && sizeof(RlCard) == 56 && sizeof(RlSlip) == 88, "layout");
 _Static_assert(sizeof(RlPrinted) == 24 && sizeof(RlPacked) == 24 && sizeof(RlResponse) == 32, "layout");
 
 #endif

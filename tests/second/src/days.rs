@@ -6,6 +6,7 @@ use crate::gen::{self, File, Rng};
 use crate::gen_editors::Day;
 use crate::gen_text::Sketch;
 use crate::lent::{lend, same, Difference, MARGIN};
+use crate::raw::{CARD_BYTES, FIRED_BYTES, SLIP_BYTES};
 use crate::response::{needed, Outputs};
 use crate::table::Table;
 use crate::table31::unlayered;
@@ -95,7 +96,7 @@ fn compare_cards(
 
 /// The lengths that a response on any table needs, as far as its counts say.
 fn needed_by(table: &Table) -> [usize; 3] {
-    unlayered(table).map_or([17, 37, 32], |program| needed(&program))
+    unlayered(table).map_or([CARD_BYTES, SLIP_BYTES, FIRED_BYTES], |program| needed(&program))
 }
 
 /// The sketch that cards and slips are made for: the file's, but for most refused files the empty one.

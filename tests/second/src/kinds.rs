@@ -7,7 +7,7 @@ use crate::cards::{unpack_card, unpack_slip};
 use crate::fault::Fault;
 use crate::none_kinds::{none_kinds, withdrawal_kinds};
 use crate::other_strata::{on_any_circle, on_simple_circle};
-use crate::read::read_rules;
+use crate::read::{read_rules, LIBRARY};
 use crate::response::{enabled, fire, Changes, Firing};
 use crate::rule_set::RuleSet;
 use crate::strata::{least, on_circle, reached, waits, Waits};
@@ -282,7 +282,7 @@ pub fn is_chained(waits: &[Waits]) -> bool {
 }
 
 /// The strata of rules if tests of NONE bound nothing, or the rule that 18 would name.
-pub fn without_none(rules: &[Rule]) -> Result<Vec<u8>, usize> {
+pub fn without_none(rules: &[Rule]) -> Result<Vec<u16>, usize> {
     broken_strata::strata(Fault::NoneFree, rules)
 }
 
@@ -318,7 +318,7 @@ pub fn rule_kinds(rules: &[Rule]) -> Vec<Kind> {
 
 /// The kinds of a text and of its rules; none where 10 to 17 refuse it.
 pub fn text_kinds(text: &[u8]) -> Vec<Kind> {
-    let rules = match read_rules(text) {
+    let rules = match read_rules(LIBRARY, text) {
         Ok((_, rules)) => rules,
         Err(_) => return Vec::new(),
     };

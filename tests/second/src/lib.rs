@@ -18,6 +18,7 @@ pub mod fault;
 pub mod firing_checks;
 pub mod gen;
 pub mod gen_editors;
+pub mod gen_large;
 pub mod gen_marks;
 pub mod gen_print;
 pub mod gen_rules;

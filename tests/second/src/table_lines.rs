@@ -5,11 +5,14 @@ use crate::gen_tables::{circled_table, damaged};
 use crate::gen_text::fill_up;
 use crate::strata::strata;
 use crate::table::{table_of, AssignmentPlace, LiteralPlace, Name, RulePlace, SlotLine, Table};
-use crate::table::{ASSIGNMENTS, LITERALS, RULES};
+use crate::table::{ASSIGNMENTS, LITERALS, RULES, SLOTS, VALUES};
 use crate::table31::{tested, unlayered};
 
 /// The most bytes that the program takes.
-const INPUT: usize = 65_536;
+const INPUT: usize = 262_144;
+
+/// The pairs that its chains go through.
+const PAIRS: usize = SLOTS * VALUES;
 
 /// Takes the next byte.
 fn byte(input: &mut &[u8]) -> u8 {
@@ -18,10 +21,16 @@ fn byte(input: &mut &[u8]) -> u8 {
     *first
 }
 
+/// Takes two bytes, the high one first.
+fn two_bytes(input: &mut &[u8]) -> u16 {
+    u16::from_be_bytes([byte(input), byte(input)])
+}
+
 /// Takes a rule; a byte fills its unused places.
 fn rule(input: &mut &[u8], fill: u8) -> RulePlace {
     let unused = LiteralPlace { slot: fill, value: fill, ..LiteralPlace::default() };
-    let mut place = RulePlace { slot: byte(input), value: byte(input), stratum: byte(input), ..RulePlace::default() };
+    let (slot, value, stratum) = (byte(input), byte(input), two_bytes(input));
+    let mut place = RulePlace { slot, value, stratum, ..RulePlace::default() };
     place.literals = [unused; LITERALS];
     place.assignments = [AssignmentPlace { slot: fill, value: fill }; ASSIGNMENTS];
     place.tested = byte(input);
@@ -45,7 +54,7 @@ fn table(input: &mut &[u8]) -> Box<Table> {
     for slot in table.slots.iter_mut().take(table.width as usize) {
         slot.count = byte(input).into();
     }
-    table.count = u16::from_be_bytes([byte(input), byte(input)]);
+    table.count = two_bytes(input);
     for place in table.rules.iter_mut().take(table.count.into()) {
         *place = rule(input, fill);
     }
@@ -60,7 +69,8 @@ pub fn tables(mut input: &[u8]) -> Vec<Box<Table>> {
 
 /// The bytes of a rule.
 fn rule_bytes(place: &RulePlace) -> Vec<u8> {
-    let mut bytes = vec![place.slot, place.value, place.stratum, place.tested];
+    let [high, low] = place.stratum.to_be_bytes();
+    let mut bytes = vec![place.slot, place.value, high, low, place.tested];
     for literal in place.literals.iter().take(place.tested.into()) {
         bytes.extend([u8::from(literal.becomes) + 2 * u8::from(literal.negated), literal.slot, literal.value]);
     }
@@ -131,15 +141,27 @@ fn line(table: &Table) -> String {
     }
 }
 
-/// The lines of the chains that the program makes itself: n rules, each testing what the one before or the one after it assigns; plainly, all in stratum 1, or under NOT, each a stratum above the next.
+/// The line of a chain that the program makes itself: the strata of its first and its last rule, or where it has none the first of the table without rules, and that the table passes.
+fn chain_line(name: &str, rules: usize, strata: Option<[usize; 2]>) -> String {
+    match strata {
+        Some([first, last]) => format!("{name} {rules} {first} {last} 1\n"),
+        None => format!("{name} {rules} 0 1\n"),
+    }
+}
+
+/// The lines of those chains: n rules, each testing what the one before or the one after it assigns; plainly, all in stratum 1, or under NOT, each a stratum above the next, unless a rule assigns the pair that triggers them all, which is the last, or the pairs go round.
 fn chain_lines() -> String {
-    (1..=RULES)
-        .map(|rules| {
-            let plain = format!("forward {rules} 1 1 1\nbackward {rules} 1 1 1\n");
-            let under_not = format!("forward-not {rules} 1 {rules} 1\nbackward-not {rules} {rules} 1 1\n");
-            plain + &under_not
-        })
-        .collect()
+    let lines = |rules: usize| {
+        let [forward, backward] = [rules + 1 < PAIRS, rules < PAIRS];
+        [
+            chain_line("forward", rules, Some([1, 1])),
+            chain_line("backward", rules, Some([1, 1])),
+            chain_line("forward-not", rules, forward.then_some([1, rules])),
+            chain_line("backward-not", rules, backward.then_some([rules, 1])),
+        ]
+        .concat()
+    };
+    (1..PAIRS).chain([RULES]).map(lines).collect()
 }
 
 /// What the program should write for an input.

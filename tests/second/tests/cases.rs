@@ -234,7 +234,7 @@ fn length_of_text() {
 }
 
 /// The strata of some rules, or the rule that 18 names.
-fn layered(rules: &[&str]) -> Result<Vec<u8>, usize> {
+fn layered(rules: &[&str]) -> Result<Vec<u16>, usize> {
     let table = read(&text(rules)).map_err(|why| {
         assert_eq!(why.number, 18);
         why.second

@@ -2,7 +2,7 @@
 
 use std::collections::BTreeMap;
 
-use second::compare::compare_seeds;
+use second::compare::{compare_seeds, Seed};
 use second::editor_kinds::call_kinds;
 use second::editors::Caller;
 use second::engine::{Engine, Second, Way};
@@ -63,7 +63,7 @@ impl Engine for Watching {
         printed
     }
 
-    fn strata(&mut self, table: &Table) -> Result<Vec<u8>, Refusal> {
+    fn strata(&mut self, table: &Table) -> Result<Vec<u16>, Refusal> {
         Second.strata(table)
     }
 
@@ -130,7 +130,7 @@ impl Engine for Watching {
 #[test]
 fn the_comparison_meets_every_kind() {
     let mut watching = Watching::default();
-    assert!(compare_seeds(&mut watching, 1, 3_000).0.is_none());
+    assert!(compare_seeds(&mut watching, Seed::Any, 1, 3_000).0.is_none());
     let kinds = [RULE_KINDS, TEXT_KINDS, NONE_REFUSED_KINDS, PRINT_KINDS, RESPONSE_KINDS, TABLE_KINDS];
     demand(&watching.met, &kinds, 3);
     demand(&watching.met, &[MARK_KINDS, MARK_TABLE_KINDS, CALL_KINDS], 10);
