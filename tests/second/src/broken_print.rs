@@ -5,7 +5,9 @@ use std::collections::HashSet;
 use crate::fault::Fault;
 use crate::print::{self, lines};
 use crate::raw::PRINT_BYTES;
-use crate::read::{is_value_in_rule, meaning, read, read_rules, walk, Placed, Walk, Want, GRAMMAR, LIBRARY, NAME, PROGRAM};
+use crate::read::{
+    is_value_in_rule, meaning, read, read_rules, walk, Placed, Walk, Want, GRAMMAR, LIBRARY, NAME, PROGRAM,
+};
 use crate::table::{Name, Pair, SlotLine, NONE};
 use crate::table31::named_pairs;
 use crate::text::Kind;

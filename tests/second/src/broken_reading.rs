@@ -2,7 +2,9 @@
 
 use crate::broken_strata::strata;
 use crate::fault::Fault;
-use crate::read::{completed, meaning, refusals, walk, AtToken, Limits, Production, Walk, Want, GRAMMAR, LIBRARY, PROGRAM};
+use crate::read::{
+    completed, meaning, refusals, walk, AtToken, Limits, Production, Walk, Want, GRAMMAR, LIBRARY, PROGRAM,
+};
 use crate::table::{table_of, LiteralPlace, Pair, Rule, SlotLine, Table};
 use crate::text::{tokens, Kind};
 use crate::{refusal, Refusal};

@@ -7,13 +7,15 @@ use crate::gen_editors::Day;
 use crate::gen_text::Sketch;
 use crate::lent::{lend, same, Difference, MARGIN};
 use crate::raw::{CARD_BYTES, FIRED_BYTES, SLIP_BYTES};
+use crate::read::PROGRAM;
 use crate::response::{needed, Outputs};
 use crate::table::Table;
 use crate::table31::unlayered;
 use crate::Refusal;
 
-/// The calls of a day.
+/// The calls of a day, and of one on a table of more rules than the program takes.
 const CALLS: usize = 4;
+const CALLS_ON_MANY: usize = 2;
 
 /// The entry of a response: the records and the editor who calls, card, slip and output lengths.
 #[derive(Clone, Debug)]
@@ -135,7 +137,8 @@ pub fn compare_day(
 ) -> Result<(), Box<Seen>> {
     let mut day = Day::new(rng);
     let mut calls = Vec::new();
-    for desk in desks.iter().cycle().take(CALLS) {
+    let many = desks.iter().any(|(_, table)| usize::from(table.count) > PROGRAM.rules);
+    for desk in desks.iter().cycle().take(if many { CALLS_ON_MANY } else { CALLS }) {
         let (way, table) = *desk;
         let entry = entry(rng, sketch, table, &day);
         let cards = compare_cards(other, table, &entry, sketch, rng);

@@ -102,6 +102,8 @@ faults! {
         FallingStrata,
         /// Stratum 0 is let through in place of 1.
         ZeroStratum,
+        /// 31 looks at the last byte of a stratum.
+        StrataByLastByte,
         /// 31 looks at unused literal places.
         UnusedTested,
         /// A table's rule without assignments is 31.
@@ -434,8 +436,6 @@ faults! {
         StrataCut,
         /// A stratum above 255 is 255.
         StrataHeld,
-        /// 31 looks at the last byte of a stratum.
-        StrataByLastByte,
         /// A table with more than 2,000 rules is taken as one with 2,000.
         CountHeld,
         /// Rules above 255 never fire.

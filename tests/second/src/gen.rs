@@ -246,16 +246,20 @@ pub fn damage_changes(rng: &mut Rng, changes: &mut Vec<Pair>) {
     }
 }
 
-/// Output lengths about those that are needed: mostly enough, sometimes one or more too short.
+/// Output lengths about those that are needed: mostly enough, sometimes one or more too short, or the last alone by one byte.
 pub fn rooms(rng: &mut Rng, needed: [usize; 3]) -> [usize; 3] {
     let enough = rng.chance(3, 4);
-    needed.map(|length| {
+    let mut rooms = needed.map(|length| {
         if enough || rng.chance(1, 2) {
             length + *rng.pick(&[0, 0, 1, 5])
         } else {
             *rng.pick(&[0, length.saturating_sub(1), length / 2, 2])
         }
-    })
+    });
+    if enough && rng.chance(1, 12) {
+        rooms[2] = needed[2].saturating_sub(1);
+    }
+    rooms
 }
 
 /// An unpacked card for packing: fitting, or with a wrong count or value.

@@ -6,29 +6,29 @@ use crate::gen_rules::{chain_of, sketch, Ranks, Shape, CHAIN};
 use crate::gen_text::{damage_tokens, join, sketch_tokens, Sketch};
 use crate::raw::PRINT_BYTES;
 use crate::read::{LIBRARY, PROGRAM};
-use crate::table::{Literal, Rule, RULES, SLOTS};
+use crate::table::{Literal, Rule, RULES};
 
 /// The shapes of the rules that a file has again and again: few short ones, and many.
 const FEW: Shape = Shape { slots: 6, values: 3, rules: 12, literals: 2, assignments: 2, ranks: Ranks::Below };
 const MANY: Shape = Shape { slots: 32, values: 15, rules: 400, literals: 2, assignments: 2, ranks: Ranks::Level };
 
-/// The ways in which large files are made.
+/// The ways in which large files are made, those first that cost least.
 const WAYS: [fn(&mut Rng) -> File; 15] = [
-    |rng| plain(rng, many_rules),
-    |rng| plain(rng, |rng| with_rules(rng, &FEW, RULES)),
+    |rng| with_bytes(rng, PROGRAM.bytes + 1),
+    |rng| with_bytes(rng, LIBRARY.bytes),
+    |rng| with_bytes(rng, LIBRARY.bytes + 1),
+    |rng| plain(rng, |rng| with_rules(rng, &FEW, PROGRAM.rules + 1)),
     |rng| plain(rng, |rng| with_rules(rng, &FEW, RULES + 1)),
     after_most_rules,
     damaged_late,
+    |rng| long_print(rng, PROGRAM.bytes + 1),
     |rng| plain(rng, all_enabled),
-    |rng| plain(rng, high_strata),
     |rng| plain(rng, high_circle),
-    |rng| with_bytes(rng, LIBRARY.bytes),
-    |rng| with_bytes(rng, LIBRARY.bytes + 1),
-    |rng| with_bytes(rng, PROGRAM.bytes + 1),
+    |rng| plain(rng, high_strata),
+    |rng| plain(rng, many_rules),
+    |rng| plain(rng, |rng| with_rules(rng, &FEW, RULES)),
     |rng| long_print(rng, PRINT_BYTES),
     |rng| long_print(rng, PRINT_BYTES + 1),
-    |rng| long_print(rng, PROGRAM.bytes + 1),
-    |rng| plain(rng, |rng| with_rules(rng, &FEW, PROGRAM.rules + 1)),
 ];
 
 /// How many large files have one of each way.
@@ -37,6 +37,15 @@ pub const LARGE: u64 = WAYS.len() as u64;
 /// The large file of a seed, made in each of the ways in turn.
 pub fn large_file(rng: &mut Rng, seed: u64) -> File {
     WAYS[(seed % LARGE) as usize](rng)
+}
+
+/// The sketches that tables of many rules are made from.
+const SKETCHES: [fn(&mut Rng) -> Sketch; 5] =
+    [|rng| with_rules(rng, &FEW, RULES), high_strata, high_circle, many_rules, all_enabled];
+
+/// A sketch of many rules, made in each of the ways in turn.
+pub fn large_sketch(rng: &mut Rng, way: u64) -> Sketch {
+    SKETCHES[(way % SKETCHES.len() as u64) as usize](rng)
 }
 
 /// The file of a sketch.
@@ -81,21 +90,21 @@ fn damaged_late(rng: &mut Rng) -> File {
     File { text: join(rng, &tokens, 1), sketch }
 }
 
-/// A sketch of as many rules as there may be, all of one trigger and without conditions or conflicts.
+/// A sketch of as many rules as there may be, all alike but for some that ask for the card's value, over two slots, so that slips seldom bring conflicts.
 fn all_enabled(rng: &mut Rng) -> Sketch {
-    let slots = 2 + rng.below(SLOTS - 1);
-    let names = (0..slots).map(|slot| (format!("s{slot}"), vec!["a".to_string(), "b".to_string()])).collect();
-    let rule = |at: usize| Rule {
-        trigger: (0, 1),
-        literals: Vec::new(),
-        assignments: vec![((1 + at % (slots - 1)) as u8, 2)],
+    let names = ["x", "y"].map(|name| (name.to_string(), vec!["a".to_string(), "b".to_string()])).to_vec();
+    let asking = rng.below(3);
+    let rule = |_| {
+        let test = Literal { becomes: false, negated: rng.chance(1, 2), pair: (1, 1) };
+        let literals = if rng.chance(asking, 4) { vec![test] } else { Vec::new() };
+        Rule { trigger: (0, 1), literals, assignments: vec![(1, 2)] }
     };
-    Sketch { names, rules: (0..RULES).map(rule).collect(), likely: vec![0; slots] }
+    Sketch { names, rules: (0..RULES).map(rule).collect(), likely: vec![0; 2] }
 }
 
-/// A sketch of a chain so long that strata pass 255 where its tests stand under NOT, each of its rules once or more.
+/// A sketch of a chain under NOT so long that strata pass 255, each of its rules once or more.
 fn high_strata(rng: &mut Rng) -> Sketch {
-    let chain = chain_of(rng, CHAIN);
+    let chain = chain_of(rng, CHAIN, 2, false);
     let count = CHAIN * (1 + rng.below(RULES / CHAIN));
     Sketch { rules: chain.rules.iter().cycle().take(count).cloned().collect(), ..chain }
 }

@@ -324,23 +324,23 @@ pub fn sketch(rng: &mut Rng, shape: &Shape) -> Sketch {
     Sketch { names, rules, likely: ground.likely }
 }
 
-/// A sketch whose rules are one chain, up to the program's limit of rules.
+/// A sketch whose rules are one chain, up to the program's limit of rules, plain, under NOT, or the one or the other; now and then closed to a circle.
 pub fn chain(rng: &mut Rng) -> Sketch {
     let count = *rng.pick(&[8, SLOTS - 2, SLOTS - 2, SLOTS - 2, 120, PROGRAM.rules]);
-    chain_of(rng, count)
+    let nots = *rng.pick(&[0, 1, 2, 2]);
+    let closed = rng.chance(1, 6);
+    chain_of(rng, count, nots, closed)
 }
 
-/// A sketch whose rules are one chain of so many, at most `CHAIN`: each waits for what the one before assigns, plainly, under NOT with one trigger for all, or the one or the other; in this order, in the other, or in any; the chain now and then closed to a circle. Its pairs begin with a value or with NONE, of slots that then have a value which no pair of the chain has.
-pub fn chain_of(rng: &mut Rng, count: usize) -> Sketch {
+/// A sketch whose rules are one chain of so many, at most `CHAIN`, closed to a circle or not: each waits for what the one before assigns, plainly or, so many times in two, under NOT with one trigger for all; in this order, in the other, or in any. Its pairs begin with a value or with NONE, of slots that then have a value which no pair of the chain has.
+pub fn chain_of(rng: &mut Rng, count: usize, nots: usize, closed: bool) -> Sketch {
     let first = rng.below(2);
     let pair = |at: usize| ((at % SLOTS) as u8, (at / SLOTS + first) as u8);
     let values = count / SLOTS + 2;
     let trigger = (SLOTS as u8 - 1, values as u8);
-    let negated = *rng.pick(&[0, 1, 2, 2]);
-    let closed = rng.chance(1, 6);
     let mut rules: Vec<Rule> = Vec::new();
     for at in 0..count {
-        let under_not = rng.chance(negated, 2);
+        let under_not = rng.chance(nots, 2);
         let test = Literal { becomes: true, negated: under_not, pair: pair(at) };
         rules.push(Rule {
             trigger: if under_not { trigger } else { pair(at) },

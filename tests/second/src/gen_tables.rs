@@ -83,10 +83,14 @@ fn damage_strata(rng: &mut Rng, table: &mut Table) {
     table.rules.iter_mut().zip(changed).for_each(|(rule, number)| rule.stratum = number as u16);
 }
 
-/// A table changed at one place or in its strata; a text of a length is what its names stand in.
+/// A table changed at one place or in its strata, a full one often in its count; a text of a length is what its names stand in.
 pub fn damaged(rng: &mut Rng, table: &Table, length: usize) -> Box<Table> {
     let mut changed = Box::new(*table);
     let rule = rng.below(RULES.min(table.count as usize + 1));
+    if usize::from(table.count) == RULES && rng.chance(2, 3) {
+        changed.count = *rng.pick(&[RULES as u16 + 1, u16::MAX]);
+        return changed;
+    }
     match rng.below(12) {
         0 => changed.width = any_count(rng, table.width as usize, SLOTS) as u16,
         1 => changed.count = any_count(rng, table.count.into(), RULES) as u16,

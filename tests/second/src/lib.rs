@@ -25,6 +25,7 @@ pub mod gen_rules;
 pub mod gen_tables;
 pub mod gen_text;
 pub mod kinds;
+pub mod large_kinds;
 pub mod lent;
 pub mod listing;
 pub mod mark_checks;

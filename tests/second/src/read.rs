@@ -2,9 +2,9 @@
 
 use std::collections::{HashMap, HashSet};
 
+use crate::raw::PRINT_BYTES;
 use crate::strata::strata;
 use crate::table::{table_of, Literal, Name, Rule, SlotLine, Table};
-use crate::raw::PRINT_BYTES;
 use crate::table::{ASSIGNMENTS, LITERALS, NONE, RULES, SLOTS, VALUES};
 use crate::text::{tokens, Kind, Token};
 use crate::{refusal, Refusal};

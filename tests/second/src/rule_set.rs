@@ -4,6 +4,16 @@
 #[derive(Clone, PartialEq, Eq, PartialOrd, Ord, Debug, Default)]
 pub struct RuleSet(Vec<u64>);
 
+/// The positions of the bits in words, rising.
+fn positions(words: impl Iterator<Item = u64>) -> impl Iterator<Item = usize> {
+    let positive = |bits: u64| (bits != 0).then_some(bits);
+    words.enumerate().flat_map(move |(word, bits)| {
+        let lowest_off = move |bits: &u64| positive(bits & (bits - 1));
+        let left = std::iter::successors(positive(bits), lowest_off);
+        left.map(move |bits| 64 * word + bits.trailing_zeros() as usize)
+    })
+}
+
 impl RuleSet {
     /// Whether the set has the position.
     pub fn has(&self, position: usize) -> bool {
@@ -13,11 +23,6 @@ impl RuleSet {
     /// Whether the set has no position.
     pub fn is_empty(&self) -> bool {
         self.0.is_empty()
-    }
-
-    /// Whether the set has a position that another has.
-    pub fn meets(&self, other: &RuleSet) -> bool {
-        self.0.iter().zip(&other.0).any(|(one, other)| one & other != 0)
     }
 
     /// Puts the position into the set.
@@ -43,12 +48,12 @@ impl RuleSet {
 
     /// The positions of the set, rising.
     pub fn positions(&self) -> impl Iterator<Item = usize> + '_ {
-        let positive = |bits: u64| (bits != 0).then_some(bits);
-        self.0.iter().enumerate().flat_map(move |(word, bits)| {
-            let lowest_off = move |bits: &u64| positive(bits & (bits - 1));
-            let left = std::iter::successors(positive(*bits), lowest_off);
-            left.map(move |bits| 64 * word + bits.trailing_zeros() as usize)
-        })
+        positions(self.0.iter().copied())
+    }
+
+    /// The positions that two sets share, rising.
+    pub fn shared<'a>(&'a self, other: &'a RuleSet) -> impl Iterator<Item = usize> + 'a {
+        positions(self.0.iter().zip(&other.0).map(|(one, other)| one & other))
     }
 }
 

@@ -55,11 +55,16 @@ pub fn waits(rules: &[Rule]) -> Vec<Waits> {
     rules.iter().map(|rule| Waits { plain: of(plain_pairs(rule)), negated: of(negated_pairs(rule)) }).collect()
 }
 
-/// The number that a rule needs by those of the others: at least 1, no lower than a rule it waits for plainly, above each it waits for under NOT.
-pub fn asked(waits: &Waits, numbers: &[usize]) -> usize {
-    let level = waits.plain.positions().map(|at| numbers[at]);
-    let above = waits.negated.positions().map(|at| numbers[at] + 1);
+/// The number that a rule needs by those of some others: at least 1, no lower than a rule it waits for plainly, above each it waits for under NOT.
+fn asked_by(waits: &Waits, others: &RuleSet, numbers: &[usize]) -> usize {
+    let level = waits.plain.shared(others).map(|at| numbers[at]);
+    let above = waits.negated.shared(others).map(|at| numbers[at] + 1);
     level.chain(above).fold(1, usize::max)
+}
+
+/// The number that a rule needs by those of all others.
+pub fn asked(waits: &Waits, numbers: &[usize]) -> usize {
+    asked_by(waits, &(0..numbers.len()).collect(), numbers)
 }
 
 /// The most NOTs that strata can fall by: rules that a walk meets wait under NOT for different sets, since with one set twice the walk would lead into a circle.
@@ -72,12 +77,11 @@ fn most_nots(waits: &[Waits]) -> usize {
 pub fn raised(waits: &[Waits], numbers: Vec<usize>) -> Option<Vec<usize>> {
     let mut numbers: Vec<usize> = numbers.into_iter().map(|number| number.max(1)).collect();
     let highest = numbers.iter().max().unwrap_or(&1) + most_nots(waits);
-    let all: Vec<RuleSet> = waits.iter().map(Waits::all).collect();
     let mut higher: RuleSet = (0..waits.len()).collect();
     while !higher.is_empty() {
         let mut seen = std::mem::take(&mut higher);
         for at in 0..waits.len() {
-            let asked = if all[at].meets(&seen) { asked(&waits[at], &numbers) } else { 1 };
+            let asked = asked_by(&waits[at], &seen, &numbers);
             if asked > highest {
                 return None;
             }
@@ -120,5 +124,6 @@ pub fn on_circle(waits: &[Waits]) -> Vec<usize> {
 /// The least strata, or the lowest rule on a circle through a NOT, by its number from 1.
 pub fn strata(rules: &[Rule]) -> Result<Vec<u16>, usize> {
     let waits = waits(rules);
-    least(&waits).ok_or_else(|| on_circle(&waits).first().expect("rules without strata have a circle through a NOT") + 1)
+    least(&waits)
+        .ok_or_else(|| on_circle(&waits).first().expect("rules without strata have a circle through a NOT") + 1)
 }

@@ -1,8 +1,9 @@
 //! Tables and their tests in the form of the project's program `strata_cases`: packed tables, a line for each.
 
 use crate::gen::{any_sketch, Rng};
+use crate::gen_large::large_sketch;
 use crate::gen_tables::{circled_table, damaged};
-use crate::gen_text::fill_up;
+use crate::gen_text::{fill_up, Sketch};
 use crate::strata::strata;
 use crate::table::{table_of, AssignmentPlace, LiteralPlace, Name, RulePlace, SlotLine, Table};
 use crate::table::{ASSIGNMENTS, LITERALS, RULES, SLOTS, VALUES};
@@ -10,6 +11,10 @@ use crate::table31::{tested, unlayered};
 
 /// The most bytes that the program takes.
 const INPUT: usize = 262_144;
+
+/// How many inputs there are for one with large tables, and how many of these it has.
+const TO_A_LARGE_INPUT: u64 = 5;
+const LARGE_TABLES: u8 = 5;
 
 /// The pairs that its chains go through.
 const PAIRS: usize = SLOTS * VALUES;
@@ -89,12 +94,17 @@ fn table_bytes(table: &Table, fill: u8) -> Vec<u8> {
     bytes
 }
 
-/// The table of a sketch, filled up to a limit now and then, its strata the least or other numbers, often changed.
-fn generated_table(rng: &mut Rng) -> Box<Table> {
+/// A sketch, filled up to a limit now and then.
+fn generated_sketch(rng: &mut Rng) -> Sketch {
     let mut sketch = any_sketch(rng);
     if rng.chance(1, 12) {
         fill_up(rng, &mut sketch, 0);
     }
+    sketch
+}
+
+/// The table of a sketch, its strata the least or other numbers, often changed.
+fn generated_table(rng: &mut Rng, sketch: Sketch) -> Box<Table> {
     let unnamed = |count: usize| SlotLine { name: Name::default(), values: vec![Name::default(); count] };
     let lines: Vec<SlotLine> = sketch.names.iter().map(|slot| unnamed(slot.1.len())).collect();
     let table = match strata(&sketch.rules) {
@@ -108,13 +118,18 @@ fn generated_table(rng: &mut Rng) -> Box<Table> {
     }
 }
 
-/// An input of generated tables.
+/// An input of generated tables; one in so many has a few large ones and then as much as the program takes, the others less, to save time.
 pub fn generated(seed: u64) -> Vec<u8> {
     let mut rng = Rng::new(seed);
     let (mut count, mut input) = (0, Vec::new());
+    let large = seed % TO_A_LARGE_INPUT == 0;
+    let most = if large { INPUT } else { INPUT / 4 };
     while count < 255 {
-        let bytes = table_bytes(&generated_table(&mut rng), *rng.pick(&[0, 1, 255]));
-        if 1 + input.len() + bytes.len() > INPUT {
+        let way = seed / TO_A_LARGE_INPUT + u64::from(count);
+        let sketch =
+            if large && count < LARGE_TABLES { large_sketch(&mut rng, way) } else { generated_sketch(&mut rng) };
+        let bytes = table_bytes(&generated_table(&mut rng, sketch), *rng.pick(&[0, 1, 255]));
+        if 1 + input.len() + bytes.len() > most {
             break;
         }
         count += 1;

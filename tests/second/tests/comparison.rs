@@ -38,7 +38,7 @@ fn each_fault_is_found() {
 #[test]
 fn each_fault_about_the_limits_is_found_in_large_files() {
     for fault in LARGE_FAULTS {
-        let (failing, tried) = compare_seeds(&mut Broken::new(*fault), Seed::Large, 1, 2 * LARGE);
+        let (failing, tried) = compare_seeds(&mut Broken::new(*fault), Seed::Large, 1, 4 * LARGE);
         let failing = failing.unwrap_or_else(|| panic!("{fault:?} is not found in {tried}"));
         println!("{fault:?}: found after {tried}, {}", failing.difference.place);
     }

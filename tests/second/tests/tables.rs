@@ -164,8 +164,8 @@ fn shows(fault: Fault, table: &Table) -> bool {
 }
 
 #[test]
-fn five_inputs_of_tables_show_each_fault_of_strata_and_31() {
-    let tables: Vec<Box<Table>> = (1..=5).flat_map(|seed| tables(&generated(seed))).collect();
+fn ten_inputs_of_tables_show_each_fault_of_strata_and_31() {
+    let tables: Vec<Box<Table>> = (1..=10).flat_map(|seed| tables(&generated(seed))).collect();
     let faults = [
         Fault::HighestOnCircle,
         Fault::BehindCircle,
@@ -190,6 +190,11 @@ fn five_inputs_of_tables_show_each_fault_of_strata_and_31() {
         Fault::EachAsAsked,
         Fault::FallingStrata,
         Fault::ZeroStratum,
+        Fault::StrataByLastByte,
+        Fault::StrataCut,
+        Fault::StrataHeld,
+        Fault::CircleRuleCut,
+        Fault::CountHeld,
         Fault::UnusedTested,
         Fault::NoAssignments,
         Fault::NoneTriggerLacking,

@@ -12,7 +12,7 @@ use second::program_cases::NAMES;
 use second::table_lines;
 
 /// How many rounds there are for one large file.
-const ROUNDS_TO_A_LARGE_FILE: u64 = 400;
+const ROUNDS_TO_A_LARGE_FILE: u64 = 200;
 
 /// What the command line asks for.
 struct Asked {
