@@ -1,5 +1,5 @@
 #!/usr/bin/env python3
-"""The stored tables of the crate strata_cases, and what it should write of them, by a reckoning of its own made from document 01 and sections 2 and 6 of document 02.
+"""The stored tables of the crate strata_cases, and what it should write of them, by a reckoning of its own made from document 01 and sections 2, 6 and 7 of document 02.
 
   tests/strata_cases.py          writes crates/strata_cases/stdin and stdout
   tests/strata_cases.py --check  says whether they are what it would write; exit status 1 where they are not
@@ -141,6 +141,7 @@ def pair(k):
 
 
 FULL = [VALUES] * SLOTS
+# All pairs, again and again, for chains that go round.
 P = [pair(k) for k in range(480)] * 5
 X, Y, Z = (0, 2), (1, 2), (2, 2)
 

@@ -1,5 +1,6 @@
 //! The comparison of an engine with the second engine over generated inputs.
 
+use std::collections::{BTreeMap, BTreeSet};
 use std::path::Path;
 
 use crate::days::{compare_day, compare_response, entry, fitting, respond, Entry, Seen};
@@ -60,9 +61,10 @@ fn compare_strata(other: &mut dyn Engine, text: &[u8]) -> Result<(), Difference>
     Ok(())
 }
 
-/// Compares the names shown of slots and values that a table has or lacks.
+/// Compares the names shown of slots and values that a table has or lacks, of each those about the ends.
 fn compare_names(other: &mut dyn Engine, text: &[u8], table: &Table) -> Result<(), Difference> {
-    let slots = (0..table.width.min(34) as u8 + 2).chain([255]);
+    let width = table.width.min(34) as u8;
+    let slots = BTreeSet::from([0, 1, width / 2, width.saturating_sub(1), width, width + 1, 255]);
     for slot in slots {
         let ours = Second.slot_name(text, table, slot);
         same("a slot's name", &ours, &other.slot_name(text, table, slot))?;
@@ -252,8 +254,8 @@ pub fn store(folder: &Path, failing: &Failing) -> std::io::Result<()> {
 }
 
 /// How many of some seeds give which refusal by a way, to see that all are met: the refusal's number, 0 for none.
-pub fn refusals_met(way: Way, seeds: impl Iterator<Item = Seed>) -> std::collections::BTreeMap<u8, usize> {
-    let mut met = std::collections::BTreeMap::new();
+pub fn refusals_met(way: Way, seeds: impl Iterator<Item = Seed>) -> BTreeMap<u8, usize> {
+    let mut met = BTreeMap::new();
     for seed in seeds {
         let (mut rng, file) = seed.file();
         let (refused, table) = Second.read_for(way, &file.text);
