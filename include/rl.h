@@ -9,23 +9,23 @@
 /* The limits of a rule file. */
 #define RL_SLOTS 32
 #define RL_VALUES 15
-#define RL_RULES 255
+#define RL_RULES 2000
 #define RL_LITERALS 8
 #define RL_ASSIGNMENTS 4
 
 /* Bytes that any card, any slip of 32 changes, any fired record and any print fit in. */
 #define RL_CARD_BYTES 17
 #define RL_SLIP_BYTES 37
-#define RL_FIRED_BYTES 32
-#define RL_PRINT_BYTES 65535
+#define RL_FIRED_BYTES 250
+#define RL_PRINT_BYTES 262144
 
 /* Editors, and so records in a table of them: a caller lends `RlTally records[RL_EDITORS]`, in which the record of editor n (from 1) is at n - 1. */
 #define RL_EDITORS 40
 
 /* Where a name stands in the rule text. */
 typedef struct {
-    uint16_t start;
-    uint16_t size;
+    uint32_t start;
+    uint32_t size;
 } RlPlace;
 
 /* A slot: its name, and the names of its values with the number used; value k (from 1) is at k - 1. */
@@ -57,10 +57,10 @@ typedef struct {
     uint8_t tested;
     RlAssignment assignments[RL_ASSIGNMENTS];
     uint8_t assigned;
-    uint8_t stratum;
+    uint16_t stratum;
 } RlRule;
 
-/* The table: slots (from 0) with the number used, and rules with the number used; rule n (from 1) is at n - 1. 13,592 bytes. */
+/* The table: slots (from 0) with the number used, and rules with the number used; rule n (from 1) is at n - 1. 96,228 bytes. */
 typedef struct {
     RlSlot slots[RL_SLOTS];
     uint16_t width;
@@ -159,7 +159,7 @@ RlRead rl_read(const uint8_t *text, size_t text_length);
 /* Reads a rule text without test 18, for the response by marks: into a table with stratum 0 throughout, whether strata exist or not, or refuses it with 10 to 17. Such a table is for `rl_respond_by_marks` and the names; unless it has no rules, `rl_is_sound` says no, and `rl_respond`, packing and unpacking say 31. Its cards and slips are packed and unpacked by a table of the same slots without rules: a copy of it with `count` 0, or what `rl_read` gives for the text's slot lines alone. */
 RlRead rl_read_unlayered(const uint8_t *text, size_t text_length);
 
-/* Prints a rule text in the house style into the output, or refuses it with 10 to 18, 34 (the print would pass 65,535 bytes), 33 (the output is shorter than the print); bytes beyond the print, and all after a refusal, stay as they are. */
+/* Prints a rule text in the house style into the output, or refuses it with 10 to 18, 34 (the print would pass 262,144 bytes), 33 (the output is shorter than the print); bytes beyond the print, and all after a refusal, stay as they are. */
 RlPrinted rl_print(const uint8_t *text, size_t text_length, uint8_t *out, size_t out_length);
 
 /* Says whether a table is in order; with one that is not, the functions below that take it say 31, but for the names, and the responses 44 or 32 before it where the editor has no record or a full one. `rl_respond_by_marks` takes one more: a table that would be in order but for its stratum 0 throughout. */
@@ -195,10 +195,10 @@ RlResponse rl_respond_by_marks(RlTable table, RlTally *records, size_t records_l
                                uint8_t *new_card, size_t new_card_length, uint8_t *changes, size_t changes_length,
                                uint8_t *fired, size_t fired_length);
 
-_Static_assert(sizeof(RlSlot) == 66 && sizeof(RlLiteral) == 4 && sizeof(RlAssignment) == 2, "layout");
-_Static_assert(sizeof(RlRule) == 45 && sizeof(RlTable) == 13592 && sizeof(RlRead) == 13608, "layout");
+_Static_assert(sizeof(RlPlace) == 8 && sizeof(RlSlot) == 132 && sizeof(RlLiteral) == 4, "layout");
+_Static_assert(sizeof(RlAssignment) == 2 && sizeof(RlRule) == 46 && sizeof(RlTable) == 96228, "layout");
 _Static_assert(sizeof(RlCardForm) == 40 && sizeof(RlSlipForm) == 72 && sizeof(RlTally) == 4, "layout");
-_Static_assert(sizeof(RlName) == 24 && sizeof(RlCard) == 56 && sizeof(RlSlip) == 88, "layout");
+_Static_assert(sizeof(RlRead) == 96248 && sizeof(RlName) == 24 && sizeof(RlCard) == 56 && sizeof(RlSlip) == 88, "layout");
 _Static_assert(sizeof(RlPrinted) == 24 && sizeof(RlPacked) == 24 && sizeof(RlResponse) == 32, "layout");
 
 #endif

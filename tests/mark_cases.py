@@ -1,5 +1,5 @@
 #!/usr/bin/env python3
-"""The stored cases of the response by marks, and what the library should say of them, by a reckoning of its own made from sections 3, 5 and 6 of document 02 and section 6 of document 002.
+"""The stored cases of the response by marks, and what the library should say of them, by a reckoning of its own made from sections 3, 5, 6 and 7 of document 02 and section 6 of document 002.
 
   tests/mark_cases.py          writes tests/stored/marks/input and expected
   tests/mark_cases.py --check  says whether they are what it would write; exit status 1 where they are not
@@ -11,9 +11,10 @@ then what the response by marks gives; of each response also the records that ar
 """
 import random
 import sys
+from itertools import groupby
 
 from card_cases import card_bytes, slip_bytes
-from stored import run
+from stored import run, stored_text
 from strata_cases import circle, dependences, rule, strata
 
 NAMES = 'xyzabcdefghijklmnopq'
@@ -62,9 +63,10 @@ def by_strata(rules, card, slip, numbers):
         open_rules = [n for n, r in enumerate(rules) if n not in fired and all(holds(card, changes, t) for t in tests(r))]
         if not open_rules:
             break
-        n = min(open_rules, key=lambda n: numbers[n])
-        fired.add(n)
-        changes |= set(rules[n][2])
+        lowest = min(numbers[n] for n in open_rules)
+        for n in [n for n in open_rules if numbers[n] == lowest]:
+            fired.add(n)
+            changes |= set(rules[n][2])
     double = [s for s, v in changes if len([w for t, w in changes if t == s]) > 1]
     return ' refused 40 %d' % min(double) if double else answer(card, rules, changes, fired)
 
@@ -79,13 +81,14 @@ def by_marks(counts, rules, card, slip):
         return ruled_out | {(s, v) for s, v in pairs for t, w in positive if s == t and v != w}
 
     while not positive & negative():
-        truths = [[truth(card, positive, negative(), t) for t in tests(r)] for r in rules]
+        out = negative()
+        truths = [[truth(card, positive, out, t) for t in tests(r)] for r in rules]
         true = [n for n, found in enumerate(truths) if n not in fired and all(found)]
         live = {pair for r, found in zip(rules, truths) if False not in found for pair in r[2]}
-        out = pairs - positive - negative() - live
+        out = pairs - positive - out - live
         if true:
-            fired.add(true[0])
-            positive |= set(rules[true[0]][2])
+            fired.update(true)
+            positive.update(pair for n in true for pair in rules[n][2])
         elif out:
             ruled_out.add(min(out))
         else:
@@ -95,6 +98,11 @@ def by_marks(counts, rules, card, slip):
     if pairs - positive - negative():
         return ' refused 42 0'
     return answer(card, rules, positive, fired)
+
+
+def parts_of(text):
+    """A text as its lines, those alike together."""
+    return [(len(list(same)), line) for line, same in groupby(text.splitlines(True))]
 
 
 def text_of(counts, rules):
@@ -239,8 +247,21 @@ def listed():
             yield from files(([(X, [(becomes, 1 - negated, s, v)] + other, [Z], 0)], ZEROS, [X]))
 
 
+def large():
+    """Files of 2,000 rules: all fire, the first, the last, the first and the last ones, all of them and the last in conflict; of 1,997; a rule above 255 that 18 names, first and with others behind it; strata above 255, the chain begun and not."""
+    most, idle = rule(X, Z), rule(Y, Z)
+    for rules in ([most] * 2000, [most] + [idle] * 1999, [idle] * 1999 + [most], [most] * 3 + [idle] * 1200 + [most] * 797, [most] * 1999 + [rule(X, (2, 1))], [most] * 1997):
+        yield from files((rules, ZEROS, [X]))
+    own = rule(X, Y, under=[Y])
+    yield from files(([most] * 255 + [own], ZEROS, [X]), ([most] * 300 + [own] + [idle] * 9, ZEROS, [X, Y]))
+    link = [(s, v) for v in range(1, 16) for s in range(18)]
+    rules = [rule((18, 1), link[k + 1], under=[link[k]]) for k in range(269)]
+    for slip in ([(18, 1)], [link[0], (18, 1)]):
+        yield ([15] * 18 + [1], rules, [0] * 19, slip)
+
+
 def cases():
-    for part in (documents, chains, by_chance, listed, withdrawn):
+    for part in (documents, chains, by_chance, listed, withdrawn, large):
         yield from part()
 
 
@@ -259,7 +280,8 @@ def stored():
     for number, (case, editor) in enumerate(sent(), 1):
         counts, rules, card, slip = case
         text = text_of(counts, rules)
-        given += len(text).to_bytes(2, 'big') + text + bytes([editor])
+        parts = parts_of(text)
+        given += stored_text(parts if len(parts) < len(rules) else text) + bytes([editor])
         given += b''.join(bytes([len(data)]) + data for data in (card_bytes(card), slip_bytes(slip)))
         expected += 'case %d\n%s' % (number, written(case, editor))
     yield 'tests/stored/marks/input', given

@@ -1,10 +1,10 @@
 #!/usr/bin/env python3
-"""The stored prints, and what they should be, by a printer of its own made from sections 1 and 6 of document 02 over the reading of read_cases.py.
+"""The stored prints, and what they should be, by a printer of its own made from sections 1, 6 and 7 of document 02 over the reading of read_cases.py.
 
   tests/print_cases.py          writes tests/stored/prints/input and expected, and print.txt of the examples
   tests/print_cases.py --check  says whether they are what it would write; exit status 1 where they are not
 
-A case is (text, room), or ((front, times, piece), room) where the text is the front and so many times the piece. An output has 16 bytes
+A case is (text, room), the text whole or in parts as in stored.py. An output has 16 bytes
 more than are lent; `kept` says how many beyond the print are as they were. Equal neighbours among the lines of a print stand once, after
 how many they are.
 """
@@ -14,11 +14,11 @@ import re
 import sys
 from itertools import groupby
 
-from read_cases import XYZ, File, reading, rule, tokens
-from stored import run
+from read_cases import RULE, XYZ, File, reading, rule, tokens
+from stored import run, stored_text, whole
 
 TOP = os.path.dirname(os.path.dirname(os.path.abspath(__file__)))
-PRINT_BYTES = 65535
+PRINT_BYTES = 262144
 MARGIN = 16
 
 
@@ -115,18 +115,32 @@ WHEN y*=NONE- IF TRUE THEN y:=NONE; WHEN y *= NONE IF TRUE AND NOT\tNOT NOT y |=
 
 # A text of each refusal of the reading, with a second number above 0 where there can be one.
 REFUSED = [
-    (b' ', 255, b' ' * 257), rule() + b'(', rule() + b'WHEN x *= 1 THEN', rule() + b'WHEN ' + b'n' * 25, b'SLOT x {a, a};',
+    [(4096, b' ' * 64), (1, b' ')], [(1, XYZ), (2000, RULE), (1, b'WHEN')], [(1, XYZ), (2000, RULE), (1, b'(')], rule() + b'(', rule() + b'WHEN x *= 1 THEN', rule() + b'WHEN ' + b'n' * 25, b'SLOT x {a, a};',
     rule() + b'WHEN x *= 1 IF ' + b'y |= 0 AND ' * 8 + b'y', rule() + b'WHEN NONE', b'SLOT x {NONE};', rule() + b'WHEN q', rule() + b'WHEN x *= 1 IF TRUE THEN {y := 1, y',
     XYZ + b'WHEN x *= 1 IF TRUE THEN y := 1; WHEN z *= 1 IF NOT z *= 0 THEN z := 0;',
 ]
 
 
-def longest(more):
-    """The parts of a text whose print has the greatest length and so many bytes more: slot lines of 60, 60 and 21, and 126 rules of 519."""
+# Fifteen names of 24 bytes.
+LONG = [bytes([97 + k]) * 24 for k in range(15)]
+
+
+def with_rules(count, x, y):
+    """The parts of a text whose print has slot lines of 60 and 60, one for x and one for y with these values, and so many rules of 519."""
     s, t, v = b's' * 24, b't' * 24, b'v' * 24
     tests = b' AND '.join([b'NOT ' + s + b'|=' + v] + [s + b'|=' + v] * 6)
-    front = b'SLOT ' + s + b'{' + v + b'};SLOT ' + t + b'{' + v + b'};SLOT x{' + b'a' * (8 + more) + b'};'
-    return front, 126, b'WHEN ' + s + b'*=' + v + b' IF ' + tests + b' THEN ' + t + b':=' + v + b';'
+    front = b'SLOT ' + s + b'{' + v + b'};SLOT ' + t + b'{' + v + b'};SLOT x{' + b','.join(x) + b'};SLOT y{' + b','.join(y) + b'};'
+    return [(1, front), (count, b'WHEN ' + s + b'*=' + v + b' IF ' + tests + b' THEN ' + t + b':=' + v + b';')]
+
+
+def longest(more):
+    """The parts of a text whose print has the greatest length and so many bytes more: slot lines of 60, 60, 401 and 47, and 504 rules of 519."""
+    return with_rules(504, LONG, LONG[:1] + [b'z' * (8 + more)])
+
+
+def two_bytes(more):
+    """The parts of a text whose print has 65,535 bytes and so many more: slot lines of 60, 60, 401 and 139, and 125 rules of 519."""
+    return with_rules(125, LONG, LONG[:4] + [b'z' * (22 + more)])
 
 
 def respaced(chance, text):
@@ -144,7 +158,7 @@ def respaced(chance, text):
 def cases():
     yield from [(b'', 0), (b'', 5), (b' \t\r\n', 0)]
     for text in [*lettered(), *woken(), example('case-c'), example('dialect'), example('withdrawn'), *guided(), CANCELLED, WITHDRAWN]:
-        outcome = printed(text, PRINT_BYTES)
+        outcome = printed(whole(text), PRINT_BYTES)
         length = 40 if isinstance(outcome, bytes) else sum(map(len, outcome))
         yield from [(text, room) for room in (length, length - 1, length + 7, 0)]
     chance = random.Random(34)
@@ -152,21 +166,18 @@ def cases():
     yield from [(respaced(chance, WITHDRAWN), 256) for _ in range(10)]
     for text in REFUSED:
         yield from [(text, 0), (text, 300)]
+    yield from [([(1, XYZ), (2000, RULE), (1, b' ')], PRINT_BYTES), ([(1100, b' ' * 64), (1, XYZ)], 51)]
+    yield from [(two_bytes(more), room) for more in (0, 1) for room in (65535, 65536)]
     yield from [(longest(0), PRINT_BYTES), (longest(0), PRINT_BYTES + 1), (longest(0), PRINT_BYTES - 1), (longest(0), 0)]
     yield from [(longest(more), room) for more in (1, 2) for room in (0, PRINT_BYTES, PRINT_BYTES + more)]
-
-
-def stretch(part):
-    return len(part).to_bytes(2, 'big') + part
 
 
 def stored():
     """Each file with what it should hold."""
     given, lines = b'', b''
     for number, (text, room) in enumerate(cases(), 1):
-        front, times, piece = (text, 0, b'') if isinstance(text, bytes) else text
-        given += room.to_bytes(3, 'big') + stretch(front) + bytes([times]) + stretch(piece)
-        lines += b'print %d\n' % number + written(front + times * piece, room)
+        given += room.to_bytes(3, 'big') + stored_text(text)
+        lines += b'print %d\n' % number + written(whole(text), room)
     yield 'tests/stored/prints/input', given
     yield 'tests/stored/prints/expected', lines
     for name in ('case-c', 'dialect', 'withdrawn'):

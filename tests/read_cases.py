@@ -1,5 +1,5 @@
 #!/usr/bin/env python3
-"""The stored texts, and what their reading should give, by a reader of its own made from document 01, sections 2 and 6 of document 02 and the appendix of the RL paper.
+"""The stored texts, and what their reading should give, by a reader of its own made from document 01, sections 2, 6 and 7 of document 02 and the appendix of the RL paper.
 
   tests/read_cases.py          writes tests/stored/texts/input and expected
   tests/read_cases.py --check  says whether they are what it would write; exit status 1 where they are not
@@ -7,8 +7,9 @@
 import random
 import re
 import sys
+from itertools import groupby
 
-from stored import run
+from stored import run, stored_text, whole
 from strata_cases import circle, dependences, strata
 
 TOKEN = re.compile(rb'[0-9A-Za-z][0-9A-Za-z-]*|[*|:]=|[{},;]')
@@ -128,7 +129,7 @@ class File:
                 return found
 
     def rule(self):
-        self.take('WHEN', also=lambda part: [(15, len(self.rules) >= 255)])
+        self.take('WHEN', also=lambda part: [(15, len(self.rules) >= 2000)])
         slot = self.slot()
         self.take('*=')
         value = self.value(slot)
@@ -146,8 +147,8 @@ class File:
 
 
 def reading(text):
-    """The lines owed for a text."""
-    if len(text) > 65535:
+    """The lines owed for a text; of equal neighbours among its rules one, after how many they are."""
+    if len(text) > 262144:
         return [b'refused 10 0']
     file = File(text)
     try:
@@ -159,9 +160,8 @@ def reading(text):
         return [b'refused 18 %d' % circle(edges)]
     lines = [b'accepted %d %d' % (len(file.slots), len(file.rules))]
     lines += [b' '.join([b'slot', name] + values) for name, values in file.slots]
-    for stratum, (slot, value, literals, assignments) in zip(strata(edges), file.rules):
-        lines.append(b'rule %d %d %d' % (stratum, slot, value) + b''.join(b' : %d %d %d %d' % l for l in literals) + b''.join(b' = %d %d' % a for a in assignments))
-    return lines
+    rules = [b'rule %d %d %d' % (stratum, slot, value) + b''.join(b' : %d %d %d %d' % l for l in literals) + b''.join(b' = %d %d' % a for a in assignments) for stratum, (slot, value, literals, assignments) in zip(strata(edges), file.rules)]
+    return lines + [b'%d ' % len(list(same)) + line for line, same in groupby(rules)]
 
 
 XYZ = b'SLOT x {0,1}; SLOT y {0,1}; SLOT z {0,1}; '
@@ -202,6 +202,25 @@ def withdrawn():
     yield from [rule(b'NOT y *= NONE', b'y := NONE'), rule(b'y *= NONE', b'y := NONE'), rule(b'NOT y |= NONE', b'y := NONE'), rule(b'NOT y *= NONE', b'y := 1'), rule(b'NOT y *= 1', b'y := NONE')]
 
 
+def large(short):
+    """The limits of the library: 255 rules and 256, 2,000 and 2,001, and what may follow; refusals behind more than 255 rules; a rule above 255 that 18 names; strata above 255; texts of 65,536 bytes, of 262,144 and of one more, with names at their ends."""
+    yield from [[(1, XYZ), (count, short)] for count in (255, 256, 257, 1999, 2000, 2001)]
+    most = [(1, XYZ), (2000, short)]
+    yield from [most + [(1, end)] for end in (b' \n', b'WHEN', b'WHEN(', b'SLOT', b'SLOT w {0};', b'q', b';', b'(', b'*', b'a' * 25, b'TRUE')]
+    yield from [[(1, XYZ), (count, short), (1, b'WHEN ' + fault)] for count in (256, 1999) for fault in (b'(', b'x', b'a' * 25, b'q', b'x *= 1 IF ' + b' AND '.join([b'y |= 0'] * 9), b'x *= 1 IF TRUE THEN {y := 1, y')]
+    own = b'WHEN x *= 1 IF NOT z *= 1 THEN z := 1;'
+    yield from [[(1, XYZ), (count, short), (1, own), (rest, short)] for count, rest in ((254, 0), (255, 0), (256, 3), (511, 9), (1999, 0))] + [[(1, XYZ), (1999, short), (1, own + b'WHEN')]]
+    pairs = [(s, v) for v in range(15) for s in range(20)]
+    link = [b'WHEN s0*=v0 IF NOT s%d*=v%d THEN s%d:=v%d;' % (pairs[i] + pairs[i + 1]) for i in range(1, 290)]
+    slots = b''.join(b'SLOT s%d{%s};' % (s, b','.join(b'v%d' % v for v in range(15))) for s in range(20))
+    yield from [slots + b''.join(link), slots + b''.join(reversed(link))]
+    white, line = (1023, b' ' * 64), b'SLOT x{0};'
+    yield from [[white, (64 - len(line), b' '), (1, line)], [(1, line), white, (65 - len(line), b' ')]]
+    for over in (0, 1):
+        white = [(4095, b'\n' + b' ' * 63), (64 + over - len(line), b'\t')]
+        yield from [white + [(len(line), b' ')], white + [(1, line)], [(1, line)] + white, white + [(1, line[:-1] + b'(')]]
+
+
 def texts():
     """The cases and limits of document 01, circles, NONE, each place's faults and their precedence, and texts damaged at random."""
     a, b = b'WHEN x *= 1 IF y |= 0 THEN z := 1;', b'WHEN z *= 1 IF y |= 0 THEN y := 1;'
@@ -213,7 +232,7 @@ def texts():
     yield from circles()
     yield from withdrawn()
     short = b'WHEN x*=1 IF TRUE THEN y:=1;'
-    yield from [XYZ + RULE * 2, XYZ + short * 255 + b' ', XYZ + short * 256, XYZ + short * 255 + b'SLOT']
+    yield from [XYZ + RULE * 2, *large(short)]
     yield from [b''.join(b'SLOT s%d {v};' % i for i in range(n)) for n in (32, 33)] + [b''.join(b'SLOT s%d {v};' % i for i in range(32)) + b'SLOT s1 (']
     yield from [b'SLOT x {' + many(n) + b'};' for n in (15, 16)] + [b'SLOT x {' + many(15) + b',v3};', b'SLOT x {' + many(15) + b',' + b'v' * 25 + b'};', b'SLOT x {v,v};', b'SLOT x {x};', b'SLOT x {a}; SLOT x {b};', b'SLOT x {a}; SLOT y {a};']
     yield from [rule(b' AND '.join([b'y |= 0'] * n)) for n in (1, 8, 9)] + [rule(b'TRUE AND ' + b' AND '.join([b'y |= 0'] * n)) for n in (8, 9)]
@@ -241,10 +260,8 @@ def stored():
     """Each file with what it should hold."""
     cases, written = b'', []
     for number, text in enumerate(texts(), 1):
-        cases += len(text).to_bytes(2, 'big') + text
-        written += [b'text %d' % number] + reading(text)
-    for size in (65535, 65536):
-        written += reading(b' ' * size)
+        cases += stored_text(text)
+        written += [b'text %d' % number] + reading(whole(text))
     yield 'tests/stored/texts/input', cases
     yield 'tests/stored/texts/expected', b'\n'.join(written) + b'\n'
 

@@ -1,6 +1,17 @@
-"""Stored files that a script makes: written, or held to what it would write."""
+"""Stored files that a script makes: written, or held to what it would write; and texts in them, whole or as parts that are (times, piece)."""
 import os
 import sys
+
+
+def whole(text):
+    """The bytes of a text."""
+    return text if isinstance(text, bytes) else b''.join(times * piece for times, piece in text)
+
+
+def stored_text(text):
+    """A text as it is stored: the number of its parts, and for each how many times it stands, its length and its bytes."""
+    parts = [(1, text)] if isinstance(text, bytes) else text
+    return bytes([len(parts)]) + b''.join(times.to_bytes(2, 'big') + len(piece).to_bytes(2, 'big') + piece for times, piece in parts)
 
 
 def run(stored):

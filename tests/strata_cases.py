@@ -1,5 +1,5 @@
 #!/usr/bin/env python3
-"""The stored tables of the crate strata_cases, and what it should write of them, by a reckoning of its own made from document 01 and sections 2 and 6 of document 02.
+"""The stored tables of the crate strata_cases, and what it should write of them, by a reckoning of its own made from document 01 and sections 2, 6 and 7 of document 02.
 
   tests/strata_cases.py          writes crates/strata_cases/stdin and stdout
   tests/strata_cases.py --check  says whether they are what it would write; exit status 1 where they are not
@@ -14,7 +14,8 @@ import sys
 
 from stored import run
 
-SLOTS, VALUES, RULES, LITERALS, ASSIGNMENTS = 32, 15, 255, 8, 4
+SLOTS, VALUES, RULES, LITERALS, ASSIGNMENTS = 32, 15, 2000, 8, 4
+INPUT = 262144
 
 
 def tests(rule):
@@ -120,7 +121,7 @@ def packed(table):
     fill, counts, rules = table
     out = [fill, len(counts)] + counts[:SLOTS] + [len(rules) // 256, len(rules) % 256]
     for (s, v), literals, assignments, stratum in rules[:RULES]:
-        out += [s, v, stratum, len(literals)]
+        out += [s, v, stratum // 256, stratum % 256, len(literals)]
         for becomes, negated, ls, lv in literals[:LITERALS]:
             out += [becomes + 2 * negated, ls, lv]
         out.append(len(assignments))
@@ -140,7 +141,8 @@ def pair(k):
 
 
 FULL = [VALUES] * SLOTS
-P = [pair(k) for k in range(480)]
+# All pairs, again and again, for chains that go round.
+P = [pair(k) for k in range(480)] * 5
 X, Y, Z = (0, 2), (1, 2), (2, 2)
 
 
@@ -235,6 +237,10 @@ def circles():
     yield from [barred(own, 100), full(*own[2][:254], rule(P[300], P[254], under=[P[254]]))]
     end = full(*[rule(P[i], P[i + 1]) for i in range(253)], rule(P[254], P[253]), rule(P[253], P[254]))
     yield from [barred(end, 100), barred(end, 255)]
+    # a circle of two rules above 255, and the same at the end of the longest table, where the first of the two is the last but one; a ring of 480 pairs that goes round, with a NOT at its end
+    high = [rule(P[0], P[1])] * 300 + [rule(P[2], P[3], under=[P[4]]), rule(P[3], P[4])]
+    yield from [full(*high), full(*[rule(P[0], P[1])] * 1998, *high[300:])]
+    yield barred(full(*[rule(P[i], P[i + 1]) for i in range(480)]), 480)
     # a plain circle of 252 rules, and a circle through a NOT that shares its last rule
     shared = full(*[rule(P[i], P[(i + 1) % 252]) for i in range(251)], rule(P[251], P[0], under=[P[400]]), rule(P[0], P[399]), rule(P[399], P[400]))
     yield from [shared, backward(shared)]
@@ -261,6 +267,12 @@ def heights():
         right = layered(table)
         numbers = [r[3] for r in right[2]]
         yield from [right, backward(right), backward(carrying(table, *numbers[:-1], numbers[-1] - 1))]
+    # a chain under NOT through all pairs but the one that triggers it: its strata, those cut to a byte, 256 more or less than right, no higher than 255, the highest number there is
+    chain = full(*[rule(P[i], P[i + 1]) for i in range(478)])
+    right = layered(barred(chain, *range(1, 479)))
+    numbers = [r[3] for r in right[2]]
+    yield from [right, backward(right), carrying(right, *[n % 256 for n in numbers]), carrying(right, *[n + 256 for n in numbers]), carrying(right, *[min(n, 255) for n in numbers])]
+    yield from [carrying(right, *numbers[:-1], last) for last in (numbers[-1] - 256, numbers[-1] + 256, 65535)]
 
 
 def carried():
@@ -271,7 +283,7 @@ def carried():
         yield from [carrying(chain, *numbers), carrying(barred(chain, 2, 3), *numbers), carrying(barred(chain, 2), *numbers)]
     # two rules that feed each other
     pair_of = full(rule(P[0], P[1]), rule(P[1], P[0]))
-    yield from [carrying(pair_of, *numbers) for numbers in ((1, 1), (2, 2), (1, 2), (2, 1), (0, 0), (0, 1), (3, 3), (255, 255))]
+    yield from [carrying(pair_of, *numbers) for numbers in ((1, 1), (2, 2), (1, 2), (2, 1), (0, 0), (0, 1), (3, 3), (255, 255), (257, 257), (256, 256), (65535, 65535))]
     # a rule that feeds itself, alone and above a NOT
     yield from [carrying(full(rule(P[0], P[0])), n) for n in (0, 1, 2)]
     lifted = full(rule(P[5], P[9]), rule(P[0], P[0], under=[P[9]]))
@@ -301,8 +313,7 @@ def forms():
     yield (0, [], [rule((0, 1), stratum=1)])
     yield (0, [1] * 32, [rule((31, 1), (0, 1), stratum=1)])
     yield (0, [1] * 33, [])
-    yield (0, [1], [rule((0, 1), stratum=1)] * 255)
-    yield (0, [1], [rule((0, 1), stratum=1)] * 256)
+    yield from [(0, [1], [rule((0, 1), stratum=1)] * count) for count in (255, 256, 2000, 2001)]
     yield from files(*[[rule((s, v), stratum=1)] for s, v in ((0, 0), (0, 1), (0, 2), (0, 3), (2, 2), (3, 1), (255, 1), (0, 255))])
     yield from files(*[[rule(X, had=[q], stratum=1)] for q in ((0, 0), (0, 3), (3, 1))])
     yield from files(*[[rule(X, q, stratum=1)] for q in ((1, 0), (1, 3), (3, 1))])
@@ -320,7 +331,7 @@ def forms():
 def by_chance():
     """Tables by chance: with any strata, or with the least where there are any, perhaps one of them changed."""
     chance = random.Random(5)
-    for i in range(60):
+    for i in range(44):
         width = chance.randint(1, 6)
         counts = [chance.randint(1, 4) for s in range(width)]
 
@@ -348,10 +359,12 @@ def cases():
 
 
 def chain_line(word, rules):
-    """What the program writes of a chain that it makes itself: how many rules, the strata of the first and the last, whether it then passes."""
-    table = layered(full(*rules))
-    numbers = [r[3] for r in table[2]]
-    return '%s %d %d %d %d' % (word, len(rules), numbers[0], numbers[-1], sound(table))
+    """What the program writes of a chain that it makes itself: how many rules, the strata of the first and the last, whether it then passes; of one without strata the first of the table without rules, which passes."""
+    edges = dependences(rules)
+    if circle(edges) is not None:
+        return '%s %d 0 1' % (word, len(rules))
+    numbers = strata(edges)
+    return '%s %d %d %d %d' % (word, len(rules), numbers[0], numbers[-1], well_formed(full(*rules)))
 
 
 def stored():
@@ -359,9 +372,9 @@ def stored():
     tables = list(cases())
     assert len(tables) < 256
     stdin = bytes([len(tables)]) + b''.join(packed(t) for t in tables)
-    assert len(stdin) <= 65536
+    assert len(stdin) <= INPUT
     lines = ['case %d%s' % (i + 1, written(t)) for i, t in enumerate(tables)]
-    for n in range(1, 256):
+    for n in [*range(1, 480), RULES]:
         lines.append(chain_line('forward', [rule(P[i], P[i + 1]) for i in range(n)]))
         lines.append(chain_line('backward', [rule(P[i + 1], P[i]) for i in range(n)]))
         lines.append(chain_line('forward-not', [rule(P[479], P[i + 1], under=[P[i]]) for i in range(n)]))

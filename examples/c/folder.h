@@ -7,7 +7,7 @@
 #include <stdlib.h>
 
 /* The most bytes that are read of a file: one more than a rule text may have. */
-enum { ROOM = 65536 };
+enum { ROOM = 262145 };
 
 /* The folder that the command line names, else the one where the program runs. */
 static inline const char *named(int count, char **words) {

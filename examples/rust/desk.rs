@@ -28,7 +28,7 @@ fn run(by_marks: bool, text: &[u8], card: &[u8], slip: &[u8], editor: usize) -> 
     let table = if by_marks { rl::read_unlayered(text)? } else { rl::read(text)? };
     let respond = if by_marks { rl::respond_by_marks } else { rl::respond };
     // The same slots without rules, by which cards and slips unpack whatever the strata are.
-    let slots = rl::Table { count: 0, ..*table };
+    let slots = Box::new(rl::Table { count: 0, ..*table });
 
     let before = rl::unpack_card(&slots, card)?;
     for (slot, value) in before.values[..before.count].iter().enumerate() {

@@ -3,15 +3,15 @@
 /// The limits of a rule file.
 pub const SLOTS: usize = 32;
 pub const VALUES: usize = 15;
-pub const RULES: usize = 255;
+pub const RULES: usize = 2_000;
 pub const LITERALS: usize = 8;
 pub const ASSIGNMENTS: usize = 4;
 
 /// Bytes that any card, any slip of 32 changes, any fired record and any print fit in.
 pub const CARD_BYTES: usize = 17;
 pub const SLIP_BYTES: usize = 37;
-pub const FIRED_BYTES: usize = 32;
-pub const PRINT_BYTES: usize = 65_535;
+pub const FIRED_BYTES: usize = 250;
+pub const PRINT_BYTES: usize = 262_144;
 
 /// Editors, and so records in a table of them.
 pub const EDITORS: usize = 40;
@@ -20,8 +20,8 @@ pub const EDITORS: usize = 40;
 #[repr(C)]
 #[derive(Clone, Copy, PartialEq, Eq, Debug, Default)]
 pub struct Name {
-    pub start: u16,
-    pub size: u16,
+    pub start: u32,
+    pub size: u32,
 }
 
 impl Name {
@@ -69,7 +69,7 @@ pub struct Rule {
     pub tested: u8,
     pub assignments: [Assignment; ASSIGNMENTS],
     pub assigned: u8,
-    pub stratum: u8,
+    pub stratum: u16,
 }
 
 /// The table: slots and rules with the numbers used.
@@ -88,6 +88,10 @@ impl Table {
         Box::new(Table { slots: [Slot::default(); SLOTS], width: 0, rules: [Rule::default(); RULES], count: 0 })
     }
 }
+
+// The sizes that C has too.
+const _: () = assert!(std::mem::size_of::<Slot>() == 132 && std::mem::size_of::<Rule>() == 46);
+const _: () = assert!(std::mem::size_of::<Table>() == 96_228 && std::mem::size_of::<RlRead>() == 96_248);
 
 /// An unpacked card: a value for each slot, 0 for no value, and how many slots it counts.
 #[repr(C)]

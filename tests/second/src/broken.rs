@@ -8,6 +8,7 @@ use crate::cards::{
 use crate::editors::{Caller, Tally, FULL};
 use crate::engine::{parts, Engine, Second, Way};
 use crate::fault::Fault;
+use crate::raw::FIRED_BYTES;
 use crate::response::{conflict, fired_count, needed, new_card, outcome, record, short_output};
 use crate::response::{Answer, Changes, Outputs};
 use crate::table::{Name, Pair, Program, Table, NONE};
@@ -155,6 +156,7 @@ impl Broken {
                 firing.fired.extend(program.rules.len()..padded);
                 answer.fired = record(padded, &firing.fired);
             }
+            Fault::RecordCut => answer.fired.truncate(32),
             Fault::CardReturned => answer.card = card_bytes(card),
             Fault::WithdrawnKept => {
                 let brought = firing.changes.iter().copied().filter(|pair| pair.1 != NONE).collect();
@@ -177,11 +179,11 @@ impl Broken {
     /// The first output that is too short.
     fn short(&self, program: &Program, rooms: [usize; 3], changes: usize) -> Option<usize> {
         let mut needed = needed(program);
-        if self.fault == Fault::RoomByChanges {
-            needed[1] = changes;
-        }
-        if self.fault == Fault::LastShortOutput {
-            return (0..3).rev().find(|at| rooms[*at] < needed[*at]).map(|at| at + 1);
+        match self.fault {
+            Fault::RoomByChanges => needed[1] = changes,
+            Fault::RecordRoom => needed[2] = needed[2].min(32),
+            Fault::LastShortOutput => return (0..3).rev().find(|at| rooms[*at] < needed[*at]).map(|at| at + 1),
+            _ => {}
         }
         short_output(needed, rooms)
     }
@@ -257,7 +259,10 @@ impl Broken {
         if conflict && self.fault == Fault::WrittenOnConflict {
             outputs.card[..card.len()].copy_from_slice(card);
         }
-        let answer = answer?;
+        let mut answer = answer?;
+        if self.fault == Fault::RecordRoom {
+            answer.fired.truncate(outputs.fired.len());
+        }
         outputs.write(&answer);
         self.clear_tails(&mut outputs, &answer);
         Ok(answer.changes.len())
@@ -277,7 +282,7 @@ impl Engine for Broken {
         broken_print::print(self.fault, text, output)
     }
 
-    fn strata(&mut self, table: &Table) -> Result<Vec<u8>, Refusal> {
+    fn strata(&mut self, table: &Table) -> Result<Vec<u16>, Refusal> {
         let program = crate::table31::unlayered(table)?;
         broken_strata::strata(self.fault, &program.rules).map_err(|rule| refusal(18, rule))
     }
@@ -343,7 +348,16 @@ impl Engine for Broken {
     }
 
     fn fired_count(&mut self, record: &[u8]) -> usize {
-        let counted = if self.fault == Fault::LastByteUncounted { record.len().min(31) } else { record.len() };
-        fired_count(&record[..counted])
+        let counted = match self.fault {
+            Fault::LastByteUncounted => FIRED_BYTES - 1,
+            Fault::HighBytesUncounted => 32,
+            _ => record.len(),
+        };
+        let fired = fired_count(&record[..counted.min(record.len())]);
+        if self.fault == Fault::FiredCut {
+            fired % 256
+        } else {
+            fired
+        }
     }
 }

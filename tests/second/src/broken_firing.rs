@@ -56,7 +56,7 @@ pub fn one_pass(program: &Program, card: &[u8], slip: &[Pair]) -> Firing {
 /// Fires in each stratum the most rules that are all enabled once they have fired.
 pub fn together(program: &Program, card: &[u8], slip: &[Pair]) -> Firing {
     let mut firing = Firing { changes: slip.iter().copied().collect(), fired: Vec::new() };
-    for stratum in program.strata.iter().copied().collect::<BTreeSet<u8>>() {
+    for stratum in program.strata.iter().copied().collect::<BTreeSet<u16>>() {
         let mut kept: Vec<usize> = (0..program.rules.len()).filter(|at| program.strata[*at] == stratum).collect();
         let mut before = kept.len() + 1;
         let mut after = firing.changes.clone();
@@ -77,6 +77,10 @@ pub fn fire(fault: Fault, program: &Program, card: &[u8], slip: &[Pair]) -> Firi
     let level = Program { strata: vec![1; program.rules.len()], ..program.clone() };
     match fault {
         Fault::OnePass => one_pass(program, card, slip),
+        Fault::HighRulesIdle => {
+            let low = Program { rules: program.rules.iter().take(255).cloned().collect(), ..program.clone() };
+            response::fire(&low, slip, |changes, rule| response::enabled(card, changes, rule))
+        }
         Fault::SharedCause => together(program, card, slip),
         Fault::NumberOrder => response::fire(&level, slip, |changes, rule| response::enabled(card, changes, rule)),
         _ => response::fire(program, slip, |changes, rule| enabled(fault, card, changes, rule)),

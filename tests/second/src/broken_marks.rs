@@ -1,7 +1,7 @@
 //! The reading without test 18, the test 31 for it and the response by marks with one fault.
 
 use crate::editors::Tally;
-use crate::fault::Fault;
+use crate::fault::{Fault, LARGE_FAULTS};
 use crate::marks::{self, and, had, not, Mark, Marks, Moment, Truth};
 use crate::read::{read, read_unlayered};
 use crate::response::{self, answered, counted, enabled, fire, outcome, Answer, Firing, Outputs};
@@ -213,6 +213,7 @@ fn answer(fault: Fault, table: &Table, card: &[u8], slip: &[u8], rooms: [usize; 
             Ok(strata) if fault == Fault::MarksByStrata => {
                 fire(&Program { strata, ..program.clone() }, slip, |changes, rule| enabled(card, changes, rule))
             }
+            _ if LARGE_FAULTS.contains(&fault) => marks::decided(&marks::selection(program, card, slip))?,
             _ => decided(fault, selection(fault, program, card, slip))?,
         };
         outcome(program, card, &firing)

@@ -5,7 +5,9 @@ use std::collections::HashSet;
 use crate::fault::Fault;
 use crate::print::{self, lines};
 use crate::raw::PRINT_BYTES;
-use crate::read::{is_value_in_rule, meaning, read, read_rules, walk, Placed, Walk, Want, GRAMMAR, NAME};
+use crate::read::{
+    is_value_in_rule, meaning, read, read_rules, walk, Placed, Walk, Want, GRAMMAR, LIBRARY, NAME, PROGRAM,
+};
 use crate::table::{Name, Pair, SlotLine, NONE};
 use crate::table31::named_pairs;
 use crate::text::Kind;
@@ -111,7 +113,7 @@ fn changed(fault: Fault, line: &str) -> String {
 fn by_strata(text: &[u8], lines: &mut Vec<Vec<u8>>) {
     let table = read(text).expect("the text is accepted");
     let strata = table.rules.iter().map(|rule| rule.stratum);
-    let mut rules: Vec<(u8, Vec<u8>)> = strata.zip(lines.split_off(table.width as usize)).collect();
+    let mut rules: Vec<(u16, Vec<u8>)> = strata.zip(lines.split_off(table.width as usize)).collect();
     rules.sort_by_key(|(stratum, _)| *stratum);
     lines.extend(rules.into_iter().map(|(_, line)| line));
 }
@@ -140,7 +142,7 @@ fn styled(fault: Fault, text: &[u8]) -> Vec<u8> {
 /// The refusal 10 to 18 of a text.
 fn refused(fault: Fault, text: &[u8]) -> Result<(), Refusal> {
     let read = match fault {
-        Fault::CirclePrinted => read_rules(text).map(drop),
+        Fault::CirclePrinted => read_rules(LIBRARY, text).map(drop),
         _ => read(text).map(drop),
     };
     read.map_err(|why| if fault == Fault::PrintSecondDropped { refusal(why.number, 0) } else { why })
@@ -153,6 +155,7 @@ fn printed(fault: Fault, text: &[u8], room: usize) -> Result<Vec<u8>, Refusal> {
     let most = match fault {
         Fault::LongestPrintRefused => PRINT_BYTES - 1,
         Fault::LongerPrintAccepted => PRINT_BYTES + 1,
+        Fault::LongPrintRefused => PROGRAM.bytes,
         _ => PRINT_BYTES,
     };
     let short = room + usize::from(fault == Fault::OneShortPrinted) < print.len();

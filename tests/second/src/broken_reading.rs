@@ -2,7 +2,9 @@
 
 use crate::broken_strata::strata;
 use crate::fault::Fault;
-use crate::read::{completed, meaning, refusals, walk, AtToken, Production, Walk, Want, GRAMMAR, TEXT};
+use crate::read::{
+    completed, meaning, refusals, walk, AtToken, Limits, Production, Walk, Want, GRAMMAR, LIBRARY, PROGRAM,
+};
 use crate::table::{table_of, LiteralPlace, Pair, Rule, SlotLine, Table};
 use crate::text::{tokens, Kind};
 use crate::{refusal, Refusal};
@@ -47,10 +49,29 @@ fn none_as_first(rules: &mut [Rule]) {
     }
 }
 
+/// The limits that the fault has.
+fn limits(fault: Fault) -> Limits {
+    let Limits { bytes, rules } = LIBRARY;
+    match fault {
+        Fault::LongestTextRefused => Limits { bytes: bytes - 1, rules },
+        Fault::LongerTextRead => Limits { bytes: bytes + 1, rules },
+        Fault::LongTextRefused => Limits { bytes: PROGRAM.bytes, rules },
+        Fault::LastRuleRefused => Limits { bytes, rules: rules - 1 },
+        Fault::RuleMoreRead => Limits { bytes, rules: rules + 1 },
+        Fault::ManyRulesRefused => Limits { bytes, rules: PROGRAM.rules },
+        Fault::ProgramLongestRefused => Limits { bytes: PROGRAM.bytes - 1, rules: PROGRAM.rules },
+        Fault::ProgramLongText => Limits { bytes, rules: PROGRAM.rules },
+        Fault::ProgramLastRefused => Limits { bytes: PROGRAM.bytes, rules: PROGRAM.rules - 1 },
+        Fault::ProgramManyRules => Limits { bytes: PROGRAM.bytes, rules },
+        Fault::ProgramRuleMoreCounted => PROGRAM,
+        _ => LIBRARY,
+    }
+}
+
 /// The refusals at tokens that the fault leaves or moves.
 fn bent_refusals(fault: Fault, text: &[u8], walk: &Walk) -> Vec<AtToken> {
     let token = |at: &AtToken| walk.tokens[at.position];
-    let mut found = refusals(text, walk);
+    let mut found = refusals(text, walk, limits(fault).rules);
     match fault {
         Fault::LongNameAccepted => found.retain(|at| at.number != 13 || token(at).size > 25),
         Fault::AssignedTwice => found.retain(|at| at.number != 17),
@@ -92,18 +113,22 @@ fn counting(fault: Fault, found: &[AtToken]) -> Option<AtToken> {
 }
 
 /// The second number of a refusal at a token.
-fn second_number(fault: Fault, walk: &Walk, position: usize) -> usize {
-    let begun = walk.placed.iter().filter(|at| at.token.kind == Kind::When && at.position < position);
-    if fault == Fault::RulesBegun {
-        begun.count()
-    } else {
-        completed(walk, position)
+fn second_number(fault: Fault, walk: &Walk, at: AtToken) -> usize {
+    let begun = walk.placed.iter().filter(|token| token.token.kind == Kind::When && token.position < at.position);
+    let completed = completed(walk, at.position);
+    let one_rule_more = at.number == 15 && walk.tokens[at.position].kind == Kind::When;
+    match fault {
+        Fault::RulesBegun => begun.count(),
+        Fault::RuleMoreCounted | Fault::ProgramRuleMoreCounted if one_rule_more => completed + 1,
+        Fault::MostRulesCut if at.number == 15 => completed % 256,
+        Fault::CompletedCut => completed % 256,
+        _ => completed,
     }
 }
 
 /// The slot lines and rules of a text, or its refusal 10 to 17.
 fn read_rules(fault: Fault, text: &[u8]) -> Result<(Vec<SlotLine>, Vec<Rule>), Refusal> {
-    if text.len() > TEXT - usize::from(fault == Fault::LongestTextRefused) {
+    if text.len() > limits(fault).bytes {
         return Err(refusal(10, 0));
     }
     let capitals = (fault == Fault::NoneInAnyCase).then(|| in_capitals(text));
@@ -115,13 +140,13 @@ fn read_rules(fault: Fault, text: &[u8]) -> Result<(Vec<SlotLine>, Vec<Rule>), R
     }
     let found = bent_refusals(fault, text, &walk);
     if let Some(at) = counting(fault, &found) {
-        return Err(refusal(at.number, second_number(fault, &walk, at.position)));
+        return Err(refusal(at.number, second_number(fault, &walk, at)));
     }
     match fault {
         Fault::NotsStay => {
             walk.placed.dedup_by(|next, before| next.token.kind == Kind::Not && before.token.kind == Kind::Not)
         }
-        Fault::UndeclaredValue if refusals(text, &walk).iter().any(|at| at.number == 16) => {
+        Fault::UndeclaredValue if refusals(text, &walk, LIBRARY.rules).iter().any(|at| at.number == 16) => {
             return Ok(Default::default())
         }
         _ => {}
@@ -145,10 +170,17 @@ pub fn read(fault: Fault, text: &[u8]) -> (Option<Refusal>, Box<Table>) {
         Err(_) if fault == Fault::TableAfterRefusal => table_of(&lines, &rules, &vec![0; rules.len()]),
         Err(_) => Table::empty(),
     };
-    if fault == Fault::UnusedOnes {
-        for rule in table.rules.iter_mut().take(rules.len()) {
-            rule.literals[rule.tested as usize..].fill(LiteralPlace { slot: 1, value: 1, ..LiteralPlace::default() });
+    match fault {
+        Fault::UnusedOnes => {
+            let ones = LiteralPlace { slot: 1, value: 1, ..LiteralPlace::default() };
+            table.rules.iter_mut().take(rules.len()).for_each(|rule| rule.literals[rule.tested as usize..].fill(ones));
         }
+        Fault::CountCut => table.count %= 256,
+        Fault::StartsCut => {
+            let names = table.slots.iter_mut().flat_map(|slot| slot.values.iter_mut().chain([&mut slot.name]));
+            names.for_each(|name| name.start %= 65_536);
+        }
+        _ => {}
     }
     (numbers.err(), table)
 }

@@ -4,7 +4,7 @@ use crate::fault::Fault;
 use crate::other_strata::{each_number, falling, on_any_circle, on_simple_circle};
 use crate::rule_set::RuleSet;
 use crate::strata::{least, on_circle, reached, waits, Waits};
-use crate::table::{Literal, LiteralPlace, Program, Rule, Table, NONE, VALUES};
+use crate::table::{Literal, LiteralPlace, Program, Rule, Table, NONE, RULES, VALUES};
 use crate::table31::{named_pairs, tested, tested_for_marks, unlayered};
 use crate::{refusal, Refusal};
 
@@ -77,11 +77,25 @@ fn circle_rule(fault: Fault, waits: &[Waits]) -> usize {
         Fault::OwnNotOnly => (0..waits.len()).find(own_not).expect("a circle through a NOT has a rule with that NOT"),
         _ => circle[0],
     };
-    at + 1
+    if fault == Fault::CircleRuleCut {
+        (at + 1) % 256
+    } else {
+        at + 1
+    }
+}
+
+/// The stratum that the fault has for a right one.
+fn bent_number(fault: Fault, number: u16) -> u16 {
+    match fault {
+        Fault::StrataTooHigh => number + 1,
+        Fault::StrataCut => number % 256,
+        Fault::StrataHeld => number.min(255),
+        _ => number,
+    }
 }
 
 /// The strata by the fault, or the rule that 18 names.
-pub fn strata(fault: Fault, rules: &[Rule]) -> Result<Vec<u8>, usize> {
+pub fn strata(fault: Fault, rules: &[Rule]) -> Result<Vec<u16>, usize> {
     let waits = bent_waits(fault, rules);
     let refused = match fault {
         Fault::NoStrata => (!rules.is_empty()).then_some(0),
@@ -92,10 +106,7 @@ pub fn strata(fault: Fault, rules: &[Rule]) -> Result<Vec<u8>, usize> {
     match (refused, least(&waits)) {
         (Some(at), _) => Err(at + 1),
         (None, None) => Err(circle_rule(fault, &waits)),
-        (None, Some(numbers)) if fault == Fault::StrataTooHigh => {
-            Ok(numbers.iter().map(|number| number.saturating_add(1)).collect())
-        }
-        (None, Some(numbers)) => Ok(numbers),
+        (None, Some(numbers)) => Ok(numbers.into_iter().map(|number| bent_number(fault, number)).collect()),
     }
 }
 
@@ -118,9 +129,18 @@ fn none_refused(fault: Fault, program: &Program) -> bool {
     }
 }
 
+/// The program of a table, or 31, its strata not looked at, with a fault.
+fn bent_program(fault: Fault, table: &Table) -> Result<Program, Refusal> {
+    let most = RULES as u16;
+    if fault == Fault::CountHeld && table.count > most {
+        return unlayered(&Table { count: most, ..*table });
+    }
+    unlayered(table)
+}
+
 /// The test 31 with a fault.
 pub fn program(fault: Fault, table: &Table) -> Result<Program, Refusal> {
-    let program = unlayered(table)?;
+    let program = bent_program(fault, table)?;
     let passes = match fault {
         Fault::StrataUntested => true,
         Fault::AnyStrata => each_number(&program, |number, asked| number >= asked),
@@ -130,8 +150,13 @@ pub fn program(fault: Fault, table: &Table) -> Result<Program, Refusal> {
             tested(table).is_ok() || falling.as_ref() == Some(&program.strata)
         }
         Fault::ZeroStratum => {
-            let ones: Vec<u8> = program.strata.iter().map(|number| *number.max(&1)).collect();
+            let ones: Vec<u16> = program.strata.iter().map(|number| *number.max(&1)).collect();
             strata(fault, &program.rules) == Ok(ones)
+        }
+        Fault::StrataByLastByte => {
+            let numbers = least(&waits(&program.rules)).unwrap_or_default();
+            let alike = |(number, given): (&u16, &u16)| number % 256 == given % 256;
+            numbers.len() == program.strata.len() && numbers.iter().zip(&program.strata).all(alike)
         }
         Fault::ZeroTaken => tested_for_marks(table).is_ok(),
         Fault::UnusedTested => tested(table).is_ok() && !unused_literals(table),

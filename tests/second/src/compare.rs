@@ -1,17 +1,19 @@
 //! The comparison of an engine with the second engine over generated inputs.
 
+use std::collections::{BTreeMap, BTreeSet};
 use std::path::Path;
 
 use crate::days::{compare_day, compare_response, entry, fitting, respond, Entry, Seen};
 use crate::engine::{Engine, Second, Way};
 use crate::gen::{any_file, File, Rng};
 use crate::gen_editors::Day;
+use crate::gen_large::large_file;
 use crate::gen_marks;
 use crate::gen_tables::{circled_table, damaged};
 use crate::lent::{lend, same, Difference};
 use crate::print::{print_of, put};
 use crate::raw::PRINT_BYTES;
-use crate::read::read_rules;
+use crate::read::{read_rules, LIBRARY};
 use crate::table::{table_of, Table};
 use crate::text::pieces;
 use crate::Refusal;
@@ -52,16 +54,17 @@ fn compare_print(other: &mut dyn Engine, text: &[u8], refused: Option<Refusal>) 
 
 /// Compares the strata of the file's rules, those of a file refused with 18 too.
 fn compare_strata(other: &mut dyn Engine, text: &[u8]) -> Result<(), Difference> {
-    if let Ok((lines, rules)) = read_rules(text) {
+    if let Ok((lines, rules)) = read_rules(LIBRARY, text) {
         let table = table_of(&lines, &rules, &vec![0; rules.len()]);
         same("strata", &Second.strata(&table), &other.strata(&table))?;
     }
     Ok(())
 }
 
-/// Compares the names shown of slots and values that a table has or lacks.
+/// Compares the names shown of slots and values that a table has or lacks, of each those about the ends.
 fn compare_names(other: &mut dyn Engine, text: &[u8], table: &Table) -> Result<(), Difference> {
-    let slots = (0..table.width.min(34) as u8 + 2).chain([255]);
+    let width = table.width.min(34) as u8;
+    let slots = BTreeSet::from([0, 1, width / 2, width.saturating_sub(1), width, width + 1, 255]);
     for slot in slots {
         let ours = Second.slot_name(text, table, slot);
         same("a slot's name", &ours, &other.slot_name(text, table, slot))?;
@@ -77,7 +80,7 @@ fn compare_names(other: &mut dyn Engine, text: &[u8], table: &Table) -> Result<(
 /// A table for the test 31: the one that was read, changed; for a file refused with 18 often its rules with numbers that are no strata, changed or not.
 fn changed_table(rng: &mut Rng, text: &[u8], refused: Option<Refusal>, table: &Table) -> Box<Table> {
     let circled = refused.map_or(false, |why| why.number == 18) && rng.chance(1, 2);
-    match circled.then(|| read_rules(text)) {
+    match circled.then(|| read_rules(LIBRARY, text)) {
         Some(Ok((lines, rules))) => {
             let circled = circled_table(rng, &lines, &rules);
             if rng.chance(1, 2) {
@@ -90,10 +93,30 @@ fn changed_table(rng: &mut Rng, text: &[u8], refused: Option<Refusal>, table: &T
     }
 }
 
+/// What inputs are made from: a number, for files of any kind or for a large one.
+#[derive(Clone, Copy, Debug)]
+pub enum Seed {
+    Any(u64),
+    Large(u64),
+}
+
+impl Seed {
+    /// The file of the seed, and the generator after it.
+    fn file(self) -> (Rng, File) {
+        let (Seed::Any(number) | Seed::Large(number)) = self;
+        let mut rng = Rng::new(number);
+        let file = match self {
+            Seed::Any(_) => any_file(&mut rng),
+            Seed::Large(_) => large_file(&mut rng, number),
+        };
+        (rng, file)
+    }
+}
+
 /// An input that showed a difference: the way of the response asked or read for, the rule text and the entry, if one was reached.
 #[derive(Clone, Debug)]
 pub struct Failing {
-    pub seed: u64,
+    pub seed: Seed,
     pub way: Way,
     pub text: Vec<u8>,
     pub entry: Option<Entry>,
@@ -139,29 +162,42 @@ fn compare_by_marks(other: &mut dyn Engine, file: &File, layered: &Table, rng: &
     compare_day(other, &[(Way::Marks, &changed)], &sketch, rng).map_err(on_changed)
 }
 
-/// Compares an engine with the second on the inputs of a seed: a file of any kind by both ways, and one made for the response by marks.
-pub fn compare_seed(other: &mut dyn Engine, seed: u64) -> Result<(), Box<Failing>> {
-    let mut rng = Rng::new(seed);
-    let failing = |way: Way, file: &File, seen: Box<Seen>| {
-        let Seen { entry, difference } = *seen;
-        Box::new(Failing { seed, way, text: file.text.clone(), entry, difference })
-    };
-    let file = any_file(&mut rng);
-    let compared = compare_by_strata(other, &file, &mut rng);
-    let table = compared.map_err(|seen| failing(Way::Strata, &file, seen))?;
-    let compared = compare_by_marks(other, &file, &table, &mut rng);
-    compared.map_err(|seen| failing(Way::Marks, &file, seen))?;
-    let woven = gen_marks::file(&mut rng);
-    let read = compare_read(other, Way::Strata, &woven.text).map_err(no_entry);
-    let (_, table) = read.map_err(|seen| failing(Way::Strata, &woven, seen))?;
-    compare_by_marks(other, &woven, &table, &mut rng).map_err(|seen| failing(Way::Marks, &woven, seen))
+/// A failing input by its seed and file, and what was seen with it.
+fn failing(seed: Seed, way: Way, file: &File, seen: Box<Seen>) -> Box<Failing> {
+    let Seen { entry, difference } = *seen;
+    Box::new(Failing { seed, way, text: file.text.clone(), entry, difference })
 }
 
-/// Compares over seeds from a first on: the first failing input and the number of seeds tried.
-pub fn compare_seeds(other: &mut dyn Engine, first: u64, rounds: u64) -> (Option<Box<Failing>>, u64) {
-    for seed in first..first + rounds {
-        if let Err(failing) = compare_seed(other, seed) {
-            return (Some(failing), seed - first + 1);
+/// Compares an engine with the second on a file by both ways.
+fn compare_file(other: &mut dyn Engine, seed: Seed, file: &File, rng: &mut Rng) -> Result<(), Box<Failing>> {
+    let compared = compare_by_strata(other, file, rng);
+    let table = compared.map_err(|seen| failing(seed, Way::Strata, file, seen))?;
+    compare_by_marks(other, file, &table, rng).map_err(|seen| failing(seed, Way::Marks, file, seen))
+}
+
+/// Compares an engine with the second on the inputs of a seed: a file of any kind by both ways, and one made for the response by marks; or a large file by both ways.
+fn compare_seed(other: &mut dyn Engine, seed: Seed) -> Result<(), Box<Failing>> {
+    let (mut rng, file) = seed.file();
+    compare_file(other, seed, &file, &mut rng)?;
+    if let Seed::Large(_) = seed {
+        return Ok(());
+    }
+    let woven = gen_marks::file(&mut rng);
+    let read = compare_read(other, Way::Strata, &woven.text).map_err(no_entry);
+    let (_, table) = read.map_err(|seen| failing(seed, Way::Strata, &woven, seen))?;
+    compare_by_marks(other, &woven, &table, &mut rng).map_err(|seen| failing(seed, Way::Marks, &woven, seen))
+}
+
+/// Compares over so many seeds of a kind from a first on: the first failing input and the number of seeds tried.
+pub fn compare_seeds(
+    other: &mut dyn Engine,
+    kind: fn(u64) -> Seed,
+    first: u64,
+    rounds: u64,
+) -> (Option<Box<Failing>>, u64) {
+    for number in first..first + rounds {
+        if let Err(failing) = compare_seed(other, kind(number)) {
+            return (Some(failing), number - first + 1);
         }
     }
     (None, rounds)
@@ -213,16 +249,15 @@ pub fn store(folder: &Path, failing: &Failing) -> std::io::Result<()> {
     let Difference { place, second, other } = &failing.difference;
     let call = entry.map_or(String::new(), call);
     let Failing { seed, way, .. } = failing;
-    let seen = format!("seed {seed} by {way:?}\n{place}\n{call}second engine: {second}\nother engine: {other}\n");
+    let seen = format!("seed {seed:?} by {way:?}\n{place}\n{call}second engine: {second}\nother engine: {other}\n");
     std::fs::write(folder.join("seen.txt"), seen)
 }
 
-/// How many of a run of seeds give which refusal by a way, to see that all are met: the refusal's number, 0 for none.
-pub fn refusals_met(way: Way, first: u64, rounds: u64) -> std::collections::BTreeMap<u8, usize> {
-    let mut met = std::collections::BTreeMap::new();
-    for seed in first..first + rounds {
-        let mut rng = Rng::new(seed);
-        let file = any_file(&mut rng);
+/// How many of some seeds give which refusal by a way, to see that all are met: the refusal's number, 0 for none.
+pub fn refusals_met(way: Way, seeds: impl Iterator<Item = Seed>) -> BTreeMap<u8, usize> {
+    let mut met = BTreeMap::new();
+    for seed in seeds {
+        let (mut rng, file) = seed.file();
         let (refused, table) = Second.read_for(way, &file.text);
         *met.entry(refused.map_or(0, |why| why.number)).or_default() += 1;
         if way == Way::Strata {

@@ -6,13 +6,16 @@ use crate::gen::{self, File, Rng};
 use crate::gen_editors::Day;
 use crate::gen_text::Sketch;
 use crate::lent::{lend, same, Difference, MARGIN};
+use crate::raw::{CARD_BYTES, FIRED_BYTES, SLIP_BYTES};
+use crate::read::PROGRAM;
 use crate::response::{needed, Outputs};
 use crate::table::Table;
 use crate::table31::unlayered;
 use crate::Refusal;
 
-/// The calls of a day.
+/// The calls of a day, and of one on a table of more rules than the program takes.
 const CALLS: usize = 4;
+const CALLS_ON_MANY: usize = 2;
 
 /// The entry of a response: the records and the editor who calls, card, slip and output lengths.
 #[derive(Clone, Debug)]
@@ -95,7 +98,7 @@ fn compare_cards(
 
 /// The lengths that a response on any table needs, as far as its counts say.
 fn needed_by(table: &Table) -> [usize; 3] {
-    unlayered(table).map_or([17, 37, 32], |program| needed(&program))
+    unlayered(table).map_or([CARD_BYTES, SLIP_BYTES, FIRED_BYTES], |program| needed(&program))
 }
 
 /// The sketch that cards and slips are made for: the file's, but for most refused files the empty one.
@@ -134,7 +137,8 @@ pub fn compare_day(
 ) -> Result<(), Box<Seen>> {
     let mut day = Day::new(rng);
     let mut calls = Vec::new();
-    for desk in desks.iter().cycle().take(CALLS) {
+    let many = desks.iter().any(|(_, table)| usize::from(table.count) > PROGRAM.rules);
+    for desk in desks.iter().cycle().take(if many { CALLS_ON_MANY } else { CALLS }) {
         let (way, table) = *desk;
         let entry = entry(rng, sketch, table, &day);
         let cards = compare_cards(other, table, &entry, sketch, rng);

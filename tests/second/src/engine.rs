@@ -25,7 +25,7 @@ pub trait Engine {
     fn print(&mut self, text: &[u8], output: &mut [u8]) -> Result<usize, Refusal>;
 
     /// The least strata of a table's rules, the table's own strata not looked at: 31 or 18 where there are none.
-    fn strata(&mut self, table: &Table) -> Result<Vec<u8>, Refusal>;
+    fn strata(&mut self, table: &Table) -> Result<Vec<u16>, Refusal>;
 
     /// Where a slot's name stands in the text, or 31.
     fn slot_name(&mut self, text: &[u8], table: &Table, slot: u8) -> Result<Name, Refusal>;
@@ -92,7 +92,7 @@ impl Engine for Second {
         print::put(&print::printed(text)?, output)
     }
 
-    fn strata(&mut self, table: &Table) -> Result<Vec<u8>, Refusal> {
+    fn strata(&mut self, table: &Table) -> Result<Vec<u16>, Refusal> {
         strata::strata(&unlayered(table)?.rules).map_err(|rule| refusal(18, rule))
     }
 

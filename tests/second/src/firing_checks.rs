@@ -9,6 +9,7 @@ use crate::gen::{card_values, plain_file, slip_changes, Rng};
 use crate::gen_rules::{sketch, Ranks, Shape};
 use crate::kinds::{response_kinds, text_kinds, Kind};
 use crate::orders::{complete_orders, complete_sets, consistent_ends, end, End, Moment};
+use crate::raw::{CARD_BYTES, FIRED_BYTES, SLIP_BYTES};
 use crate::response::{Changes, Outputs};
 use crate::strata::strata;
 use crate::table::Table;
@@ -27,7 +28,7 @@ pub struct Given {
 
 /// The response of an engine by a way to a caller, with long outputs.
 pub fn given_to(engine: &mut dyn Engine, way: Way, table: &Table, caller: Caller, card: &[u8], slip: &[u8]) -> Given {
-    let (mut new, mut changes, mut fired) = (vec![0; 17], vec![0; 37], vec![0; 32]);
+    let (mut new, mut changes, mut fired) = (vec![0; CARD_BYTES], vec![0; SLIP_BYTES], vec![0; FIRED_BYTES]);
     let outputs = Outputs { card: &mut new, changes: &mut changes, fired: &mut fired };
     let result = engine.respond(way, table, caller, card, slip, outputs);
     changes.truncate(result.unwrap_or(0));

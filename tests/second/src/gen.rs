@@ -1,11 +1,11 @@
 //! Generated inputs: rule files, cards, slips and output lengths, good and damaged.
 
 use crate::cards::{card_bytes, card_length, slip_bytes, slip_length};
-use crate::gen_print::long_print;
+use crate::gen_large::large_file;
 use crate::gen_rules::{chain, sketch, Ranks, SHAPES};
 use crate::gen_text::{crowd, damage_bytes, damage_condition, damage_near, damage_none, damage_tokens, double};
 use crate::gen_text::{join, sketch_tokens, Sketch};
-use crate::read::TEXT;
+use crate::read::PROGRAM;
 use crate::table::{Pair, NONE};
 
 /// A seeded xorshift generator.
@@ -65,9 +65,9 @@ pub fn plain_file(rng: &mut Rng, sketch: Sketch) -> File {
     File { text: join(rng, &tokens, loose), sketch }
 }
 
-/// Fills a text with white space up to a length about the limit.
+/// Fills a text with white space up to a length about the limit of the program.
 fn fill(rng: &mut Rng, text: &mut Vec<u8>) {
-    let length = TEXT - 1 + rng.below(3);
+    let length = PROGRAM.bytes - 1 + rng.below(3);
     text.resize(length.max(text.len()), b' ');
 }
 
@@ -100,11 +100,8 @@ fn damage_file(rng: &mut Rng, tokens: &mut Vec<String>, way: usize) {
     }
 }
 
-/// A file of any shape: most of them undamaged, others crowded, doubled, damaged or filled up, a few with a long print.
+/// A file of any shape: most of them undamaged, others crowded, doubled, damaged or filled up to the limits of the program.
 pub fn any_file(rng: &mut Rng) -> File {
-    if rng.chance(1, 150) {
-        return long_print(rng);
-    }
     let mut sketch = any_sketch(rng);
     let way = rng.below(16);
     if way == 0 || way == 1 && rng.chance(1, 3) {
@@ -127,6 +124,17 @@ pub fn any_file(rng: &mut Rng) -> File {
         text.retain(|byte| matches!(byte, 9 | 10 | 13 | 32));
     }
     File { text, sketch }
+}
+
+/// How many inputs of the program there are for one large file.
+const TO_A_LARGE_FILE: u64 = 100;
+
+/// A file for the program: of any shape, now and then a large one.
+pub fn program_file(rng: &mut Rng, seed: u64) -> File {
+    match seed % TO_A_LARGE_FILE {
+        0 => large_file(rng, seed / TO_A_LARGE_FILE),
+        _ => any_file(rng),
+    }
 }
 
 /// A card near the likely one, or with anything in it.
@@ -238,16 +246,20 @@ pub fn damage_changes(rng: &mut Rng, changes: &mut Vec<Pair>) {
     }
 }
 
-/// Output lengths about those that are needed: mostly enough, sometimes one or more too short.
+/// Output lengths about those that are needed: mostly enough, sometimes one or more too short, or the last alone by one byte.
 pub fn rooms(rng: &mut Rng, needed: [usize; 3]) -> [usize; 3] {
     let enough = rng.chance(3, 4);
-    needed.map(|length| {
+    let mut rooms = needed.map(|length| {
         if enough || rng.chance(1, 2) {
             length + *rng.pick(&[0, 0, 1, 5])
         } else {
             *rng.pick(&[0, length.saturating_sub(1), length / 2, 2])
         }
-    })
+    });
+    if enough && rng.chance(1, 12) {
+        rooms[2] = needed[2].saturating_sub(1);
+    }
+    rooms
 }
 
 /// An unpacked card for packing: fitting, or with a wrong count or value.

@@ -5,7 +5,7 @@ use std::collections::HashSet;
 use crate::gen::{plain_file, File, Rng};
 use crate::gen_rules::{chain, pairs_of, sketch, Ranks, Shape};
 use crate::gen_text::{names, Sketch};
-use crate::table::{Literal, Pair, Rule, LITERALS, RULES, VALUES};
+use crate::table::{Literal, Pair, Rule, LITERALS, VALUES};
 
 /// What rules are made from: the pairs that start them, the pairs that they bring, and the likely card.
 struct Ground {
@@ -152,7 +152,6 @@ impl Ground {
             }
         }
         rng.shuffle(&mut rules);
-        rules.truncate(RULES);
         rules
     }
 }
@@ -186,7 +185,7 @@ pub fn small(rng: &mut Rng) -> Sketch {
     sketch(rng, &shape)
 }
 
-/// A sketch whose rules share a trigger and are one chain, up to the limit of rules, of which no slip need bring the first pair: pairs are ruled out one after another, or under NOT brought and ruled out in turn. In this order, in the other, or in any. Of each slot the pairs begin with a value or with NONE; the slots then have their last value, which no pair of the chain has.
+/// A sketch whose rules share a trigger and are one chain, of which no slip need bring the first pair: pairs are ruled out one after another, or under NOT brought and ruled out in turn. In this order, in the other, or in any. Of each slot the pairs begin with a value or with NONE; the slots then have their last value, which no pair of the chain has.
 fn fading(rng: &mut Rng) -> Sketch {
     let slots = 2 + rng.below(17);
     let trigger = (slots as u8 - 1, 1);
@@ -198,7 +197,7 @@ fn fading(rng: &mut Rng) -> Sketch {
         literals: vec![changes_to(rng.chance(nots, 8), pair(link))],
         assignments: vec![pair(link + 1)],
     };
-    let mut rules: Vec<Rule> = (0..RULES.min((slots - 1) * VALUES - 1)).map(link).collect();
+    let mut rules: Vec<Rule> = (0..(slots - 1) * VALUES - 1).map(link).collect();
     match rng.below(3) {
         0 => rules.reverse(),
         1 => rng.shuffle(&mut rules),

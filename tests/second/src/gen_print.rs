@@ -1,10 +1,9 @@
-//! Generated rule files whose print comes up to its limit or passes it, from texts that do not.
+//! Generated rule files with a print of a length, from texts that are shorter.
 
 use crate::gen::{File, Rng};
 use crate::gen_rules::{sketch, Ranks, Shape};
 use crate::gen_text::{join, sketch_tokens, Sketch};
 use crate::print::styled;
-use crate::raw::PRINT_BYTES;
 use crate::table::{Literal, Rule, LITERALS, RULES, SLOTS, VALUES};
 
 /// The shape that the slots and rules are taken from.
@@ -46,14 +45,14 @@ fn length(rng: &mut Rng, sketch: &Sketch, rule: Option<&Rule>) -> usize {
     styled(&join(rng, &tokens, 0)).len()
 }
 
-/// A file with a print about the limit, its text without white space that need not be.
-pub fn long_print(rng: &mut Rng) -> File {
+/// A file with a print of so many bytes, its text without white space that need not be.
+pub fn long_print(rng: &mut Rng, bytes: usize) -> File {
     let mut sketch = sketch(rng, &SHAPE);
     lengthen(&mut sketch);
     let rules: Vec<Rule> = std::mem::take(&mut sketch.rules).iter().map(crowded).collect();
     let lines = length(rng, &sketch, None);
     let lengths: Vec<usize> = rules.iter().map(|rule| length(rng, &sketch, Some(rule)) - lines).collect();
-    let mut left = PRINT_BYTES - 1 + *rng.pick(&[0, 1, 1, 2, 2, 300]) - lines;
+    let mut left = bytes - lines;
     for (rule, length) in rules.iter().zip(&lengths).cycle().take(RULES) {
         if left < length + LEAST {
             break;

@@ -4,7 +4,8 @@ use std::collections::HashSet;
 
 use crate::gen::Rng;
 use crate::gen_text::{names, Sketch};
-use crate::table::{Literal, Pair, Rule, NONE, RULES, SLOTS, VALUES};
+use crate::read::PROGRAM;
+use crate::table::{Literal, Pair, Rule, NONE, SLOTS, VALUES};
 
 /// What the ranks of pairs hold the rules of a file to.
 #[derive(Clone, Copy, PartialEq, Eq, Debug)]
@@ -30,13 +31,13 @@ pub struct Shape {
     pub ranks: Ranks,
 }
 
-/// Shapes from the smallest to the limits.
+/// Shapes from the smallest to the limits, of the rules that of the program.
 pub const SHAPES: [Shape; 5] = [
     Shape { slots: 2, values: 2, rules: 3, literals: 2, assignments: 2, ranks: Ranks::Free },
     Shape { slots: 4, values: 2, rules: 6, literals: 2, assignments: 2, ranks: Ranks::Level },
     Shape { slots: 6, values: 3, rules: 12, literals: 4, assignments: 3, ranks: Ranks::Level },
     Shape { slots: 12, values: 6, rules: 40, literals: 8, assignments: 4, ranks: Ranks::Level },
-    Shape { slots: 32, values: 15, rules: 255, literals: 8, assignments: 4, ranks: Ranks::Level },
+    Shape { slots: 32, values: 15, rules: PROGRAM.rules, literals: 8, assignments: 4, ranks: Ranks::Level },
 ];
 
 /// The pairs of slots and values that rules are made of, by slot and value: of so many slots in four also the pair with NONE.
@@ -297,6 +298,9 @@ fn assignments(rng: &mut Rng, assignable: &[Pair], most: usize) -> Vec<Pair> {
     found
 }
 
+/// The most rules of one chain: its pairs go round the slots and leave each of them a value.
+pub const CHAIN: usize = SLOTS * (VALUES - 1) - 1;
+
 /// A sketch of a shape.
 pub fn sketch(rng: &mut Rng, shape: &Shape) -> Sketch {
     let count = |rng: &mut Rng, most: usize| if rng.chance(1, 4) { most } else { 1 + rng.below(most) };
@@ -320,18 +324,23 @@ pub fn sketch(rng: &mut Rng, shape: &Shape) -> Sketch {
     Sketch { names, rules, likely: ground.likely }
 }
 
-/// A sketch whose rules are one chain, up to the limit of rules: each waits for what the one before assigns, plainly, under NOT with one trigger for all, or the one or the other; in this order, in the other, or in any; the chain now and then closed to a circle. Its pairs begin with a value or with NONE, of slots that then have a value which no pair of the chain has.
+/// A sketch whose rules are one chain, up to the program's limit of rules, plain, under NOT, or the one or the other; now and then closed to a circle.
 pub fn chain(rng: &mut Rng) -> Sketch {
-    let count = *rng.pick(&[8, SLOTS - 2, SLOTS - 2, SLOTS - 2, 120, RULES]);
+    let count = *rng.pick(&[8, SLOTS - 2, SLOTS - 2, SLOTS - 2, 120, PROGRAM.rules]);
+    let nots = *rng.pick(&[0, 1, 2, 2]);
+    let closed = rng.chance(1, 6);
+    chain_of(rng, count, nots, closed)
+}
+
+/// A sketch whose rules are one chain of so many, at most `CHAIN`, closed to a circle or not: each waits for what the one before assigns, plainly or, so many times in two, under NOT with one trigger for all; in this order, in the other, or in any. Its pairs begin with a value or with NONE, of slots that then have a value which no pair of the chain has.
+pub fn chain_of(rng: &mut Rng, count: usize, nots: usize, closed: bool) -> Sketch {
     let first = rng.below(2);
     let pair = |at: usize| ((at % SLOTS) as u8, (at / SLOTS + first) as u8);
     let values = count / SLOTS + 2;
     let trigger = (SLOTS as u8 - 1, values as u8);
-    let negated = *rng.pick(&[0, 1, 2, 2]);
-    let closed = rng.chance(1, 6);
     let mut rules: Vec<Rule> = Vec::new();
     for at in 0..count {
-        let under_not = rng.chance(negated, 2);
+        let under_not = rng.chance(nots, 2);
         let test = Literal { becomes: true, negated: under_not, pair: pair(at) };
         rules.push(Rule {
             trigger: if under_not { trigger } else { pair(at) },

@@ -8,7 +8,7 @@ use crate::table::{ASSIGNMENTS, LITERALS, RULES, SLOTS, VALUES};
 
 /// A count about a limit or about what it was.
 fn any_count(rng: &mut Rng, count: usize, limit: usize) -> usize {
-    *rng.pick(&[0, count.saturating_sub(1), count + 1, limit, limit + 1, 1_000])
+    *rng.pick(&[0, count.saturating_sub(1), count + 1, limit, limit + 1, 1_000, 65_535])
 }
 
 /// A small number or any byte.
@@ -23,10 +23,10 @@ fn any_literal(rng: &mut Rng) -> LiteralPlace {
 
 /// A name about the end of a text, or anywhere.
 pub fn any_name(rng: &mut Rng, length: usize) -> Name {
-    let length = u16::try_from(length).unwrap_or(u16::MAX);
-    let start = *rng.pick(&[0, length / 2, length, length.saturating_add(1), u16::MAX]);
+    let length = u32::try_from(length).expect("a text of few bytes");
+    let start = *rng.pick(&[0, length / 2, length, length + 1, length / 2 + 65_536, u32::MAX]);
     let rest = length.saturating_sub(start);
-    Name { start, size: *rng.pick(&[0, rest, rest.saturating_add(1), 3, u16::MAX]) }
+    Name { start, size: *rng.pick(&[0, rest, rest + 1, 3, 65_536, u32::MAX]) }
 }
 
 /// Changes a slot's place.
@@ -54,36 +54,43 @@ fn damage_rule(rng: &mut Rng, rule: &mut RulePlace) {
         7 => rule.assignments[assignment] = AssignmentPlace { slot: any_byte(rng), value: any_byte(rng) },
         8 => rule.assignments[assignment].slot = rule.assignments[0].slot,
         9 => rule.literals[LITERALS.min(rule.tested as usize)..].fill(any_literal(rng)),
-        10 => rule.stratum = any_byte(rng),
-        _ => rule.stratum = rule.stratum.wrapping_add(*rng.pick(&[1, 255])),
+        10 => rule.stratum = *rng.pick(&[0, 1, 2, 3, 255, 256, 257, u16::MAX]),
+        _ => rule.stratum = rule.stratum.wrapping_add(*rng.pick(&[1, 256, u16::MAX])),
     }
 }
 
-/// Changes the strata of a table: all one higher, all 1, all 0, a rule and what must follow it higher, all of one stratum lower, or the least that fall at plain tests too.
+/// Changes the strata of a table: all one or 256 higher, all 1, all 0, a rule and what must follow it higher, all of one stratum lower, or the least that fall at plain tests too.
 fn damage_strata(rng: &mut Rng, table: &mut Table) {
     let program = program_in(table);
     let waits = waits(&program.rules);
     let numbers: Vec<usize> = program.strata.iter().map(|number| usize::from(*number)).collect();
     let at = rng.below(numbers.len().max(1));
     let changed = match rng.below(7) {
-        0 => numbers.iter().map(|number| (number + 1).min(255)).collect(),
+        0 => {
+            let more = *rng.pick(&[1, 1, 256]);
+            numbers.iter().map(|number| number + more).collect()
+        }
         1 => vec![1; numbers.len()],
         2 => vec![0; numbers.len()],
-        3 => raised(&falling(&waits), vec![1; numbers.len()], numbers.len()).unwrap_or(numbers),
+        3 => raised(&falling(&waits), vec![1; numbers.len()]).unwrap_or(numbers),
         4 => numbers.iter().map(|number| number - usize::from(*number == numbers[at] && *number > 0)).collect(),
         _ => {
             let mut lifted = numbers.clone();
             lifted.iter_mut().skip(at).take(1).for_each(|number| *number += 1 + rng.below(2));
-            raised(&waits, lifted, 255).unwrap_or(numbers)
+            raised(&waits, lifted).unwrap_or(numbers)
         }
     };
-    table.rules.iter_mut().zip(changed).for_each(|(rule, number)| rule.stratum = number as u8);
+    table.rules.iter_mut().zip(changed).for_each(|(rule, number)| rule.stratum = number as u16);
 }
 
-/// A table changed at one place or in its strata; a text of a length is what its names stand in.
+/// A table changed at one place or in its strata, a full one often in its count; a text of a length is what its names stand in.
 pub fn damaged(rng: &mut Rng, table: &Table, length: usize) -> Box<Table> {
     let mut changed = Box::new(*table);
     let rule = rng.below(RULES.min(table.count as usize + 1));
+    if usize::from(table.count) == RULES && rng.chance(2, 3) {
+        changed.count = *rng.pick(&[RULES as u16 + 1, u16::MAX]);
+        return changed;
+    }
     match rng.below(12) {
         0 => changed.width = any_count(rng, table.width as usize, SLOTS) as u16,
         1 => changed.count = any_count(rng, table.count.into(), RULES) as u16,
@@ -99,7 +106,7 @@ pub fn circled_table(rng: &mut Rng, lines: &[SlotLine], rules: &[Rule]) -> Box<T
     let waits = waits(rules);
     let mut numbers = vec![rng.below(2); rules.len()];
     for _ in 0..rng.below(4) {
-        (0..rules.len()).for_each(|at| numbers[at] = asked(&waits[at], &numbers).min(255));
+        (0..rules.len()).for_each(|at| numbers[at] = asked(&waits[at], &numbers));
     }
-    table_of(lines, rules, &numbers.iter().map(|number| *number as u8).collect::<Vec<u8>>())
+    table_of(lines, rules, &numbers.iter().map(|number| *number as u16).collect::<Vec<u16>>())
 }

@@ -1,7 +1,7 @@
 //! Generated rule texts: the tokens of sketches within the limits and beyond them, and what damages them.
 
 use crate::gen::Rng;
-use crate::read::{refusals, walk, GRAMMAR};
+use crate::read::{refusals, walk, GRAMMAR, LIBRARY, PROGRAM};
 use crate::table::{Literal, Pair, Rule, NONE};
 
 /// What a file is to say: names of slots and values, rules by their pairs, and a card that fits many of its conditions.
@@ -60,7 +60,7 @@ pub fn crowd(rng: &mut Rng, sketch: &mut Sketch) {
     fill_up(rng, sketch, extra);
 }
 
-/// Fills one place of a sketch up to its limit, and by so many more.
+/// Fills one place of a sketch up to its limit, of the rules that of the program, and by so many more, or by one rule more than that.
 pub fn fill_up(rng: &mut Rng, sketch: &mut Sketch, extra: usize) {
     let at = rng.below(sketch.rules.len().max(1));
     match rng.below(if sketch.rules.is_empty() { 2 } else { 5 }) {
@@ -81,7 +81,8 @@ pub fn fill_up(rng: &mut Rng, sketch: &mut Sketch, extra: usize) {
         }
         2 => {
             let rules = sketch.rules.clone();
-            sketch.rules = rules.into_iter().cycle().take(255 + extra).collect();
+            let more = extra * (1 + rng.below(2));
+            sketch.rules = rules.into_iter().cycle().take(PROGRAM.rules + more).collect();
         }
         3 => {
             let literals = &mut sketch.rules[at].literals;
@@ -235,7 +236,7 @@ pub fn damage_none(rng: &mut Rng, tokens: &mut [String]) {
 pub fn damage_near(rng: &mut Rng, tokens: &mut Vec<String>) {
     let text = tokens.join(" ").into_bytes();
     let walk = walk(&text, GRAMMAR);
-    let first = match refusals(&text, &walk).into_iter().min() {
+    let first = match refusals(&text, &walk, LIBRARY.rules).into_iter().min() {
         Some(first) => first,
         _ => {
             return;

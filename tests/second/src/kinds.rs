@@ -1,4 +1,4 @@
-//! The kinds of rules, responses and tables that strata and circles tell apart, of texts and responses with NONE, and of calls by their editors, for the tests to hold the generator to.
+//! The kinds of rules, responses and tables that strata and circles tell apart, of texts and responses with NONE, of those about the limits, and of calls by their editors, for the tests to hold the generator to.
 
 use std::collections::BTreeSet;
 
@@ -7,7 +7,7 @@ use crate::cards::{unpack_card, unpack_slip};
 use crate::fault::Fault;
 use crate::none_kinds::{none_kinds, withdrawal_kinds};
 use crate::other_strata::{on_any_circle, on_simple_circle};
-use crate::read::read_rules;
+use crate::read::{read_rules, LIBRARY};
 use crate::response::{enabled, fire, Changes, Firing};
 use crate::rule_set::RuleSet;
 use crate::strata::{least, on_circle, reached, waits, Waits};
@@ -159,6 +159,10 @@ kinds! {
         NoneUnbound,
         /// One number one too low, but not 0.
         OneTooLow,
+        /// Not the least, but alike in the last bytes.
+        LastBytesAlike,
+        /// A number 65,535.
+        GreatestNumber,
         /// A number 0.
         Zero,
         /// Rules with a circle through a NOT, no number 0.
@@ -219,6 +223,70 @@ kinds! {
         ZeroMixed,
         /// Other numbers.
         OtherNumbers,
+    }
+
+    /// The kinds of a text, its print or a response about the limits of the library.
+    LARGE_KINDS {
+        /// Accepted: more rules than the program takes.
+        MoreRules,
+        /// Accepted: 2,000 rules.
+        MostRules,
+        /// 15 at a 2,001st WHEN.
+        OneRuleMore,
+        /// 11 behind 2,000 rules.
+        BadAfterRules,
+        /// 12 behind 2,000 rules.
+        WrongAfterRules,
+        /// 11 to 17 behind more than 255 rules and fewer than 2,000.
+        LateRefusal,
+        /// Accepted: a stratum above 255.
+        HighStrata,
+        /// 18 names a rule above 255.
+        HighRuleNamed,
+        /// Accepted: a text over 65,535 bytes.
+        LongText,
+        /// Accepted: a text of 262,144 bytes.
+        LongestText,
+        /// 10 of a text of 262,145 bytes.
+        TextTooLong,
+        /// Accepted: a name starts behind byte 65,535.
+        FarName,
+        /// A print over 65,535 bytes.
+        LongPrint,
+        /// A print of 262,144 bytes.
+        LongestPrint,
+        /// 34 of a print that would have 262,145 bytes.
+        PrintTooLong,
+        /// An answer in which a rule above 255 fires.
+        HighRuleFires,
+        /// An answer in which rule 2,000 fires.
+        LastRuleFires,
+        /// An answer in which more than 255 rules fire.
+        ManyFire,
+        /// 30 of a fired record of 32 bytes or more.
+        ShortRecord,
+        /// 31 of a table that would be in order but for its count 2,001.
+        CountOneMore,
+        /// 31 of a table that would be in order but for its count 65,535.
+        CountGreatest,
+    }
+
+    /// The kinds of a text for the program, about its own limits.
+    PROGRAM_KINDS {
+        /// Accepted: 255 rules.
+        ProgramMostRules,
+        /// 15 of a text with 256 rules that the library accepts.
+        ProgramOneRuleMore,
+        /// 15 of a text with more rules that the library accepts.
+        ProgramManyRules,
+        /// Accepted: a text of 65,535 bytes.
+        ProgramLongestText,
+        /// 10 of a text of 65,536 bytes that the library accepts.
+        ProgramTooLong,
+        /// 10 of a longer text that the library accepts.
+        ProgramMuchTooLong,
+        /// 10 of a text with more than 255 rules that the library accepts.
+        ProgramBoth,
     }
 
     /// The kinds of a call by its editor and the lent records.
@@ -282,7 +350,7 @@ pub fn is_chained(waits: &[Waits]) -> bool {
 }
 
 /// The strata of rules if tests of NONE bound nothing, or the rule that 18 would name.
-pub fn without_none(rules: &[Rule]) -> Result<Vec<u8>, usize> {
+pub fn without_none(rules: &[Rule]) -> Result<Vec<u16>, usize> {
     broken_strata::strata(Fault::NoneFree, rules)
 }
 
@@ -318,7 +386,7 @@ pub fn rule_kinds(rules: &[Rule]) -> Vec<Kind> {
 
 /// The kinds of a text and of its rules; none where 10 to 17 refuse it.
 pub fn text_kinds(text: &[u8]) -> Vec<Kind> {
-    let rules = match read_rules(text) {
+    let rules = match read_rules(LIBRARY, text) {
         Ok((_, rules)) => rules,
         Err(_) => return Vec::new(),
     };

@@ -2,9 +2,9 @@
 
 use crate::cards::{card_length, slip_length, unpack_slip, CHANGES};
 use crate::editors::{fresh, is_editor, Caller, Tally};
-use crate::read::read;
+use crate::read::{read_within, PROGRAM};
 use crate::response::{respond, Outputs};
-use crate::table::{Name, Pair, Table, NONE, RULES};
+use crate::table::{Name, Pair, Table, NONE};
 use crate::table31::{slot_name, tested, value_name};
 use crate::{refusal, Refusal};
 
@@ -29,7 +29,7 @@ fn answered(table: &Table, editor: usize, card: &[u8], slip: &[u8]) -> Result<An
     let mut records = fresh();
     let mut new = vec![0; card_length(table.width as usize)];
     let mut changes = vec![0; slip_length(CHANGES)];
-    let mut fired = vec![0; (RULES + 7) / 8];
+    let mut fired = vec![0; (table.count as usize + 7) / 8];
     let outputs = Outputs { card: &mut new, changes: &mut changes, fired: &mut fired };
     let length = respond(table, Caller { records: &mut records, editor }, card, slip, outputs)?;
     changes.truncate(length);
@@ -59,8 +59,11 @@ fn change_lines(text: &[u8], table: &Table, changes: &[u8]) -> Result<String, Re
     unpack_slip(&tested(table)?, changes)?.into_iter().map(line).collect()
 }
 
-/// The lines of an answer, or the refusal; that of the editor comes before the reading's.
-fn lines(text: &[u8], card: &[u8], slip: &[u8], editor: &[u8]) -> Result<String, Refusal> {
+/// The lines of an answer by a way of reading, or the refusal; that of the editor comes before the reading's.
+fn lines(
+    read: impl Fn(&[u8]) -> Result<Box<Table>, Refusal>,
+    [text, card, slip, editor]: [&[u8]; 4],
+) -> Result<String, Refusal> {
     let editor = editor_number(editor)?;
     let table = read(text)?;
     let answered = answered(&table, editor, card, slip)?;
@@ -71,10 +74,15 @@ fn lines(text: &[u8], card: &[u8], slip: &[u8], editor: &[u8]) -> Result<String,
     Ok(format!("{rules}{changes}card {card}\ntally {editor} {good} {bad}\n"))
 }
 
-/// What the program prints for the contents of its four files.
-pub fn listing(text: &[u8], card: &[u8], slip: &[u8], editor: &[u8]) -> String {
-    match lines(text, card, slip, editor) {
+/// What a program prints for the contents of its four files, by its way of reading.
+pub fn listing_by(read: impl Fn(&[u8]) -> Result<Box<Table>, Refusal>, files: [&[u8]; 4]) -> String {
+    match lines(read, files) {
         Ok(lines) => lines,
         Err(why) => format!("refused {} {}\n", why.number, why.second),
     }
+}
+
+/// What the program prints for the contents of its four files.
+pub fn listing(text: &[u8], card: &[u8], slip: &[u8], editor: &[u8]) -> String {
+    listing_by(|text| read_within(PROGRAM, text), [text, card, slip, editor])
 }

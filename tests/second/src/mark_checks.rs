@@ -13,6 +13,7 @@ use crate::mark_kinds::mark_kinds;
 use crate::marks::{decided, Mark, Moment};
 use crate::orders::{complete_orders, complete_sets, consistent_ends};
 use crate::other_strata::falling;
+use crate::raw::{CARD_BYTES, FIRED_BYTES};
 use crate::response::{outcome, Changes};
 use crate::selections::{chance_selection, complete_selections, end};
 use crate::strata::{least, strata, waits};
@@ -107,11 +108,13 @@ fn wanted(asked: &Asked, moment: &Moment) -> Given {
     match answer {
         Ok(answer) => Given {
             refused: None,
-            card: padded(&answer.card, 17),
+            card: padded(&answer.card, CARD_BYTES),
             changes: answer.changes,
-            fired: padded(&answer.fired, 32),
+            fired: padded(&answer.fired, FIRED_BYTES),
         },
-        Err(why) => Given { refused: Some(why), card: vec![0; 17], changes: Vec::new(), fired: vec![0; 32] },
+        Err(why) => {
+            Given { refused: Some(why), card: vec![0; CARD_BYTES], changes: Vec::new(), fired: vec![0; FIRED_BYTES] }
+        }
     }
 }
 

@@ -81,7 +81,7 @@ pub fn mark_table_kinds(table: &Table) -> Vec<Kind> {
     };
     let least = least(&waits(&program.rules));
     let zeros = program.strata.iter().filter(|number| **number == 0).count();
-    let is_least = |(number, least): (&u8, &u8)| *number == 0 || number == least;
+    let is_least = |(number, least): (&u16, &u16)| *number == 0 || number == least;
     let fits = least.as_ref().map_or(false, |least| program.strata.iter().zip(least).all(is_least));
     let rules = program.rules.len();
     holding(&[

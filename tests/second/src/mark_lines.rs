@@ -4,7 +4,7 @@ use crate::cards::card_length;
 use crate::editors::{fresh, Caller, Tally};
 use crate::engine::{Engine, Way};
 use crate::firing_checks::given_to;
-use crate::print_lines::{number, stretch};
+use crate::print_lines::{number, text};
 use crate::table::Table;
 use crate::Refusal;
 
@@ -83,10 +83,10 @@ pub fn output(engine: &mut dyn Engine, mut input: &[u8]) -> Vec<u8> {
         if input.is_empty() {
             break;
         }
-        let text = stretch(&mut input);
+        let text = text(&mut input);
         let editor = number(&mut input, 1);
         let called = Called { editor, card: short_stretch(&mut input), slip: short_stretch(&mut input) };
-        written += &format!("case {case}\n{}", lines(engine, text, &called));
+        written += &format!("case {case}\n{}", lines(engine, &text, &called));
     }
     written.into_bytes()
 }

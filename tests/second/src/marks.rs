@@ -170,7 +170,7 @@ impl Moment {
 
     /// Whether a rule may be fired: nothing clashed, and the rule is unfired and true.
     pub fn may_fire(&self, rules: &[Rule], card: &[u8], at: usize) -> bool {
-        !self.clash && !self.fired.contains(&at) && is_true(card, &self.marks, &rules[at])
+        !self.clash && is_true(card, &self.marks, &rules[at]) && !self.fired.contains(&at)
     }
 
     /// Fires a rule.

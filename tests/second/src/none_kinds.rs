@@ -6,7 +6,7 @@ use crate::broken_firing;
 use crate::fault::Fault;
 use crate::kinds::{holding, Kind};
 use crate::marks::{Mark, Moment};
-use crate::read::{read_rules, refusals, walk, Walk, Want, GRAMMAR};
+use crate::read::{read_rules, refusals, walk, Walk, Want, GRAMMAR, LIBRARY};
 use crate::response::{conflict, Changes, Firing};
 use crate::table::{Literal, Pair, Program, Rule, NONE};
 use crate::text::{tokens, Kind as TokenKind};
@@ -44,8 +44,8 @@ fn wanted(walk: &Walk) -> Want {
 /// The kind of a text that is 12 at NONE.
 pub fn refused_kind(text: &[u8]) -> Option<Kind> {
     let walk = walk(text, GRAMMAR);
-    let is_12 = read_rules(text).map_or_else(|why| why.number == 12, |_| false);
-    let first = refusals(text, &walk).into_iter().min();
+    let is_12 = read_rules(LIBRARY, text).map_or_else(|why| why.number == 12, |_| false);
+    let first = refusals(text, &walk, LIBRARY.rules).into_iter().min();
     let is_none = first.map_or(false, |at| walk.tokens[at.position].kind == TokenKind::None);
     (is_12 && is_none).then(|| match wanted(&walk) {
         Want::SlotName => Kind::NoneAsSlot,

@@ -21,17 +21,20 @@ pub fn stretch<'a>(input: &mut &'a [u8]) -> &'a [u8] {
     front
 }
 
-/// The text of a case: its front, and so many times a piece.
-fn text(input: &mut &[u8]) -> Vec<u8> {
-    let front = stretch(input).to_vec();
-    let times = number(input, 1);
-    [front, stretch(input).repeat(times)].concat()
+/// A text from the front of an input: the number of its parts, and each after how many times it stands.
+pub fn text(input: &mut &[u8]) -> Vec<u8> {
+    let parts = number(input, 1);
+    let part = |_| {
+        let times = number(input, 2);
+        stretch(input).repeat(times)
+    };
+    (0..parts).flat_map(part).collect()
 }
 
-/// The lines of a print, equal neighbours once, each after how many they are.
-fn counted(print: &[u8]) -> Vec<u8> {
+/// The lines of a print or of rules, equal neighbours once, each after how many they are.
+pub fn counted(all: &[u8]) -> Vec<u8> {
     let mut lines: Vec<(usize, &[u8])> = Vec::new();
-    for line in print.split_inclusive(|byte| *byte == b'\n') {
+    for line in all.split_inclusive(|byte| *byte == b'\n') {
         match lines.last_mut() {
             Some((count, last)) if *last == line => *count += 1,
             _ => lines.push((1, line)),

@@ -82,6 +82,26 @@ fn limits() -> Vec<Asked> {
     pairs.into_iter().chain([rules(&["("], &ZEROS, &X_TO_1), asked("", &[0], &[0])]).collect()
 }
 
+/// What the library takes and the program does not: more rules, with a fault behind them or a circle, at the end of the longest text and in one byte more; and what may follow 255 rules.
+fn beyond() -> Vec<Asked> {
+    let after = |end: &str| rules(&[vec![A; 255], vec![end]].concat(), &ZEROS, &X_TO_1);
+    let filled = |count: usize, size: usize| {
+        let text = format!("{SLOTS} {}", vec![A; count].join(" "));
+        asked(&format!("{text}{}", " ".repeat(size - text.len())), &ZEROS, &X_TO_1)
+    };
+    let circle = "WHEN x *= 1 IF NOT z *= 1 THEN z := 1;";
+    let behind = [" \n", "WHEN", "WHEN (", "SLOT w {0};", "x", ";", "("].map(after);
+    let more = [
+        rules(&vec![A; 257], &ZEROS, &X_TO_1),
+        rules(&[vec![A; 256], vec!["("]].concat(), &ZEROS, &X_TO_1),
+        rules(&[vec![A; 254], vec![circle]].concat(), &ZEROS, &X_TO_1),
+        rules(&[vec![A; 255], vec![circle]].concat(), &ZEROS, &X_TO_1),
+        filled(1_800, 65_535),
+        filled(1_800, 65_536),
+    ];
+    behind.into_iter().chain(more).collect()
+}
+
 /// Every refusal of a card and of a slip, and the longest that their counts allow.
 fn entries() -> Vec<Asked> {
     let cards: [&[u8]; 6] = [&[], &[0x0C, 0x44], &[0x08, 0x44], &[0xFC], &[0x0C, 0x44, 0x40, 0], &[0x0C, 0xC4, 0x41]];
@@ -240,7 +260,7 @@ fn withdrawn() -> Vec<Asked> {
     ]
 }
 
-/// All stored cases: those of each question by one editor after another, then those of the editor's file, then withdrawals.
+/// All stored cases: those of each question by one editor after another, then those of the editor's file, then withdrawals, then what the library takes and the program does not.
 pub fn cases() -> Vec<Case> {
     let mut asked = lettered();
     asked.extend(limits());
@@ -253,7 +273,7 @@ pub fn cases() -> Vec<Case> {
     let number = |at: usize| 1 + (6 + 7 * at) % EDITORS;
     let by_number = |(at, asked): (usize, Asked)| by_editor(asked, Kept::Bytes(vec![number(at) as u8]));
     let asked_by = |asked: Vec<Asked>| asked.into_iter().enumerate().map(by_number);
-    asked_by(asked).chain(editors()).chain(asked_by(withdrawn())).collect()
+    asked_by(asked).chain(editors()).chain(asked_by(withdrawn())).chain(asked_by(beyond())).collect()
 }
 
 /// The folder of a case.

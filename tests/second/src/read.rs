@@ -2,14 +2,23 @@
 
 use std::collections::{HashMap, HashSet};
 
+use crate::raw::PRINT_BYTES;
 use crate::strata::strata;
 use crate::table::{table_of, Literal, Name, Rule, SlotLine, Table};
 use crate::table::{ASSIGNMENTS, LITERALS, NONE, RULES, SLOTS, VALUES};
 use crate::text::{tokens, Kind, Token};
 use crate::{refusal, Refusal};
 
-/// The most bytes of a rule text.
-pub const TEXT: usize = 65_535;
+/// The most bytes and the most rules of a rule text.
+#[derive(Clone, Copy, PartialEq, Eq, Debug)]
+pub struct Limits {
+    pub bytes: usize,
+    pub rules: usize,
+}
+
+/// The limits of the library, whose prints are texts that it takes, and those of the program.
+pub const LIBRARY: Limits = Limits { bytes: PRINT_BYTES, rules: RULES };
+pub const PROGRAM: Limits = Limits { bytes: 65_535, rules: 255 };
 
 /// The most bytes of a name.
 pub const NAME: usize = 24;
@@ -245,7 +254,7 @@ fn word(text: &[u8], name: Name) -> &[u8] {
 fn slot_lines(walk: &Walk) -> Vec<SlotLine> {
     let mut lines: Vec<SlotLine> = Vec::new();
     for at in &walk.placed {
-        let name = Name { start: at.token.start as u16, size: at.token.size as u16 };
+        let name = Name { start: at.token.start as u32, size: at.token.size as u32 };
         match at.want {
             Want::SlotName => lines.push(SlotLine { name, values: Vec::new() }),
             Want::ValueName => lines.last_mut().expect("a slot's name comes before its values").values.push(name),
@@ -268,8 +277,8 @@ fn undeclared(text: &[u8], walk: &Walk) -> Vec<AtToken> {
     })
 }
 
-/// Every refusal 11 to 17 of a text that was walked.
-pub fn refusals(text: &[u8], walk: &Walk) -> Vec<AtToken> {
+/// Every refusal 11 to 17 of a text that was walked, where it may have so many rules.
+pub fn refusals(text: &[u8], walk: &Walk, rules: usize) -> Vec<AtToken> {
     let all = walk.tokens.iter().enumerate();
     let bad = all.filter(|(_, token)| token.kind == Kind::Bad).map(|(position, _)| AtToken { position, number: 11 });
     let mut found: Vec<AtToken> = bad.collect();
@@ -279,7 +288,7 @@ pub fn refusals(text: &[u8], walk: &Walk) -> Vec<AtToken> {
     found.extend(repeated(text, walk, 14, |at| at.want == Want::ValueName, statement));
     found.extend(too_many(walk, SLOTS, |at| at.token.kind == Kind::Slot, whole));
     found.extend(too_many(walk, VALUES, |at| at.want == Want::ValueName, statement));
-    found.extend(too_many(walk, RULES, |at| at.token.kind == Kind::When, whole));
+    found.extend(too_many(walk, rules, |at| at.token.kind == Kind::When, whole));
     found.extend(too_many(walk, LITERALS, opens_literal, statement));
     found.extend(too_many(walk, ASSIGNMENTS, is_assigned_slot, statement));
     found.extend(undeclared(text, walk));
@@ -327,27 +336,32 @@ fn last(rules: &mut [Rule]) -> &mut Rule {
     rules.last_mut().expect("a trigger comes first")
 }
 
-/// The slot lines and rules of a text, or its refusal 10 to 17.
-pub fn read_rules(text: &[u8]) -> Result<(Vec<SlotLine>, Vec<Rule>), Refusal> {
-    if text.len() > TEXT {
+/// The slot lines and rules of a text within limits, or its refusal 10 to 17.
+pub fn read_rules(limits: Limits, text: &[u8]) -> Result<(Vec<SlotLine>, Vec<Rule>), Refusal> {
+    if text.len() > limits.bytes {
         return Err(refusal(10, 0));
     }
     let walk = walk(text, GRAMMAR);
-    match refusals(text, &walk).iter().min() {
+    match refusals(text, &walk, limits.rules).iter().min() {
         Some(least) => Err(refusal(least.number, completed(&walk, least.position))),
         None => Ok(meaning(text, &walk)),
     }
 }
 
-/// The table of a text, or its refusal 10 to 18.
-pub fn read(text: &[u8]) -> Result<Box<Table>, Refusal> {
-    let (lines, rules) = read_rules(text)?;
+/// The table of a text within limits, or its refusal 10 to 18.
+pub fn read_within(limits: Limits, text: &[u8]) -> Result<Box<Table>, Refusal> {
+    let (lines, rules) = read_rules(limits, text)?;
     let strata = strata(&rules).map_err(|rule| refusal(18, rule))?;
     Ok(table_of(&lines, &rules, &strata))
 }
 
-/// The table of a text read without test 18, its strata 0 throughout, or its refusal 10 to 17.
+/// The table of a text, or the library's refusal 10 to 18.
+pub fn read(text: &[u8]) -> Result<Box<Table>, Refusal> {
+    read_within(LIBRARY, text)
+}
+
+/// The table of a text read without test 18, its strata 0 throughout, or the library's refusal 10 to 17.
 pub fn read_unlayered(text: &[u8]) -> Result<Box<Table>, Refusal> {
-    let (lines, rules) = read_rules(text)?;
+    let (lines, rules) = read_rules(LIBRARY, text)?;
     Ok(table_of(&lines, &rules, &vec![0; rules.len()]))
 }

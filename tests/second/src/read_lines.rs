@@ -1,17 +1,8 @@
-//! The stored texts, two bytes of length before each, and the lines of what an engine says of them.
+//! The stored texts, and the lines of what an engine says of them.
 
 use crate::engine::Engine;
-use crate::print_lines::stretch;
+use crate::print_lines::{counted, text};
 use crate::table::{Name, RulePlace, Table, VALUES};
-
-/// The texts in an input.
-fn texts(mut input: &[u8]) -> Vec<&[u8]> {
-    let mut found = Vec::new();
-    while !input.is_empty() {
-        found.push(stretch(&mut input));
-    }
-    found
-}
 
 /// The line of a slot: its name and the names of the values that it has, cut from the text by their places.
 fn slot_line(engine: &mut dyn Engine, text: &[u8], table: &Table, slot: u8) -> Vec<u8> {
@@ -34,7 +25,7 @@ fn rule_line(rule: &RulePlace) -> String {
     format!("rule {} {} {}{tail}\n", rule.stratum, rule.slot, rule.value)
 }
 
-/// The lines of one text's reading: the outcome, then the slots and rules of the table.
+/// The lines of one text's reading: the outcome, then the slots and rules of the table, of equal neighbours among the rules one.
 fn reading(engine: &mut dyn Engine, text: &[u8]) -> Vec<u8> {
     let (refused, table) = engine.read(text);
     let outcome = match refused {
@@ -43,17 +34,18 @@ fn reading(engine: &mut dyn Engine, text: &[u8]) -> Vec<u8> {
     };
     let slots: Vec<Vec<u8>> = (0..table.width as u8).map(|slot| slot_line(engine, text, &table, slot)).collect();
     let rules: String = table.rules[..table.count as usize].iter().map(rule_line).collect();
-    [outcome.into_bytes(), slots.concat(), rules.into_bytes()].concat()
+    [outcome.into_bytes(), slots.concat(), counted(rules.as_bytes())].concat()
 }
 
-/// The lines for an input: each text's reading, then those of the longest text of white space and of one byte more.
-pub fn output(engine: &mut dyn Engine, input: &[u8]) -> Vec<u8> {
+/// The lines for an input.
+pub fn output(engine: &mut dyn Engine, mut input: &[u8]) -> Vec<u8> {
     let mut written = Vec::new();
-    for (at, text) in texts(input).iter().enumerate() {
-        written.extend(format!("text {}\n", at + 1).into_bytes());
-        written.extend(reading(engine, text));
+    for case in 1.. {
+        if input.is_empty() {
+            break;
+        }
+        written.extend(format!("text {case}\n").into_bytes());
+        written.extend(reading(engine, &text(&mut input)));
     }
-    written.extend(reading(engine, &[b' '; 65_535]));
-    written.extend(reading(engine, &[b' '; 65_536]));
     written
 }

@@ -37,20 +37,27 @@ pub struct Firing {
     pub fired: Vec<usize>,
 }
 
-/// Fires, while it can, an enabled unfired rule of the lowest stratum that has one.
+/// Fires, while it can, enabled unfired rules of the lowest stratum that has one, each where it is enabled when its turn comes.
 pub fn fire(program: &Program, slip: &[Pair], enabled: impl Fn(&Changes, &Rule) -> bool) -> Firing {
-    let mut changes: Changes = slip.iter().copied().collect();
-    let mut fired = Vec::new();
+    let mut firing = Firing { changes: slip.iter().copied().collect(), fired: Vec::new() };
+    let mut unfired: Vec<usize> = (0..program.rules.len()).collect();
     loop {
-        let open = |at: &usize| !fired.contains(at) && enabled(&changes, &program.rules[*at]);
-        let next = match (0..program.rules.len()).filter(open).min_by_key(|at| program.strata[*at]) {
-            Some(next) => next,
+        let open = unfired.iter().filter(|at| enabled(&firing.changes, &program.rules[**at]));
+        let lowest = match open.map(|at| program.strata[*at]).min() {
+            Some(lowest) => lowest,
             _ => {
-                return Firing { changes, fired };
+                return firing;
             }
         };
-        changes.extend(&program.rules[next].assignments);
-        fired.push(next);
+        unfired.retain(|at| {
+            let rule = &program.rules[*at];
+            let fires = program.strata[*at] == lowest && enabled(&firing.changes, rule);
+            if fires {
+                firing.changes.extend(&rule.assignments);
+                firing.fired.push(*at);
+            }
+            !fires
+        });
     }
 }
 
@@ -69,7 +76,9 @@ pub fn new_card(card: &[u8], changes: &Changes) -> Vec<u8> {
 
 /// The fired record: one bit for each rule, rule 1 first, padded to bytes.
 pub fn record(rules: usize, fired: &[usize]) -> Vec<u8> {
-    bytes_of(&(0..rules).map(|at| fired.contains(&at)).collect::<Vec<bool>>())
+    let mut bits = vec![false; rules];
+    fired.iter().for_each(|at| bits[*at] = true);
+    bytes_of(&bits)
 }
 
 /// How many rules fired, by the record.

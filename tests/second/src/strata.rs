@@ -1,6 +1,6 @@
 //! Strata: the least numbers, by raising them from 1, and the rules on a circle of dependence through a NOT.
 
-use std::collections::HashMap;
+use std::collections::{BTreeSet, HashMap};
 
 use crate::rule_set::RuleSet;
 use crate::table::{Pair, Rule};
@@ -22,7 +22,7 @@ pub fn negated_pairs(rule: &Rule) -> Vec<Pair> {
 }
 
 /// The rules that a rule waits for: those that assign a pair it tests by `*=`, plainly or under NOT.
-#[derive(Clone, Copy, PartialEq, Eq, Debug, Default)]
+#[derive(Clone, PartialEq, Eq, Debug, Default)]
 pub struct Waits {
     pub plain: RuleSet,
     pub negated: RuleSet,
@@ -48,39 +48,57 @@ fn assigning(rules: &[Rule]) -> HashMap<Pair, RuleSet> {
 pub fn waits(rules: &[Rule]) -> Vec<Waits> {
     let assigning = assigning(rules);
     let of = |pairs: Vec<Pair>| {
-        let sets = pairs.iter().filter_map(|pair| assigning.get(pair));
-        sets.fold(RuleSet::default(), |all, set| all.with(set))
+        let mut all = RuleSet::default();
+        pairs.iter().filter_map(|pair| assigning.get(pair)).for_each(|set| all.add(set));
+        all
     };
     rules.iter().map(|rule| Waits { plain: of(plain_pairs(rule)), negated: of(negated_pairs(rule)) }).collect()
 }
 
-/// The number that a rule needs by those of the others: at least 1, no lower than a rule it waits for plainly, above each it waits for under NOT.
-pub fn asked(waits: &Waits, numbers: &[usize]) -> usize {
-    let level = waits.plain.positions().map(|at| numbers[at]);
-    let above = waits.negated.positions().map(|at| numbers[at] + 1);
+/// The number that a rule needs by those of some others: at least 1, no lower than a rule it waits for plainly, above each it waits for under NOT.
+fn asked_by(waits: &Waits, others: &RuleSet, numbers: &[usize]) -> usize {
+    let level = waits.plain.shared(others).map(|at| numbers[at]);
+    let above = waits.negated.shared(others).map(|at| numbers[at] + 1);
     level.chain(above).fold(1, usize::max)
 }
 
-/// Raises each number that is below what its rule needs until none is: the least strata from those numbers up; None where one passes the highest allowed.
-pub fn raised(waits: &[Waits], mut numbers: Vec<usize>, highest: usize) -> Option<Vec<usize>> {
-    loop {
-        let before = numbers.clone();
-        for (at, waits) in waits.iter().enumerate() {
-            numbers[at] = numbers[at].max(asked(waits, &numbers));
-        }
-        if numbers.iter().any(|number| *number > highest) {
-            return None;
-        }
-        if numbers == before {
-            return Some(numbers);
-        }
-    }
+/// The number that a rule needs by those of all others.
+pub fn asked(waits: &Waits, numbers: &[usize]) -> usize {
+    asked_by(waits, &(0..numbers.len()).collect(), numbers)
 }
 
-/// The least strata; None where there are none, since those that exist need no number above that of the rules.
-pub fn least(waits: &[Waits]) -> Option<Vec<u8>> {
-    let numbers = raised(waits, vec![1; waits.len()], waits.len())?;
-    Some(numbers.into_iter().map(|number| number as u8).collect())
+/// The most NOTs that strata can fall by: rules that a walk meets wait under NOT for different sets, since with one set twice the walk would lead into a circle.
+fn most_nots(waits: &[Waits]) -> usize {
+    let sets: BTreeSet<&RuleSet> = waits.iter().map(|waits| &waits.negated).filter(|set| !set.is_empty()).collect();
+    sets.len()
+}
+
+/// Raises each number that is below what its rule needs until none is: the least strata from those numbers up; None where there are none.
+pub fn raised(waits: &[Waits], numbers: Vec<usize>) -> Option<Vec<usize>> {
+    let mut numbers: Vec<usize> = numbers.into_iter().map(|number| number.max(1)).collect();
+    let highest = numbers.iter().max().unwrap_or(&1) + most_nots(waits);
+    let mut higher: RuleSet = (0..waits.len()).collect();
+    while !higher.is_empty() {
+        let mut seen = std::mem::take(&mut higher);
+        for at in 0..waits.len() {
+            let asked = asked_by(&waits[at], &seen, &numbers);
+            if asked > highest {
+                return None;
+            }
+            if asked > numbers[at] {
+                numbers[at] = asked;
+                higher.put(at);
+                seen.put(at);
+            }
+        }
+    }
+    Some(numbers)
+}
+
+/// The least strata; None where there are none.
+pub fn least(waits: &[Waits]) -> Option<Vec<u16>> {
+    let numbers = raised(waits, vec![1; waits.len()])?;
+    Some(numbers.into_iter().map(|number| number as u16).collect())
 }
 
 /// For each rule the rules it comes to by steps of dependence, itself by none.
@@ -88,31 +106,24 @@ pub fn reached(waits: &[Waits]) -> Vec<RuleSet> {
     let mut reached: Vec<RuleSet> = waits.iter().map(Waits::all).collect();
     (0..reached.len()).for_each(|at| reached[at].put(at));
     for middle in 0..reached.len() {
-        let beyond = reached[middle];
-        for set in reached.iter_mut().filter(|set| set.has(middle)) {
-            *set = set.with(&beyond);
-        }
+        let beyond = reached[middle].clone();
+        reached.iter_mut().filter(|set| set.has(middle)).for_each(|set| set.add(&beyond));
     }
     reached
 }
 
-/// The positions of the rules on a circle through a NOT, rising: steps come from such a rule to one that waits under NOT for another, and from that one back.
+/// The positions of the rules on a circle through a NOT, rising: steps come from such a rule to one that waits under NOT for another which comes back to it, and from that one back.
 pub fn on_circle(waits: &[Waits]) -> Vec<usize> {
     let reached = reached(waits);
-    let mut nots = Vec::new();
-    for (from, waits) in waits.iter().enumerate() {
-        let back = waits.negated.positions().filter(|to| reached[*to].has(from));
-        nots.extend(back.map(|to| (from, to)));
-    }
-    let on = |at: &usize| nots.iter().any(|(from, to)| reached[*at].has(*from) && reached[*to].has(*at));
+    let comes_back = |from: &usize| waits[*from].negated.positions().any(|to| reached[to].has(*from));
+    let through: Vec<usize> = (0..waits.len()).filter(comes_back).collect();
+    let on = |at: &usize| through.iter().any(|from| reached[*at].has(*from) && reached[*from].has(*at));
     (0..waits.len()).filter(on).collect()
 }
 
 /// The least strata, or the lowest rule on a circle through a NOT, by its number from 1.
-pub fn strata(rules: &[Rule]) -> Result<Vec<u8>, usize> {
+pub fn strata(rules: &[Rule]) -> Result<Vec<u16>, usize> {
     let waits = waits(rules);
-    match on_circle(&waits).first() {
-        Some(at) => Err(at + 1),
-        None => Ok(least(&waits).expect("rules without a circle through a NOT have strata")),
-    }
+    least(&waits)
+        .ok_or_else(|| on_circle(&waits).first().expect("rules without strata have a circle through a NOT") + 1)
 }

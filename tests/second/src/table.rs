@@ -30,7 +30,7 @@ pub struct Rule {
 pub struct Program {
     pub lasts: Vec<u8>,
     pub rules: Vec<Rule>,
-    pub strata: Vec<u8>,
+    pub strata: Vec<u16>,
 }
 
 /// A slot line: the slot's name and the names of its values.
@@ -48,7 +48,7 @@ fn slot_place(line: &SlotLine) -> SlotPlace {
 }
 
 /// The place of a rule in a stratum.
-fn rule_place(rule: &Rule, stratum: u8) -> RulePlace {
+fn rule_place(rule: &Rule, stratum: u16) -> RulePlace {
     let mut place = RulePlace {
         slot: rule.trigger.0,
         value: rule.trigger.1,
@@ -67,7 +67,7 @@ fn rule_place(rule: &Rule, stratum: u8) -> RulePlace {
 }
 
 /// The table of slot lines and rules with their strata, all within the limits.
-pub fn table_of(lines: &[SlotLine], rules: &[Rule], strata: &[u8]) -> Box<Table> {
+pub fn table_of(lines: &[SlotLine], rules: &[Rule], strata: &[u16]) -> Box<Table> {
     let mut table = Table::empty();
     table.width = lines.len() as u16;
     for (place, line) in table.slots.iter_mut().zip(lines) {

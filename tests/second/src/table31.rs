@@ -1,6 +1,6 @@
 //! The test 31 of an arbitrary table, and the names a table shows.
 
-use crate::strata::strata;
+use crate::strata::{least, waits};
 use crate::table::{program_in, Name, Pair, Program, Rule, RulePlace, SlotPlace, Table};
 use crate::table::{ASSIGNMENTS, LITERALS, NONE, RULES, SLOTS, VALUES};
 use crate::{refusal, Refusal};
@@ -52,7 +52,7 @@ pub fn unlayered(table: &Table) -> Result<Program, Refusal> {
 /// The program of a table, or 31.
 pub fn tested(table: &Table) -> Result<Program, Refusal> {
     let program = unlayered(table)?;
-    if strata(&program.rules).as_ref() == Ok(&program.strata) {
+    if least(&waits(&program.rules)).as_ref() == Some(&program.strata) {
         Ok(program)
     } else {
         Err(refusal(31, 0))

@@ -34,6 +34,8 @@ pub fn table_kinds(table: &Table) -> Vec<Kind> {
         (Kind::Gap, strata && !exact),
         (Kind::Falling, !right && least(&falling(&waits)).as_ref() == Some(given)),
         (Kind::NoneUnbound, !right && without_none(&program.rules).as_ref() == Ok(given)),
+        (Kind::LastBytesAlike, !right && given.iter().zip(&wanted).all(|(given, wanted)| given % 256 == wanted % 256)),
+        (Kind::GreatestNumber, given.contains(&u16::MAX)),
         (Kind::OneTooLow, wrong.len() == 1 && wrong.iter().all(one_lower)),
         (Kind::Zero, zero),
     ])

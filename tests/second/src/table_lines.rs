@@ -1,15 +1,23 @@
 //! Tables and their tests in the form of the project's program `strata_cases`: packed tables, a line for each.
 
 use crate::gen::{any_sketch, Rng};
+use crate::gen_large::large_sketch;
 use crate::gen_tables::{circled_table, damaged};
-use crate::gen_text::fill_up;
+use crate::gen_text::{fill_up, Sketch};
 use crate::strata::strata;
 use crate::table::{table_of, AssignmentPlace, LiteralPlace, Name, RulePlace, SlotLine, Table};
-use crate::table::{ASSIGNMENTS, LITERALS, RULES};
+use crate::table::{ASSIGNMENTS, LITERALS, RULES, SLOTS, VALUES};
 use crate::table31::{tested, unlayered};
 
 /// The most bytes that the program takes.
-const INPUT: usize = 65_536;
+const INPUT: usize = 262_144;
+
+/// How many inputs there are for one with large tables, and how many of these it has.
+const TO_A_LARGE_INPUT: u64 = 5;
+const LARGE_TABLES: u8 = 5;
+
+/// The pairs that its chains go through.
+const PAIRS: usize = SLOTS * VALUES;
 
 /// Takes the next byte.
 fn byte(input: &mut &[u8]) -> u8 {
@@ -18,10 +26,16 @@ fn byte(input: &mut &[u8]) -> u8 {
     *first
 }
 
+/// Takes two bytes, the high one first.
+fn two_bytes(input: &mut &[u8]) -> u16 {
+    u16::from_be_bytes([byte(input), byte(input)])
+}
+
 /// Takes a rule; a byte fills its unused places.
 fn rule(input: &mut &[u8], fill: u8) -> RulePlace {
     let unused = LiteralPlace { slot: fill, value: fill, ..LiteralPlace::default() };
-    let mut place = RulePlace { slot: byte(input), value: byte(input), stratum: byte(input), ..RulePlace::default() };
+    let (slot, value, stratum) = (byte(input), byte(input), two_bytes(input));
+    let mut place = RulePlace { slot, value, stratum, ..RulePlace::default() };
     place.literals = [unused; LITERALS];
     place.assignments = [AssignmentPlace { slot: fill, value: fill }; ASSIGNMENTS];
     place.tested = byte(input);
@@ -45,7 +59,7 @@ fn table(input: &mut &[u8]) -> Box<Table> {
     for slot in table.slots.iter_mut().take(table.width as usize) {
         slot.count = byte(input).into();
     }
-    table.count = u16::from_be_bytes([byte(input), byte(input)]);
+    table.count = two_bytes(input);
     for place in table.rules.iter_mut().take(table.count.into()) {
         *place = rule(input, fill);
     }
@@ -60,7 +74,8 @@ pub fn tables(mut input: &[u8]) -> Vec<Box<Table>> {
 
 /// The bytes of a rule.
 fn rule_bytes(place: &RulePlace) -> Vec<u8> {
-    let mut bytes = vec![place.slot, place.value, place.stratum, place.tested];
+    let [high, low] = place.stratum.to_be_bytes();
+    let mut bytes = vec![place.slot, place.value, high, low, place.tested];
     for literal in place.literals.iter().take(place.tested.into()) {
         bytes.extend([u8::from(literal.becomes) + 2 * u8::from(literal.negated), literal.slot, literal.value]);
     }
@@ -79,12 +94,17 @@ fn table_bytes(table: &Table, fill: u8) -> Vec<u8> {
     bytes
 }
 
-/// The table of a sketch, filled up to a limit now and then, its strata the least or other numbers, often changed.
-fn generated_table(rng: &mut Rng) -> Box<Table> {
+/// A sketch, filled up to a limit now and then.
+fn generated_sketch(rng: &mut Rng) -> Sketch {
     let mut sketch = any_sketch(rng);
     if rng.chance(1, 12) {
         fill_up(rng, &mut sketch, 0);
     }
+    sketch
+}
+
+/// The table of a sketch, its strata the least or other numbers, often changed.
+fn generated_table(rng: &mut Rng, sketch: Sketch) -> Box<Table> {
     let unnamed = |count: usize| SlotLine { name: Name::default(), values: vec![Name::default(); count] };
     let lines: Vec<SlotLine> = sketch.names.iter().map(|slot| unnamed(slot.1.len())).collect();
     let table = match strata(&sketch.rules) {
@@ -98,13 +118,18 @@ fn generated_table(rng: &mut Rng) -> Box<Table> {
     }
 }
 
-/// An input of generated tables.
+/// An input of generated tables; one in so many has a few large ones and then as much as the program takes, the others less, to save time.
 pub fn generated(seed: u64) -> Vec<u8> {
     let mut rng = Rng::new(seed);
     let (mut count, mut input) = (0, Vec::new());
+    let large = seed % TO_A_LARGE_INPUT == 0;
+    let most = if large { INPUT } else { INPUT / 4 };
     while count < 255 {
-        let bytes = table_bytes(&generated_table(&mut rng), *rng.pick(&[0, 1, 255]));
-        if 1 + input.len() + bytes.len() > INPUT {
+        let way = seed / TO_A_LARGE_INPUT + u64::from(count);
+        let sketch =
+            if large && count < LARGE_TABLES { large_sketch(&mut rng, way) } else { generated_sketch(&mut rng) };
+        let bytes = table_bytes(&generated_table(&mut rng, sketch), *rng.pick(&[0, 1, 255]));
+        if 1 + input.len() + bytes.len() > most {
             break;
         }
         count += 1;
@@ -131,15 +156,27 @@ fn line(table: &Table) -> String {
     }
 }
 
-/// The lines of the chains that the program makes itself: n rules, each testing what the one before or the one after it assigns; plainly, all in stratum 1, or under NOT, each a stratum above the next.
+/// The line of a chain that the program makes itself: the strata of its first and its last rule, or where it has none the first of the table without rules, and that the table passes.
+fn chain_line(name: &str, rules: usize, strata: Option<[usize; 2]>) -> String {
+    match strata {
+        Some([first, last]) => format!("{name} {rules} {first} {last} 1\n"),
+        None => format!("{name} {rules} 0 1\n"),
+    }
+}
+
+/// The lines of those chains: n rules, each testing what the one before or the one after it assigns; plainly, all in stratum 1, or under NOT, each a stratum above the next, unless a rule assigns the pair that triggers them all, which is the last, or the pairs go round.
 fn chain_lines() -> String {
-    (1..=RULES)
-        .map(|rules| {
-            let plain = format!("forward {rules} 1 1 1\nbackward {rules} 1 1 1\n");
-            let under_not = format!("forward-not {rules} 1 {rules} 1\nbackward-not {rules} {rules} 1 1\n");
-            plain + &under_not
-        })
-        .collect()
+    let lines = |rules: usize| {
+        let [forward, backward] = [rules + 1 < PAIRS, rules < PAIRS];
+        [
+            chain_line("forward", rules, Some([1, 1])),
+            chain_line("backward", rules, Some([1, 1])),
+            chain_line("forward-not", rules, forward.then_some([1, rules])),
+            chain_line("backward-not", rules, backward.then_some([rules, 1])),
+        ]
+        .concat()
+    };
+    (1..PAIRS).chain([RULES]).map(lines).collect()
 }
 
 /// What the program should write for an input.

@@ -1,11 +1,11 @@
-//! The lettered cases A to L of document 01 and its others.
+//! The lettered cases A to L of document 01 and its others, with the limits of section 7 of document 02.
 
-use second::cards::{unpack_card, unpack_slip};
+use second::cards::{slip_bytes, unpack_card, unpack_slip};
 use second::engine::{Engine, Second};
 use second::firing_checks::{given, Given};
 use second::listing::listing;
 use second::program_cases::{A, B, C, D, E, MIXED, SLOTS, X_TO_1, Y_TO_1, ZEROS, Z_TO_1};
-use second::read::read;
+use second::read::{read, read_within, Limits, LIBRARY, PROGRAM};
 use second::response::fired_count;
 use second::table31::tested;
 use second::{refusal, Refusal};
@@ -118,14 +118,117 @@ fn names_of_24_and_25_bytes() {
     assert_eq!(refused(&text(&[A, &long])), Some(refusal(12, 1)));
 }
 
+/// What follows the last rule that there may be, and the refusal's number there, 0 for none.
+const AFTER_LAST: [(&str, u8); 11] = [
+    (" \t\r\n", 0),
+    ("WHEN", 15),
+    ("WHEN (", 15),
+    (A, 15),
+    ("SLOT", 12),
+    ("x", 12),
+    (";", 12),
+    ("nnnnnnnnnnnnnnnnnnnnnnnnn", 12),
+    ("(", 11),
+    ("*", 11),
+    ("é", 11),
+];
+
+/// Holds a reading to the rules that there may be and to what follows them.
+fn held_to(limits: Limits) {
+    let refused = |rules: &[&str]| read_within(limits, &text(rules)).err();
+    for count in [1, limits.rules - 1, limits.rules] {
+        assert_eq!(refused(&vec![A; count]), None, "{count}");
+    }
+    for (end, number) in AFTER_LAST {
+        let rules = [vec![A; limits.rules], vec![end]].concat();
+        assert_eq!(refused(&rules), (number > 0).then(|| refusal(number, limits.rules)), "{end}");
+    }
+}
+
 #[test]
-fn rules_255_and_256() {
-    assert_eq!(refused(&text(&vec![A; 255])), None);
-    assert_eq!(refused(&text(&vec![A; 256])), Some(refusal(15, 255)));
-    let last = |end: &'static str| [vec![A; 255], vec![end]].concat();
-    assert_eq!(refused(&text(&last("WHEN"))), Some(refusal(15, 255)));
-    assert_eq!(refused(&text(&last("SLOT"))), Some(refusal(12, 255)));
-    assert_eq!(refused(&text(&last("("))), Some(refusal(11, 255)));
+fn rules_2000_and_2001_of_the_library_and_255_and_256_of_the_program() {
+    assert_eq!((LIBRARY.rules, PROGRAM.rules), (2_000, 255));
+    held_to(LIBRARY);
+    held_to(PROGRAM);
+    assert_eq!(refused(&text(&[A; 256])), None);
+    let printed = |count: usize| listing(&text(&vec![A; count]), &ZEROS, &X_TO_1, &[7]);
+    assert!(printed(255).contains("rule 255 stratum 1 fired\nchange x 1\n"));
+    for count in [256, 257, 1_800] {
+        assert_eq!(printed(count), "refused 15 255\n");
+    }
+    assert_eq!(printed(2_000), "refused 10 0\n");
+}
+
+#[test]
+fn bytes_262144_and_262145_of_the_library_and_65535_and_65536_of_the_program() {
+    assert_eq!((LIBRARY.bytes, PROGRAM.bytes), (262_144, 65_535));
+    for limits in [LIBRARY, PROGRAM] {
+        let mut long = text(&[A]);
+        long.resize(limits.bytes, b' ');
+        assert_eq!(read_within(limits, &long).err(), None);
+        long.push(b'(');
+        assert_eq!(read_within(limits, &long).err(), Some(refusal(10, 0)));
+        assert_eq!(read_within(limits, &vec![b'('; limits.bytes]).err(), Some(refusal(11, 0)));
+    }
+    let printed = |bytes: usize| listing(&vec![b' '; bytes], &[0], &[0], &[7]);
+    assert_eq!(printed(65_535), "card 00\ntally 7 1 0\n");
+    for bytes in [65_536, 262_144, 262_145] {
+        assert_eq!(printed(bytes), "refused 10 0\n");
+    }
+    assert_eq!(refused(&[b' '; 65_536]), None);
+}
+
+#[test]
+fn second_numbers_above_255_are_whole() {
+    let after = |count: usize, end: &'static str| refused(&text(&[vec![A; count], vec![end]].concat()));
+    for count in [255, 256, 257, 300, 511, 1_999] {
+        assert_eq!(after(count, "("), Some(refusal(11, count)));
+        assert_eq!(after(count, "WHEN IF"), Some(refusal(12, count)));
+        assert_eq!(after(count, "WHEN nnnnnnnnnnnnnnnnnnnnnnnnn"), Some(refusal(13, count)));
+        assert_eq!(after(count, "WHEN q"), Some(refusal(16, count)));
+        assert_eq!(after(count, "WHEN x *= 1 IF TRUE THEN {y := 1, y"), Some(refusal(17, count)));
+        assert_eq!(after(count, "WHEN x *= 1 IF NOT y *= 1 THEN y := 1;"), Some(refusal(18, count + 1)));
+    }
+}
+
+/// The text of 446 rules, each of which asks under NOT for what the one before it assigns, and of rules of one trigger behind them.
+fn high_strata() -> Vec<u8> {
+    let pair = |at: usize, mark: &str| format!("s{} {mark} v{}", at % 32, at / 32);
+    let values = (0..15).map(|value| format!("v{value}")).collect::<Vec<String>>().join(",");
+    let slots = (0..32).map(|slot| format!("SLOT s{slot} {{{values}}};"));
+    let link = |at: usize| format!("WHEN s31 *= v14 IF NOT {} THEN {};", pair(at, "*="), pair(at + 1, ":="));
+    slots.chain((0..446).map(link)).collect::<String>().into_bytes()
+}
+
+#[test]
+fn strata_above_255_are_whole() {
+    let mut table = read(&high_strata()).unwrap();
+    let strata: Vec<u16> = table.rules[..446].iter().map(|rule| rule.stratum).collect();
+    assert_eq!(strata, (1..=446).collect::<Vec<u16>>());
+    assert!(tested(&table).is_ok());
+    for number in [0, 190, 445, 447, 702, u16::MAX] {
+        table.rules[445].stratum = number;
+        assert_eq!(tested(&table).err(), Some(refusal(31, 0)), "{number}");
+    }
+}
+
+#[test]
+fn a_fired_record_of_250_bytes() {
+    let idle = "WHEN y *= 1 IF TRUE THEN z := 1;";
+    for (rules, wanted) in [
+        (vec![A; 2_000], vec![0xFF; 250]),
+        (vec![A; 1_999], [vec![0xFF; 249], vec![0xFE]].concat()),
+        ([vec![idle; 1_999], vec![A]].concat(), [vec![0; 249], vec![1]].concat()),
+        ([vec![idle; 256], vec![A], vec![idle; 1_743]].concat(), [vec![0; 32], vec![0x80], vec![0; 217]].concat()),
+    ] {
+        let given = response(&rules, &ZEROS, &X_TO_1);
+        assert_eq!((given.refused, &given.fired), (None, &wanted));
+        assert_eq!(given.changes, slip_bytes(&[(0, 2), (2, 2)]));
+        let ones = rules.iter().filter(|rule| **rule == A).count();
+        assert_eq!((fired_count(&given.fired), Second.fired_count(&given.fired)), (ones, ones));
+    }
+    let conflict = [vec![A; 1_999], vec!["WHEN x *= 1 IF TRUE THEN z := 0;"]].concat();
+    assert_eq!(response(&conflict, &ZEROS, &X_TO_1).refused, Some(refusal(40, 2)));
 }
 
 #[test]
@@ -224,17 +327,8 @@ fn declared_once_and_used_as_declared() {
     assert_eq!(refused(&text(&[A, "WHEN x *= 1 IF TRUE THEN {x := 0, x"])), Some(refusal(17, 1)));
 }
 
-#[test]
-fn length_of_text() {
-    let mut long = text(&[A]);
-    long.resize(65_535, b' ');
-    assert_eq!(refused(&long), None);
-    long.push(b'(');
-    assert_eq!(refused(&long), Some(refusal(10, 0)));
-}
-
 /// The strata of some rules, or the rule that 18 names.
-fn layered(rules: &[&str]) -> Result<Vec<u8>, usize> {
+fn layered(rules: &[&str]) -> Result<Vec<u16>, usize> {
     let table = read(&text(rules)).map_err(|why| {
         assert_eq!(why.number, 18);
         why.second

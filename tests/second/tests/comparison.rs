@@ -4,12 +4,15 @@ use std::collections::BTreeSet;
 use std::process::Command;
 
 use second::broken::Broken;
-use second::compare::{compare_seeds, refusals_met, shrunk, store};
+use second::broken_reading;
+use second::compare::{compare_seeds, refusals_met, shrunk, store, Seed};
 use second::engine::{Engine, Second, Way};
-use second::fault::{Fault, FAULTS};
+use second::fault::{Fault, FAULTS, LARGE_FAULTS, PROGRAM_FAULTS};
 use second::firing_checks::{check_small, Counts};
-use second::gen::{card_values, slip_changes, Rng};
+use second::gen::{card, card_values, program_file, slip, slip_changes, Rng};
+use second::gen_large::LARGE;
 use second::gen_rules::{sketch, Ranks, Shape};
+use second::listing::{listing, listing_by};
 use second::orders::{complete_orders, complete_sets, consistent_ends};
 use second::strata::strata;
 use second::table::{Literal, Rule};
@@ -17,26 +20,60 @@ use second::table::{Literal, Rule};
 /// The seeds in which each fault must be found.
 const BUDGET: u64 = 8_000;
 
+/// The seeds in which each fault of the program must be found.
+const PROGRAM_SEEDS: u64 = 2_000;
+
 /// A small shape.
 const SMALL: Shape = Shape { slots: 4, values: 2, rules: 5, literals: 2, assignments: 2, ranks: Ranks::Free };
 
 #[test]
 fn each_fault_is_found() {
     for fault in FAULTS {
-        let (failing, tried) = compare_seeds(&mut Broken::new(*fault), 1, BUDGET);
+        let (failing, tried) = compare_seeds(&mut Broken::new(*fault), Seed::Any, 1, BUDGET);
         let failing = failing.unwrap_or_else(|| panic!("{fault:?} is not found in {tried}"));
         println!("{fault:?}: found after {tried}, {}", failing.difference.place);
     }
 }
 
 #[test]
+fn each_fault_about_the_limits_is_found_in_large_files() {
+    for fault in LARGE_FAULTS {
+        let (failing, tried) = compare_seeds(&mut Broken::new(*fault), Seed::Large, 1, 4 * LARGE);
+        let failing = failing.unwrap_or_else(|| panic!("{fault:?} is not found in {tried}"));
+        println!("{fault:?}: found after {tried}, {}", failing.difference.place);
+    }
+}
+
+#[test]
+fn each_fault_of_the_program_is_found() {
+    for fault in PROGRAM_FAULTS {
+        let differs = |seed: &u64| {
+            let mut rng = Rng::new(*seed);
+            let file = program_file(&mut rng, *seed);
+            let (card, slip) = (card(&mut rng, &file.sketch), slip(&mut rng, &file.sketch));
+            let files: [&[u8]; 4] = [&file.text, &card, &slip, &[1]];
+            let read = |text: &[u8]| {
+                let (refused, table) = broken_reading::read(*fault, text);
+                refused.map_or(Ok(table), Err)
+            };
+            listing_by(read, files) != listing(&file.text, &card, &slip, &[1])
+        };
+        let found = (1..=PROGRAM_SEEDS).find(differs);
+        println!("{fault:?}: found at {found:?}");
+        assert!(found.is_some(), "{fault:?} is not found");
+    }
+}
+
+#[test]
 fn the_second_engine_agrees_with_itself() {
-    assert!(compare_seeds(&mut Second, 1, 500).0.is_none());
+    assert!(compare_seeds(&mut Second, Seed::Any, 1, 500).0.is_none());
+    assert!(compare_seeds(&mut Second, Seed::Large, 1, LARGE).0.is_none());
 }
 
 #[test]
 fn every_refusal_is_met() {
-    let met = |way: Way| refusals_met(way, 1, 4_000).into_keys().collect::<Vec<u8>>();
+    let seeds = || (1..=4_000).map(Seed::Any).chain((1..=LARGE).map(Seed::Large));
+    let met = |way: Way| refusals_met(way, seeds()).into_keys().collect::<Vec<u8>>();
     let all = [0, 10, 11, 12, 13, 14, 15, 16, 17, 18, 20, 21, 22, 23, 24, 25, 26, 27, 28, 30, 31, 32, 33, 34, 40, 44];
     assert_eq!(met(Way::Strata), all);
     let all = [0, 10, 11, 12, 13, 14, 15, 16, 17, 20, 21, 22, 23, 24, 25, 26, 27, 28, 30, 31, 32, 41, 42, 44];
@@ -46,7 +83,7 @@ fn every_refusal_is_met() {
 #[test]
 fn a_failing_input_is_kept() {
     let fault = Fault::NumberOrder;
-    let failing = compare_seeds(&mut Broken::new(fault), 1, BUDGET).0.expect("the fault is found");
+    let failing = compare_seeds(&mut Broken::new(fault), Seed::Any, 1, BUDGET).0.expect("the fault is found");
     let smaller = shrunk(&mut Broken::new(fault), &failing);
     assert!(smaller.text.len() <= failing.text.len());
     let folder = std::env::temp_dir().join(format!("second-kept-{}", std::process::id()));
@@ -57,11 +94,11 @@ fn a_failing_input_is_kept() {
 }
 
 /// All lists of numbers from 1 to a highest.
-fn numberings(count: usize, highest: u8) -> Vec<Vec<u8>> {
+fn numberings(count: usize, highest: u16) -> Vec<Vec<u16>> {
     if count == 0 {
         return vec![Vec::new()];
     }
-    let longer = |list: Vec<u8>| (1..=highest).map(move |number| [list.clone(), vec![number]].concat());
+    let longer = |list: Vec<u16>| (1..=highest).map(move |number| [list.clone(), vec![number]].concat());
     numberings(count - 1, highest).into_iter().flat_map(longer).collect()
 }
 
@@ -92,12 +129,12 @@ fn strata_are_the_least_numbers_that_hold() {
     for seed in 1..600 {
         let ranks = [Ranks::Free, Ranks::Level, Ranks::Below][seed as usize % 3];
         let rules = sketch(&mut Rng::new(seed), &Shape { ranks, ..SMALL }).rules;
-        let holds = |numbers: &Vec<u8>, at: usize, other: usize| {
+        let holds = |numbers: &Vec<u16>, at: usize, other: usize| {
             (numbers[other] <= numbers[at] || !waits(&rules[at], &rules[other], false))
                 && (numbers[other] < numbers[at] || !waits(&rules[at], &rules[other], true))
         };
-        let all = |numbers: &Vec<u8>| (0..rules.len()).all(|at| (0..rules.len()).all(|to| holds(numbers, at, to)));
-        let good: Vec<Vec<u8>> = numberings(rules.len(), rules.len() as u8).into_iter().filter(all).collect();
+        let all = |numbers: &Vec<u16>| (0..rules.len()).all(|at| (0..rules.len()).all(|to| holds(numbers, at, to)));
+        let good: Vec<Vec<u16>> = numberings(rules.len(), rules.len() as u16).into_iter().filter(all).collect();
         let lowest = (0..rules.len()).find(|at| walks_round(&rules, *at));
         match strata(&rules) {
             Err(rule) => {

@@ -1,7 +1,7 @@
 //! The records of editors: section 4 of document 02, by both responses and in the program.
 
 use second::broken::Broken;
-use second::compare::compare_seeds;
+use second::compare::{compare_seeds, Seed};
 use second::editors::{fresh, Caller, Tally, EDITORS};
 use second::engine::{Engine, Second, Way};
 use second::fault::Fault;
@@ -187,7 +187,7 @@ fn faults_of_editors_show_within_few_seeds() {
         Fault::LastNumberRefused,
     ];
     for fault in faults {
-        let (failing, tried) = compare_seeds(&mut Broken::new(fault), 1, 200);
+        let (failing, tried) = compare_seeds(&mut Broken::new(fault), Seed::Any, 1, 200);
         assert!(failing.is_some(), "{fault:?} is not found in {tried}");
     }
 }

@@ -160,7 +160,7 @@ fn files_with_strata_get_the_strata_response() {
 }
 
 /// The table of rules with some strata.
-fn carrying(rules: &[&str], strata: &[u8]) -> Box<Table> {
+fn carrying(rules: &[&str], strata: &[u16]) -> Box<Table> {
     let mut table = read_unlayered(&text(rules)).unwrap();
     table.rules.iter_mut().zip(strata).for_each(|(rule, number)| rule.stratum = *number);
     table
@@ -173,10 +173,10 @@ fn a_table_has_stratum_0_throughout_or_the_least() {
         given_by(&mut Second, way, table, &ZEROS, &slip).refused.map_or(0, |why| why.number)
     };
     let numbers =
-        |rules: &[&str], strata: &[u8]| [Way::Marks, Way::Strata].map(|way| number(&carrying(rules, strata), way));
+        |rules: &[&str], strata: &[u16]| [Way::Marks, Way::Strata].map(|way| number(&carrying(rules, strata), way));
     assert_eq!(numbers(&[D, E], &[0, 0]), [0, 31]);
     assert_eq!(numbers(&[D, E], &[2, 1]), [0, 0]);
-    for strata in [[0, 1], [2, 0], [1, 1], [1, 2], [3, 1], [3, 2], [255, 255]] {
+    for strata in [[0, 1], [2, 0], [1, 1], [1, 2], [3, 1], [3, 2], [255, 255], [258, 257], [256, 256]] {
         assert_eq!(numbers(&[D, E], &strata), [31, 31], "{strata:?}");
     }
     assert_eq!(numbers(&EITHER, &[0, 0]), [42, 31]);
@@ -194,7 +194,7 @@ fn a_table_has_stratum_0_throughout_or_the_least() {
 #[test]
 fn reading_without_18_keeps_10_to_17() {
     assert_eq!(read_unlayered(&text(&[A, "WHEN x *= 1 IF NOT z *= 1 THEN z := 1"])).err(), Some(refusal(12, 1)));
-    assert_eq!(read_unlayered(&vec![b' '; 65_536]).err(), Some(refusal(10, 0)));
+    assert_eq!(read_unlayered(&vec![b' '; 262_145]).err(), Some(refusal(10, 0)));
     let table = read_unlayered(&text(&[D, E])).unwrap();
     assert_eq!([table.rules[0].stratum, table.rules[1].stratum, table.rules[2].stratum], [0; 3]);
     let mut layered = read(&text(&[D, E])).unwrap();

@@ -1,7 +1,8 @@
 //! The house style of document 02: computed examples, its limits, and that a print says what its text says.
 
 use second::engine::{Engine, Second};
-use second::gen::{any_file, Rng};
+use second::gen::{any_file, File, Rng};
+use second::gen_large::{large_file, LARGE};
 use second::print::printed;
 use second::program_cases::{A, B, C, D, E, H, SLOTS};
 use second::raw::PRINT_BYTES;
@@ -29,12 +30,13 @@ fn into(text: &[u8], room: usize) -> (Result<usize, Refusal>, Vec<u8>) {
     (Second.print(text, &mut output), output)
 }
 
-/// A text that prints as two slot lines of 60 bytes, one of 13 and so many more, and 126 rules of 519.
+/// A text that prints as two slot lines of 60 bytes, one of 401, one of 39 and so many more, and 504 rules of 519.
 fn long_text(more: usize) -> Vec<u8> {
     let [s, t, v] = ["s", "t", "v"].map(|letter| letter.repeat(24));
-    let slots = format!("SLOT {s}{{{v}}};SLOT {t}{{{v}}};SLOT x{{{}}};", "a".repeat(more));
+    let fifteen = ('a'..='o').map(|letter| letter.to_string().repeat(24)).collect::<Vec<String>>().join(",");
+    let slots = format!("SLOT {s}{{{v}}};SLOT {t}{{{v}}};SLOT x{{{fifteen}}};SLOT y{{{v},{}}};", "a".repeat(more));
     let rule = format!("WHEN {s}*={v} IF NOT {}{s}|={v} THEN {t}:={v};", format!("{s}|={v} AND ").repeat(6));
-    (slots + &rule.repeat(126)).into_bytes()
+    (slots + &rule.repeat(504)).into_bytes()
 }
 
 #[test]
@@ -109,7 +111,7 @@ fn the_longest_print_and_one_byte_more() {
     let (longest, longer) = (long_text(8), long_text(9));
     assert!(longer.len() < PRINT_BYTES);
     let (result, output) = into(&longest, PRINT_BYTES);
-    assert_eq!((result, output.len()), (Ok(PRINT_BYTES), 65_535));
+    assert_eq!((result, output.len()), (Ok(PRINT_BYTES), 262_144));
     assert_eq!(printed(&output), Ok(output));
     assert_eq!(into(&longest, PRINT_BYTES - 1), (Err(refusal(33, 0)), vec![7; PRINT_BYTES - 1]));
     for room in [0, PRINT_BYTES, PRINT_BYTES + 1, PRINT_BYTES + 9] {
@@ -135,7 +137,7 @@ fn the_reading_s_refusals_come_first_with_both_numbers() {
     let long = format!("WHEN {} *= 1", "n".repeat(25));
     let nine = format!("WHEN x *= 1 IF {}", ["y |= 0 AND"; 9].join(" "));
     let refused = [
-        (vec![b' '; 65_536], (10, 0)),
+        (vec![b' '; 262_145], (10, 0)),
         (after(&[A, "("]), (11, 1)),
         (after(&[A, B, "WHEN x *= 1 IF y |= 0 AND TRUE THEN z := 1;"]), (12, 2)),
         (after(&[A, &long]), (13, 1)),
@@ -167,8 +169,9 @@ fn named(text: &[u8], table: &Table) -> (Vec<Vec<Vec<u8>>>, Table) {
 #[test]
 fn a_print_reads_as_its_text_and_prints_as_itself() {
     let (mut accepted, mut longer) = (0, 0);
-    for seed in 1..4_000 {
-        let text = any_file(&mut Rng::new(seed)).text;
+    let large = (0..LARGE).map(|seed| large_file(&mut Rng::new(seed), seed));
+    let files = (1..4_000).map(|seed| any_file(&mut Rng::new(seed))).chain(large);
+    for (seed, File { text, .. }) in files.enumerate() {
         let print = match printed(&text) {
             Ok(print) => print,
             Err(why) => {

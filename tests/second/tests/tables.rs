@@ -33,7 +33,10 @@ fn tables_that_are_31() {
     assert!(is_31(|table| table.width = 33));
     assert!(is_31(|table| table.width = 3));
     assert!(is_31(|table| table.width = 1));
-    assert!(is_31(|table| table.count = 256));
+    assert!(is_31(|table| table.count = 2_000));
+    assert!(is_31(|table| table.count = 2_001));
+    assert!(is_31(|table| table.count = u16::MAX));
+    assert!(is_31(|table| table.count += 256));
     assert!(is_31(|table| table.count = 3));
     assert!(is_31(|table| table.slots[0].count = 16));
     assert!(is_31(|table| table.slots[0].count = 0));
@@ -45,6 +48,8 @@ fn tables_that_are_31() {
     assert!(is_31(|table| table.rules[0].assigned = 5));
     assert!(is_31(|table| table.rules[0].stratum = 2));
     assert!(is_31(|table| table.rules[1].stratum = 3));
+    assert!(is_31(|table| table.rules[1].stratum += 256));
+    assert!(is_31(|table| table.rules[0].stratum = u16::MAX));
     assert!(is_31(|table| table.rules[1].stratum = 0));
     assert!(is_31(|table| table.rules[1].assignments[0].value = 2));
     assert!(is_31(|table| {
@@ -59,7 +64,7 @@ fn tables_that_are_not_31() {
         |table| table.rules[0].literals[1] = LiteralPlace { slot: 200, value: 99, ..LiteralPlace::default() }
     ));
     assert!(!is_31(|table| table.rules[2].stratum = 9));
-    assert!(!is_31(|table| table.slots[0].name = Name { start: u16::MAX, size: u16::MAX }));
+    assert!(!is_31(|table| table.slots[0].name = Name { start: u32::MAX, size: u32::MAX }));
     assert!(!is_31(|table| table.rules[1].assigned = 0));
     assert!(!is_31(|table| table.rules[0].tested = 2));
     assert!(!is_31(|table| table.rules[0].value = 0));
@@ -70,9 +75,9 @@ fn tables_that_are_not_31() {
 }
 
 /// Of some strata for the rules of a text, those that are not 31.
-fn passing(rules: &[&str], strata: &[&[u8]]) -> Vec<Vec<u8>> {
+fn passing(rules: &[&str], strata: &[&[u16]]) -> Vec<Vec<u16>> {
     let mut table = read(format!("{SLOTS}{}", rules.concat()).as_bytes()).unwrap();
-    let mut passes = |numbers: &&&[u8]| {
+    let mut passes = |numbers: &&&[u16]| {
         table.rules.iter_mut().zip(numbers.iter()).for_each(|(rule, number)| rule.stratum = *number);
         tested(&table).is_ok()
     };
@@ -81,7 +86,8 @@ fn passing(rules: &[&str], strata: &[&[u8]]) -> Vec<Vec<u8>> {
 
 #[test]
 fn a_table_carries_the_least_strata() {
-    let pairs: [&[u8]; 7] = [&[1, 1], &[2, 2], &[1, 2], &[2, 1], &[0, 0], &[0, 1], &[255, 255]];
+    let pairs: [&[u16]; 9] =
+        [&[1, 1], &[2, 2], &[1, 2], &[2, 1], &[0, 0], &[0, 1], &[255, 255], &[257, 257], &[258, 257]];
     assert_eq!(passing(&[A, C], &pairs), [[1, 1]]);
     assert_eq!(passing(&[A, B], &pairs), [[1, 1]]);
     assert_eq!(passing(&[D, E], &pairs), [[2, 1]]);
@@ -90,12 +96,12 @@ fn a_table_carries_the_least_strata() {
     assert_eq!(passing(&[own], &[&[0], &[1], &[2]]), [[1]]);
     let [first, second] = ["WHEN x *= 1 IF NOT y *= 1 THEN z := 1;", "WHEN z *= 1 IF TRUE THEN x := 1;"];
     let lowest = "WHEN y *= 0 IF TRUE THEN y := 1;";
-    let threes: [&[u8]; 6] = [&[2, 2, 1], &[3, 3, 1], &[1, 1, 1], &[2, 1, 1], &[1, 2, 1], &[3, 3, 2]];
+    let threes: [&[u16]; 6] = [&[2, 2, 1], &[3, 3, 1], &[1, 1, 1], &[2, 1, 1], &[1, 2, 1], &[3, 3, 2]];
     assert_eq!(passing(&[first, second, lowest], &threes), [[2, 2, 1]]);
     let [bar, empty] = ["WHEN x *= 1 IF NOT y *= NONE THEN z := 1;", "WHEN x *= 1 IF TRUE THEN y := NONE;"];
     assert_eq!(passing(&[bar, empty], &pairs), [[2, 1]]);
     assert_eq!(passing(&["WHEN y *= NONE IF TRUE THEN z := 1;", empty], &pairs), [[1, 1]]);
-    let chain: [&[u8]; 6] = [&[1, 1, 1], &[1, 2, 3], &[1, 1, 2], &[2, 2, 2], &[1, 1, 0], &[3, 2, 1]];
+    let chain: [&[u16]; 6] = [&[1, 1, 1], &[1, 2, 3], &[1, 1, 2], &[2, 2, 2], &[1, 1, 0], &[3, 2, 1]];
     assert_eq!(passing(&[A, B, "WHEN y *= 1 IF TRUE THEN x := 0;"], &chain), [[1, 1, 1]]);
 }
 
@@ -158,8 +164,8 @@ fn shows(fault: Fault, table: &Table) -> bool {
 }
 
 #[test]
-fn five_inputs_of_tables_show_each_fault_of_strata_and_31() {
-    let tables: Vec<Box<Table>> = (1..=5).flat_map(|seed| tables(&generated(seed))).collect();
+fn ten_inputs_of_tables_show_each_fault_of_strata_and_31() {
+    let tables: Vec<Box<Table>> = (1..=10).flat_map(|seed| tables(&generated(seed))).collect();
     let faults = [
         Fault::HighestOnCircle,
         Fault::BehindCircle,
@@ -184,6 +190,11 @@ fn five_inputs_of_tables_show_each_fault_of_strata_and_31() {
         Fault::EachAsAsked,
         Fault::FallingStrata,
         Fault::ZeroStratum,
+        Fault::StrataByLastByte,
+        Fault::StrataCut,
+        Fault::StrataHeld,
+        Fault::CircleRuleCut,
+        Fault::CountHeld,
         Fault::UnusedTested,
         Fault::NoAssignments,
         Fault::NoneTriggerLacking,

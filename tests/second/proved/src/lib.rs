@@ -27,16 +27,21 @@ fn checked<A>(fits: bool, result: Result<A, Refusal>) -> Result<A, Refusal> {
 
 /// A name's place, or its refusal; a refusal comes with no place.
 fn place(name: RlName) -> Result<Name, Refusal> {
-    let number = |n: usize| u16::try_from(n).expect("a number of a table's name");
+    let number = |n: usize| u32::try_from(n).expect("a number of a table's name");
     let fits = name.number == 0 || (name.start, name.size) == (0, 0);
     checked(fits, given(name.number, 0, Name { start: number(name.start), size: number(name.size) }))
 }
 
-/// A pair in the rule language with a mark between, slots and values named by their numbers.
+/// The name of a slot or a value by its number: one digit or letter.
+fn name(number: u8) -> char {
+    char::from_digit(number.into(), 36).expect("a digit or letter for each slot and value")
+}
+
+/// A pair in the rule language with a mark between.
 fn pair_text((slot, value): Pair, mark: &str) -> String {
     match value {
-        NONE => format!("{slot} {mark} NONE"),
-        _ => format!("{slot} {mark} {value}"),
+        NONE => format!("{}{mark}NONE", name(slot)),
+        _ => format!("{}{mark}{}", name(slot), name(value)),
     }
 }
 
@@ -44,22 +49,24 @@ fn pair_text((slot, value): Pair, mark: &str) -> String {
 fn literal_text(literal: &Literal) -> String {
     let mark = if literal.becomes { "*=" } else { "|=" };
     let not = if literal.negated { "NOT " } else { "" };
-    format!(" AND {not}{}", pair_text(literal.pair, mark))
+    format!("{not}{}", pair_text(literal.pair, mark))
 }
 
 /// A rule in the rule language.
 fn rule_text(rule: &Rule) -> String {
-    let condition: String = rule.literals.iter().map(literal_text).collect();
+    let literals: Vec<String> = rule.literals.iter().map(literal_text).collect();
+    let condition = if literals.is_empty() { "TRUE".to_string() } else { literals.join(" AND ") };
     let assigned: Vec<String> = rule.assignments.iter().map(|pair| pair_text(*pair, ":=")).collect();
-    format!("WHEN {} IF TRUE{condition} THEN {{{}}};\n", pair_text(rule.trigger, "*="), assigned.join(","))
+    let list = if assigned.len() == 1 { format!(" {}", assigned[0]) } else { format!("{{{}}}", assigned.join(",")) };
+    format!("WHEN {} IF {condition} THEN{list};", pair_text(rule.trigger, "*="))
 }
 
-/// A file with the rules of a program.
+/// A file with the rules of a program, no longer than any other that has them.
 fn text_of(program: &Program) -> String {
     let mut text = String::new();
-    for (slot, last) in program.lasts.iter().enumerate() {
-        let values: Vec<String> = (1..=*last).map(|value| value.to_string()).collect();
-        writeln!(text, "SLOT {slot} {{{}}};", values.join(",")).expect("a string can be written");
+    for (slot, last) in (0..).zip(&program.lasts) {
+        let values: Vec<String> = (1..=*last).map(|value| name(value).to_string()).collect();
+        write!(text, "SLOT {}{{{}}};", name(slot), values.join(",")).expect("a string can be written");
     }
     text + &program.rules.iter().map(rule_text).collect::<String>()
 }
@@ -122,7 +129,7 @@ impl Engine for Proved {
     }
 
     /// The strata of a file that has the table's rules.
-    fn strata(&mut self, table: &Table) -> Result<Vec<u8>, Refusal> {
+    fn strata(&mut self, table: &Table) -> Result<Vec<u16>, Refusal> {
         let (refused, read) = self.read(text_of(&program_in(table)).as_bytes());
         refused.map_or_else(|| Ok(read.rules[..read.count as usize].iter().map(|rule| rule.stratum).collect()), Err)
     }

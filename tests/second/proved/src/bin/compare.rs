@@ -4,12 +4,15 @@ use std::path::{Path, PathBuf};
 use std::process::{exit, Command};
 
 use proved::Proved;
-use second::compare::{compare_seeds, shrunk, store};
-use second::gen::{any_file, card, slip, Rng};
+use second::compare::{compare_seeds, shrunk, store, Seed};
+use second::gen::{card, program_file, slip, Rng};
 use second::gen_editors::editor_file;
 use second::listing::listing;
 use second::program_cases::NAMES;
 use second::table_lines;
+
+/// How many rounds there are for one large file.
+const ROUNDS_TO_A_LARGE_FILE: u64 = 200;
 
 /// What the command line asks for.
 struct Asked {
@@ -54,7 +57,7 @@ fn try_program(asked: &Asked, program: &Path) -> bool {
     std::fs::create_dir_all(&folder).expect("the folder can be made");
     for seed in asked.seed..asked.seed + asked.rounds {
         let mut rng = Rng::new(seed);
-        let file = any_file(&mut rng);
+        let file = program_file(&mut rng, seed);
         let (card, slip) = (card(&mut rng, &file.sketch), slip(&mut rng, &file.sketch));
         let editor = editor_file(&mut rng);
         let wanted = listing(&file.text, &card, &slip, &editor);
@@ -107,14 +110,17 @@ fn try_tables(asked: &Asked, program: &Path) -> bool {
 /// Compares the proved engine; a failing input is made small and kept.
 fn try_proved(asked: &Asked) -> bool {
     let mut engine = Proved::default();
-    let failing = match compare_seeds(&mut engine, asked.seed, asked.rounds) {
-        (Some(failing), _) => failing,
-        (None, tried) => {
-            println!("proved: no difference in {tried} seeds");
+    let large = asked.rounds / ROUNDS_TO_A_LARGE_FILE;
+    let (found, _) = compare_seeds(&mut engine, Seed::Any, asked.seed, asked.rounds);
+    let found = found.or_else(|| compare_seeds(&mut engine, Seed::Large, asked.seed, large).0);
+    let failing = match found {
+        Some(failing) => failing,
+        None => {
+            println!("proved: no difference in {} seeds and {large} large files", asked.rounds);
             return true;
         }
     };
-    println!("proved: DIFFERS at seed {}, {}", failing.seed, failing.difference.place);
+    println!("proved: DIFFERS at seed {:?}, {}", failing.seed, failing.difference.place);
     if let Some(out) = &asked.out {
         store(out, &shrunk(&mut engine, &failing)).expect("the folder can be written");
     }
