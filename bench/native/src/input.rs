@@ -10,8 +10,17 @@ pub struct Input {
     pub text: Vec<u8>,
     pub card: Vec<u8>,
     pub slip: Vec<u8>,
-    /// Whether it stands in the line of growing sizes.
-    pub grows: bool,
+    /// The series that it stands in, if any.
+    pub series: Option<Series>,
+}
+
+/// A series of inputs of growing size.
+#[derive(Clone, Copy, PartialEq, Eq)]
+pub enum Series {
+    /// From the smallest to the largest, all measures growing.
+    Growing,
+    /// The same kind of rules, their number growing alone.
+    Alike,
 }
 
 /// The text of lines, filled with white space between them up to a length.

@@ -1,24 +1,38 @@
 //! The inputs of the benchmark: rule texts of growing size, and texts at the edges.
 
 use crate::chains::chains;
-use crate::input::{card_bytes, filled, slip_bytes, Input};
+use crate::input::{card_bytes, filled, slip_bytes, Input, Series};
 use crate::read::TEXT;
 use crate::rng::Rng;
+use crate::table::RULES;
 
-/// The measures of a generated text: `levels` are how many rules a change goes through, `longest` the bytes of its longest name.
+/// The most bytes of a rule text that the program `rl` takes.
+const PROGRAM_TEXT: usize = 65_535;
+
+/// The measures of a generated text.
+#[derive(Clone, Copy)]
 struct Shape {
     slots: usize,
     values: usize,
     rules: usize,
     literals: usize,
     assignments: usize,
+    /// How many rules a change goes through.
     levels: usize,
+    /// The bytes of the longest name.
     longest: usize,
+    /// The rule, from 0, from which on one in four stays idle.
+    idle_from: usize,
+    /// Whether tokens stand without white space where they can.
+    close: bool,
+    /// The bytes that the text is filled up to.
+    length: usize,
     kind: Kind,
+    series: Option<Series>,
 }
 
 /// What sets a text apart from others of its measures.
-#[derive(PartialEq)]
+#[derive(Clone, Copy, PartialEq)]
 enum Kind {
     /// All rules are in stratum 1, and every change is to a value.
     Plain,
@@ -28,21 +42,56 @@ enum Kind {
     Withdrawn,
 }
 
+/// As many slots, values, literals and assignments as there can be.
+const FULL: Shape = Shape {
+    slots: 32,
+    values: 15,
+    rules: 255,
+    literals: 8,
+    assignments: 4,
+    levels: 7,
+    longest: 5,
+    idle_from: 32,
+    close: false,
+    length: 0,
+    kind: Kind::Plain,
+    series: Some(Series::Growing),
+};
+
+/// As many rules and bytes as the program `rl` takes.
+const PROGRAM: Shape = Shape { length: PROGRAM_TEXT, ..FULL };
+
+/// As many rules and bytes as the library takes.
+const LARGEST: Shape = Shape { rules: RULES, literals: 6, longest: 1, length: TEXT, ..FULL };
+
 /// Shapes from small to the limits.
-const SHAPES: [Shape; 6] = [
-    Shape { slots: 3, values: 2, rules: 2, literals: 1, assignments: 1, levels: 2, longest: 4, kind: Kind::Plain },
-    Shape { slots: 6, values: 3, rules: 8, literals: 2, assignments: 1, levels: 2, longest: 8, kind: Kind::Plain },
-    Shape { slots: 12, values: 4, rules: 32, literals: 3, assignments: 2, levels: 3, longest: 8, kind: Kind::Plain },
-    Shape { slots: 24, values: 8, rules: 96, literals: 4, assignments: 2, levels: 5, longest: 9, kind: Kind::Plain },
-    Shape { slots: 32, values: 15, rules: 192, literals: 6, assignments: 3, levels: 7, longest: 5, kind: Kind::Plain },
-    Shape { slots: 32, values: 15, rules: 255, literals: 8, assignments: 4, levels: 7, longest: 5, kind: Kind::Plain },
+const SHAPES: [Shape; 9] = [
+    Shape { slots: 3, values: 2, rules: 2, literals: 1, assignments: 1, levels: 2, longest: 4, ..FULL },
+    Shape { slots: 6, values: 3, rules: 8, literals: 2, assignments: 1, levels: 2, longest: 8, ..FULL },
+    Shape { slots: 12, values: 4, rules: 32, literals: 3, assignments: 2, levels: 3, longest: 8, ..FULL },
+    Shape { slots: 24, values: 8, rules: 96, literals: 4, assignments: 2, levels: 5, longest: 9, ..FULL },
+    Shape { rules: 192, literals: 6, assignments: 3, ..FULL },
+    PROGRAM,
+    Shape { rules: 500, ..FULL },
+    Shape { rules: 1000, ..FULL },
+    LARGEST,
 ];
 
-/// A name of letters that is not among those given.
+/// How many rules the files of one kind have.
+const ALIKE: [usize; 4] = [255, 500, 1000, RULES];
+
+/// A letter by its number, the small ones first.
+fn letter(number: usize) -> char {
+    let byte = number as u8;
+    char::from(if byte < 26 { b'a' + byte } else { b'A' + byte - 26 })
+}
+
+/// A name of small letters, or of any one letter, that is not among those given.
 fn name(rng: &mut Rng, longest: usize, taken: &[String]) -> String {
+    let letters = if longest == 1 { 52 } else { 26 };
     loop {
         let size = longest.div_ceil(2) + rng.below(longest / 2 + 1);
-        let name: String = (0..size).map(|_| (b'a' + rng.below(26) as u8) as char).collect();
+        let name: String = (0..size).map(|_| letter(rng.below(letters))).collect();
         if !taken.contains(&name) {
             return name;
         }
@@ -117,8 +166,16 @@ impl Plan<'_> {
     }
 }
 
-/// The input of a shape, its text filled up to a length.
-fn generated(shape: &Shape, length: usize) -> Input {
+/// A line without the spaces beside marks.
+fn closed(line: &str) -> String {
+    let bytes = line.as_bytes();
+    let is_word = |at: usize| bytes[at].is_ascii_alphanumeric();
+    let kept = |at: &usize| bytes[*at] != b' ' || is_word(at - 1) && is_word(at + 1);
+    (0..bytes.len()).filter(kept).map(|at| char::from(bytes[at])).collect()
+}
+
+/// The input of a shape.
+fn generated(shape: &Shape) -> Input {
     let mut rng = Rng(shape.rules as u64);
     let slots = names(&mut rng, shape.slots, shape.longest);
     let values = slots
@@ -133,39 +190,63 @@ fn generated(shape: &Shape, length: usize) -> Input {
     let mut lines: Vec<String> = (0..shape.slots)
         .map(|slot| format!("SLOT {} {{{}}};", plan.slots[slot], plan.values[slot][1..].join(", ")))
         .collect();
+    let is_idle = |at: usize| at % 4 == 3 && at >= shape.idle_from;
     let mut rules: Vec<String> =
-        (0..shape.rules).map(|at| plan.rule(&mut rng, 1 + at % shape.levels, at % 4 == 3 && at >= 32)).collect();
+        (0..shape.rules).map(|at| plan.rule(&mut rng, 1 + at % shape.levels, is_idle(at))).collect();
     rng.shuffle(&mut rules);
     lines.extend(rules);
+    if shape.close {
+        lines.iter_mut().for_each(|line| *line = closed(line));
+    }
     let changes: Vec<(usize, usize)> = plan.slots_of(0, 1).iter().map(|slot| (*slot, plan.next[*slot])).collect();
-    let kind = match shape.kind {
-        Kind::Plain => String::new(),
-        Kind::Layered => format!(", {} strata", shape.levels),
-        Kind::Withdrawn => ", withdrawn".to_string(),
-    };
     Input {
-        name: format!("{} slots, {} rules, {} in a condition{kind}", shape.slots, shape.rules, shape.literals),
-        text: filled(&lines, length),
+        name: shape.name(),
+        text: filled(&lines, shape.length),
         card: card_bytes(&plan.card),
         slip: slip_bytes(&changes),
-        grows: shape.kind == Kind::Plain,
+        series: shape.series,
     }
 }
 
-/// A text of white space only.
-fn white() -> Input {
-    let name = "white space only".to_string();
-    Input { name, text: vec![b' '; TEXT], card: vec![0], slip: vec![0], grows: false }
+impl Shape {
+    /// The name of its input.
+    fn name(&self) -> String {
+        let kind = match self.kind {
+            Kind::Plain if self.series == Some(Series::Alike) => ", alike".to_string(),
+            Kind::Plain if self.close => ", close".to_string(),
+            Kind::Plain => String::new(),
+            Kind::Layered => format!(", {} strata", self.levels),
+            Kind::Withdrawn => ", withdrawn".to_string(),
+        };
+        format!("{} slots, {} rules, {} in a condition{kind}", self.slots, self.rules, self.literals)
+    }
+
+    /// The same in strata, and one with NONE for every change.
+    fn variants(self) -> [Shape; 2] {
+        [Kind::Layered, Kind::Withdrawn].map(|kind| Shape { kind, series: None, ..self })
+    }
 }
 
-/// All inputs, the growing ones first; the largest is filled up to the longest text, and so is the same in strata and the same with NONE for every change.
+/// A text of so many bytes of white space only.
+fn white(length: usize) -> Input {
+    let name = if length == TEXT { "white space only, as much as there can be" } else { "white space only" };
+    Input { name: name.to_string(), text: vec![b' '; length], card: vec![0], slip: vec![0], series: None }
+}
+
+/// The largest input that the program `rl` takes.
+pub fn program_input() -> Input {
+    generated(&PROGRAM)
+}
+
+/// All inputs, the growing ones first. The largest with NONE for every change has fewer literals and assignments, since that is a longer word than a value; with as many literals as there can be it has no print.
 pub fn inputs() -> Vec<Input> {
-    let (largest, smaller) = SHAPES.split_last().expect("there are shapes");
-    let mut inputs: Vec<Input> = smaller.iter().map(|shape| generated(shape, 0)).collect();
-    inputs.push(generated(largest, TEXT));
-    inputs.push(generated(&Shape { kind: Kind::Layered, ..*largest }, TEXT));
-    inputs.push(generated(&Shape { kind: Kind::Withdrawn, ..*largest }, TEXT));
+    let [layered, withdrawn] = LARGEST.variants();
+    let withdrawn = Shape { literals: 5, assignments: 3, ..withdrawn };
+    let close = Shape { literals: 8, close: true, series: None, ..LARGEST };
+    let alike = ALIKE.map(|rules| Shape { rules, idle_from: 0, length: 0, series: Some(Series::Alike), ..LARGEST });
+    let shapes = SHAPES.into_iter().chain(PROGRAM.variants()).chain([layered, withdrawn, close]).chain(alike);
+    let mut inputs: Vec<Input> = shapes.map(|shape| generated(&shape)).collect();
     inputs.extend(chains());
-    inputs.push(white());
+    inputs.extend([PROGRAM_TEXT, TEXT].map(white));
     inputs
 }

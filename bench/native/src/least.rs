@@ -1,12 +1,13 @@
 //! Whether the strata that a table carries are the least, in one pass over the rules and one along those that it leaves.
 
+use crate::room::Room;
 use crate::table::{place, Literal, Rule, LITERALS, PAIRS, RULES};
 
 /// The places of a rule where it can wait for a pair: its trigger and its literals.
 const PLACES: usize = LITERALS + 1;
 
 /// For each pair the highest stratum of the rules that assign it, or of some of them; 0 where there is none.
-pub type Numbers = [u8; PAIRS];
+pub type Numbers = [u16; PAIRS];
 
 /// Raises the pairs that a rule assigns to its stratum.
 #[inline]
@@ -47,7 +48,8 @@ fn is_level(numbers: &Numbers, rule: &Rule) -> bool {
 /// A stratum is held as the first, by a pair under NOT that is one lower, or by a pair of the same number that is tested plainly and that a held rule assigns.
 pub fn are_least(rules: &[Rule], high: &Numbers) -> bool {
     let mut held = [0; PAIRS];
-    let mut left = [0; RULES];
+    let mut left = Room::<u16, RULES>::new();
+    let left = left.filled(rules.len(), 0);
     let mut count = 0;
     for (at, rule) in rules.iter().enumerate() {
         if u32::from(rule.stratum) < asked(high, rule) {
@@ -59,7 +61,7 @@ pub fn are_least(rules: &[Rule], high: &Numbers) -> bool {
         if is_above(high, rule) || is_level(&held, rule) {
             raise(&mut held, rule);
         } else {
-            left[count] = at as u8;
+            left[count] = at as u16;
             count += 1;
         }
     }
@@ -68,11 +70,14 @@ pub fn are_least(rules: &[Rule], high: &Numbers) -> bool {
 
 /// Whether the rules left are held, given the highest numbers of held rules so far.
 /// A rule left stands in a chain for each pair that can hold it; a chain is followed once, when a held rule assigns its pair.
-fn hold(rules: &[Rule], left: &[u8], high: &Numbers, mut held: Numbers) -> bool {
+fn hold(rules: &[Rule], left: &[u16], high: &Numbers, mut held: Numbers) -> bool {
     let mut heads = [0u16; PAIRS];
-    let mut nexts = [0u16; RULES * PLACES];
-    let mut is_held = [true; RULES];
-    let mut line = [0u8; RULES];
+    let mut nexts = Room::<u16, { RULES * PLACES }>::new();
+    let nexts = nexts.filled(rules.len() * PLACES, 0);
+    let mut is_held = Room::<bool, RULES>::new();
+    let is_held = is_held.filled(rules.len(), true);
+    let mut line = Room::<u16, RULES>::new();
+    let line = line.filled(left.len(), 0);
     let mut count = 0;
     for at in left {
         let rule = &rules[*at as usize];
@@ -111,7 +116,7 @@ fn hold(rules: &[Rule], left: &[u8], high: &Numbers, mut held: Numbers) -> bool 
                 link = nexts[link as usize - 1];
                 if !is_held[at] {
                     is_held[at] = true;
-                    line[count] = at as u8;
+                    line[count] = at as u16;
                     count += 1;
                 }
             }

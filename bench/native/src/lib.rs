@@ -20,6 +20,7 @@ pub mod raw;
 pub mod read;
 pub mod response;
 pub mod rng;
+pub mod room;
 pub mod strata;
 pub mod systems;
 pub mod table;

@@ -2,7 +2,7 @@
 
 use native::draw::{svg, Line, Panel};
 use native::engine::{Engine, Native};
-use native::input::Input;
+use native::input::{Input, Series};
 use native::inputs::inputs;
 use native::mark_tables;
 use native::measure::{result, table_times, text_times, ROUNDS};
@@ -13,10 +13,10 @@ use native::Refusal;
 /// What was measured on an input: its work, and the times of the proved library and of the native engine; the test 31 and a response only where the text is accepted.
 struct Row {
     name: String,
-    grows: bool,
+    series: Option<Series>,
     bytes: usize,
     rules: usize,
-    strata: u8,
+    strata: u16,
     pairs: usize,
     outcome: String,
     reading: [f64; 2],
@@ -48,7 +48,7 @@ fn row(proved: &mut dyn Engine, native: &mut dyn Engine, input: &Input) -> Optio
     let times = ours.reading.is_ok().then(|| table_times([proved, native], input, &ours.table));
     Some(Row {
         name: input.name.clone(),
-        grows: input.grows,
+        series: input.series,
         bytes: input.text.len(),
         rules: ours.table.count.into(),
         strata: ours.table.rules.iter().map(|rule| rule.stratum).max().unwrap_or(0),
@@ -116,7 +116,7 @@ fn print_growth(rows: &[Row]) {
     );
     println!("| bytes | reading, proved | reading, native | pairs | response, proved | response, native |");
     println!("|---|---|---|---|---|---|");
-    for row in rows.iter().filter(|row| row.grows) {
+    for row in rows.iter().filter(|row| row.series == Some(Series::Growing)) {
         let [a, b] = row.reading.map(|time| time * 1e3 / row.bytes as f64);
         let [c, d] = row.response.unwrap_or_default().map(|time| time * 1e3 / row.pairs as f64);
         println!("| {:>5} | {a:>8.2} | {b:>8.2} | {:>5} | {c:>8.2} | {d:>8.2} |", row.bytes, row.pairs);
@@ -133,13 +133,15 @@ fn panel(title: &'static str, work: &'static str, points: impl Fn(usize) -> Vec<
 fn drawing(rows: &[Row], mark_rows: &[mark_tables::Row]) -> String {
     let (bytes, pairs) = ("bytes of text", "triggers, literals and assignments in the table");
     let points = |point: fn(&Row, usize) -> (f64, f64)| {
-        move |engine: usize| rows.iter().filter(|row| row.grows).map(|row| point(row, engine)).collect()
+        move |engine: usize| {
+            rows.iter().filter(|row| row.series == Some(Series::Growing)).map(|row| point(row, engine)).collect()
+        }
     };
     let reading = points(|row, engine| (row.bytes as f64, row.reading[engine]));
     let printing = points(|row, engine| (row.bytes as f64, row.printing[engine]));
     let response = points(|row, engine| (row.pairs as f64, row.response.unwrap_or_default()[engine]));
     let by_marks = |engine: usize| {
-        let growing = mark_rows.iter().filter(|row| row.grows);
+        let growing = mark_rows.iter().filter(|row| row.series == Some(Series::Growing));
         let mut points: Vec<(f64, f64)> = growing.map(|row| row.point(engine)).collect();
         points.sort_by(|one, other| one.0.total_cmp(&other.0));
         points

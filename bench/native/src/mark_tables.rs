@@ -1,7 +1,7 @@
 //! The response by marks and the reading without test 18 measured beside the strata response.
 
 use crate::engine::Engine;
-use crate::input::Input;
+use crate::input::{Input, Series};
 use crate::mark_inputs::mark_inputs;
 use crate::measure::{mark_result, mark_times, Outcome, ROUNDS};
 use crate::table::Table;
@@ -9,7 +9,7 @@ use crate::table::Table;
 /// What was measured on an input: its work, the outcomes by strata and by marks, and the times of the two engines; the strata response only where the text is accepted.
 pub struct Row {
     pub name: String,
-    pub grows: bool,
+    pub series: Option<Series>,
     rules: usize,
     tests: usize,
     assigned: usize,
@@ -47,7 +47,7 @@ fn row(first: &mut dyn Engine, second: &mut dyn Engine, input: &Input) -> Option
     let accepted = ours.readings[0].is_ok();
     Some(Row {
         name: input.name.clone(),
-        grows: input.grows,
+        series: input.series,
         rules: ours.table.count.into(),
         tests,
         assigned,
@@ -86,7 +86,8 @@ impl Row {
 
 /// Measures the response by marks on its inputs, and on others, which do not stand in its line of growing sizes; None for an input where results differ.
 pub fn measured(first: &mut dyn Engine, second: &mut dyn Engine, others: Vec<Input>) -> Vec<Option<Row>> {
-    let others = others.into_iter().map(|input| Input { grows: false, ..input });
+    let series = |input: &Input| input.series.filter(|series| *series == Series::Alike);
+    let others = others.into_iter().map(|input| Input { series: series(&input), ..input });
     let inputs: Vec<Input> = mark_inputs().into_iter().chain(others).collect();
     let mut rows: Vec<Option<Row>> = inputs.iter().map(|input| row(first, second, input)).collect();
     for _ in 1..ROUNDS {
@@ -146,7 +147,7 @@ pub fn print_rows(rows: &[Row]) {
     println!("\nGrowth of the response by marks: nanoseconds for each test and assignment.\n");
     println!("| input | tests and assignments | proved | native |");
     println!("|---|---|---|---|");
-    for row in rows.iter().filter(|row| row.grows) {
+    for row in rows.iter().filter(|row| row.series == Some(Series::Growing)) {
         let [proved, native] = row.by_marks.map(|time| time * 1e3 / row.pairs());
         println!("| {:<52} | {:>5} | {proved:>8.2} | {native:>8.2} |", row.name, row.pairs());
     }

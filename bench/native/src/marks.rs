@@ -2,6 +2,7 @@
 
 use crate::cards::Changes;
 use crate::firing::Fired;
+use crate::room::Room;
 use crate::table::{place, Rule, LITERALS, PAIRS, ROW, RULES, SLOTS};
 use crate::test31::Lasts;
 
@@ -27,11 +28,11 @@ struct Marking<'a> {
     slots: [Slot; SLOTS],
     /// The lists of the tests of each unknown pair, the plain ones and those under NOT.
     tests: [[u16; PAIRS]; 2],
-    nexts: [u16; RULES * PLACES],
+    nexts: &'a mut [u16],
     /// For each rule how many of its tests are not yet true, or FALSE.
-    waits: [u8; RULES],
+    waits: &'a mut [u8],
     /// For each pair how many rules assign it that are not false.
-    live: [u8; PAIRS],
+    live: [u16; PAIRS],
     /// The pairs just marked that have tests, and how many were put there.
     line: [u16; PAIRS],
     count: usize,
@@ -206,16 +207,18 @@ pub fn mark(rules: &[Rule], lasts: &Lasts, values: &[u8; SLOTS], changes: &mut C
         let declared = if lasts[slot] == 0 { 0 } else { ((2u32 << lasts[slot]) - 1) as u16 };
         Slot { declared, had: 1 << values[slot], ..Slot::default() }
     };
+    let mut nexts = Room::<u16, { RULES * PLACES }>::new();
+    let mut waits = Room::<u8, RULES>::new();
     let mut marking = Marking {
         rules,
         slots: std::array::from_fn(slot),
         tests: [[0; PAIRS]; 2],
-        nexts: [0; RULES * PLACES],
-        waits: [0; RULES],
+        nexts: nexts.filled(rules.len() * PLACES, 0),
+        waits: waits.filled(rules.len(), 0),
         live: [0; PAIRS],
         line: [0; PAIRS],
         count: 0,
-        fired: [0; 4],
+        fired: Fired::default(),
     };
     marking.mark(changes).map_err(|Clash| 41)?;
     *changes = marking.slots.map(|marks| marks.positive);

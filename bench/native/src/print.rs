@@ -6,8 +6,8 @@ use crate::table::{Rule, Table};
 use crate::text::{Key, NAME};
 use crate::{refusal, Refusal};
 
-/// Bytes that the print of every table fits in, and what is copied past a name: 32 slot lines of 424 and 255 rules of 770 at most.
-const ROOM: usize = 1 << 18;
+/// Bytes that the print of every table fits in, and what is copied past a name: 32 slot lines of 424 and 2,000 rules of 770 at most.
+const ROOM: usize = 1 << 21;
 
 /// Where prints are made, kept from one to the next.
 pub struct Printer {
@@ -59,7 +59,7 @@ impl Pen<'_> {
 
     /// Writes a name: its whole key, of which so many bytes are used.
     #[inline]
-    fn name(&mut self, key: &Key, size: u16) {
+    fn name(&mut self, key: &Key, size: u32) {
         let place = &mut self.room[self.at..self.at + NAME];
         for (to, from) in place.chunks_exact_mut(8).zip(key) {
             to.copy_from_slice(&from.to_le_bytes());

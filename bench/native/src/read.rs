@@ -7,7 +7,7 @@ use crate::text::{Kind, Scanner, NAME};
 use crate::{refusal, Refusal};
 
 /// The most bytes of a rule text.
-pub const TEXT: usize = 65_535;
+pub const TEXT: usize = 262_144;
 
 /// What a reading needs beside the table, kept from one to the next.
 pub struct Workspace {
@@ -22,7 +22,7 @@ impl Workspace {
     }
 }
 
-/// Reads a text into a table with stratum 0 throughout, or gives a refusal 10 to 17 and leaves the table without slots or rules.
+/// Reads a text into a table that is empty or from another reading, with stratum 0 throughout, or gives a refusal 10 to 17 and leaves the table without slots or rules.
 pub fn read_unlayered(text: &[u8], table: &mut Table, workspace: &mut Workspace) -> Result<(), Refusal> {
     table.clear();
     if text.len() > TEXT {
@@ -37,7 +37,7 @@ pub fn read_unlayered(text: &[u8], table: &mut Table, workspace: &mut Workspace)
     read
 }
 
-/// Reads a text into a table, or gives a refusal 10 to 18 and leaves the table without slots or rules.
+/// Reads a text into a table that is empty or from another reading, or gives a refusal 10 to 18 and leaves the table without slots or rules.
 pub fn read(text: &[u8], table: &mut Table, workspace: &mut Workspace) -> Result<(), Refusal> {
     read_unlayered(text, table, workspace)?;
     let layered = strata::layer(table, &mut workspace.graph).map_err(|rule| refusal(18, rule));

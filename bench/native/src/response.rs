@@ -95,10 +95,8 @@ fn answer(
     }
     write_card(&values, table.width as usize, outputs.card);
     let length = write_slip(&changes, outputs.changes);
-    let mut record = [0; 32];
-    record.chunks_exact_mut(8).zip(fired).for_each(|(bytes, word)| bytes.copy_from_slice(&word.to_be_bytes()));
-    let size = bytes_for(table.count as usize);
-    outputs.fired[..size].copy_from_slice(&record[..size]);
+    let record = outputs.fired[..bytes_for(table.count as usize)].chunks_mut(8);
+    record.zip(fired).for_each(|(bytes, word)| bytes.copy_from_slice(&word.to_be_bytes()[..bytes.len()]));
     Ok(Answer { length, fired: fired.iter().map(|word| word.count_ones() as usize).sum() })
 }
 

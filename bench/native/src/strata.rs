@@ -58,7 +58,7 @@ impl Graph {
     /// Lists who assigns each pair, and forgets the last search.
     fn build(&mut self, rules: &[Rule]) {
         self.heads = [0; PAIRS];
-        self.lows = [0; NODES];
+        self.lows[..PAIRS + rules.len()].fill(0);
         (self.top, self.met, self.lowest) = (0, 0, RULES);
         for (at, rule) in rules.iter().enumerate() {
             for (k, a) in rule.assignments().iter().enumerate() {
@@ -128,7 +128,7 @@ impl Graph {
         self.leave(visit);
     }
 
-    /// Visits a rule that was not met, and the pairs that it tests by `*=`; no visit is more than 511 deep in others, since each is of another node and rules and pairs take turns.
+    /// Visits a rule that was not met, and the pairs that it tests by `*=`; no visit is more than 1,024 deep in others, since each is of another node, rules and pairs take turns, and there are 512 pairs.
     fn visit_rule(&mut self, rules: &[Rule], at: usize) {
         let rule = &rules[at];
         let mut visit = self.enter(PAIRS + at, 1);
@@ -166,6 +166,6 @@ pub fn layer(table: &mut Table, graph: &mut Graph) -> Result<(), usize> {
     if graph.lowest < RULES {
         return Err(graph.lowest + 1);
     }
-    rules.iter_mut().zip(&graph.numbers[PAIRS..]).for_each(|(rule, number)| rule.stratum = *number as u8);
+    rules.iter_mut().zip(&graph.numbers[PAIRS..]).for_each(|(rule, number)| rule.stratum = *number);
     Ok(())
 }

@@ -21,11 +21,13 @@ impl Rule {
 }
 
 impl Table {
-    /// Clears every place.
+    /// Clears a table that a reading filled: the slots and the rules used, and after each the one that it may have begun.
     #[inline]
     pub fn clear(&mut self) {
-        // SAFETY: all fields are numbers and flags, for which zero is a value.
-        unsafe { std::ptr::write_bytes(self, 0, 1) }
+        let (width, count) = (self.width as usize, self.count as usize);
+        self.slots[..SLOTS.min(width + 1)].fill(Slot::default());
+        self.rules[..RULES.min(count + 1)].fill(Rule::default());
+        (self.width, self.count) = (0, 0);
     }
 }
 

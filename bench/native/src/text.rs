@@ -118,7 +118,7 @@ impl<'a> Scanner<'a> {
     /// Where the name just scanned stands.
     #[inline]
     pub fn name(&self) -> Name {
-        Name { start: self.start as u16, size: self.size as u16 }
+        Name { start: self.start as u32, size: self.size as u32 }
     }
 
     /// The next token.

@@ -7,7 +7,7 @@ use std::time::Instant;
 
 use native::cards::{unpack_card, unpack_slip};
 use native::engine::{Engine, Native};
-use native::inputs::inputs;
+use native::inputs::program_input;
 use native::measure::EDITOR;
 use native::systems::Case;
 use native::test31::tested;
@@ -87,9 +87,9 @@ fn best(systems: &[System]) -> Vec<Option<(f64, Changes)>> {
     best
 }
 
-/// Writes the largest input of the benchmark into a folder.
+/// Writes the largest input that the program takes into a folder.
 fn write_largest(folder: &Path) {
-    let input = inputs().into_iter().rfind(|input| input.grows).expect("there are inputs");
+    let input = program_input();
     std::fs::create_dir_all(folder).expect("the folder is made");
     let files =
         [("rules.txt", input.text), ("card.bin", input.card), ("slip.bin", input.slip), ("editor.bin", vec![EDITOR])];
