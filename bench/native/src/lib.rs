@@ -1,5 +1,6 @@
 //! A native engine for RL, made for speed, and its measurement beside the proved library.
 
+pub mod alike;
 pub mod cards;
 pub mod chains;
 pub mod draw;
@@ -21,6 +22,7 @@ pub mod read;
 pub mod response;
 pub mod rng;
 pub mod room;
+pub mod small;
 pub mod strata;
 pub mod systems;
 pub mod table;

@@ -1,12 +1,14 @@
 //! Runs both engines on the same inputs, prints their times, draws them, and fails where their results differ.
 
+use native::alike::{self, print_alike};
 use native::draw::{svg, Line, Panel};
 use native::engine::{Engine, Native};
 use native::input::{Input, Series};
 use native::inputs::inputs;
 use native::mark_tables;
-use native::measure::{result, table_times, text_times, ROUNDS};
+use native::measure::{lower, result, table_times, text_times, ROUNDS};
 use native::proved::Proved;
+use native::small::print_small;
 use native::table::Table;
 use native::Refusal;
 
@@ -78,7 +80,7 @@ fn print_times(rows: &[Row]) {
     println!("|---|---|---|---|---|---|---|---|---|");
     for row in rows {
         let (reading, response) = (times(Some(row.reading)), times(row.response));
-        println!("| {:<52} | {:>6} | {:<12} | {reading} | {response} |", row.name, row.bytes, row.outcome);
+        println!("| {:<56} | {:>6} | {:<12} | {reading} | {response} |", row.name, row.bytes, row.outcome);
     }
 }
 
@@ -90,7 +92,7 @@ fn print_soundness(rows: &[Row]) {
     for row in rows {
         if let (Some(soundness), Some(response)) = (row.soundness, row.response) {
             let (times, part) = (times(Some(soundness)), soundness[0] / response[0]);
-            println!("| {:<52} | {:>3} | {:>3} | {times} | {part:>5.2} |", row.name, row.rules, row.strata);
+            println!("| {:<56} | {:>4} | {:>3} | {times} | {part:>5.2} |", row.name, row.rules, row.strata);
         }
     }
 }
@@ -105,7 +107,7 @@ fn print_printing(rows: &[Row]) {
         let [proved, native] = [0, 1].map(|engine| row.printing[engine] - row.reading[engine]);
         let (printing, part) = (times(Some(row.printing)), proved / row.reading[0]);
         let beyond = format!("{proved:>9.2} | {native:>9.2} | {part:>5.2}");
-        println!("| {:<52} | {:>6} | {:<12} | {printing} | {beyond} |", row.name, row.bytes, row.print);
+        println!("| {:<56} | {:>6} | {:<12} | {printing} | {beyond} |", row.name, row.bytes, row.print);
     }
 }
 
@@ -119,8 +121,19 @@ fn print_growth(rows: &[Row]) {
     for row in rows.iter().filter(|row| row.series == Some(Series::Growing)) {
         let [a, b] = row.reading.map(|time| time * 1e3 / row.bytes as f64);
         let [c, d] = row.response.unwrap_or_default().map(|time| time * 1e3 / row.pairs as f64);
-        println!("| {:>5} | {a:>8.2} | {b:>8.2} | {:>5} | {c:>8.2} | {d:>8.2} |", row.bytes, row.pairs);
+        println!("| {:>6} | {a:>8.2} | {b:>8.2} | {:>5} | {c:>8.2} | {d:>8.2} |", row.bytes, row.pairs);
     }
+}
+
+/// What was measured on the files of one kind, by strata and by marks.
+fn alike_rows(rows: &[Row], mark_rows: &[mark_tables::Row]) -> Vec<alike::Row> {
+    let alike_row = |row: &Row| {
+        let by_marks = mark_rows.iter().find(|other| other.name == row.name)?.by_marks;
+        let (rules, bytes, pairs) = (row.rules, row.bytes, row.pairs);
+        let on_pairs = [row.response?, by_marks, row.printing, row.soundness?];
+        Some(alike::Row { rules, bytes, pairs, reading: row.reading, on_pairs })
+    };
+    rows.iter().filter(|row| row.series == Some(Series::Alike)).filter_map(alike_row).collect()
 }
 
 /// A panel with a line for each engine by its points.
@@ -154,11 +167,6 @@ fn drawing(rows: &[Row], mark_rows: &[mark_tables::Row]) -> String {
     ])
 }
 
-/// Takes the smaller of each two times.
-fn lower(times: &mut [f64; 2], others: [f64; 2]) {
-    times.iter_mut().zip(others).for_each(|(time, other)| *time = time.min(other));
-}
-
 /// Measures an input again and keeps the best times.
 fn measure_again(proved: &mut dyn Engine, native: &mut dyn Engine, input: &Input, row: &mut Row) {
     let [reading, printing] = text_times([&mut *proved, &mut *native], input);
@@ -188,10 +196,12 @@ fn main() {
     print_soundness(&rows);
     print_printing(&rows);
     print_growth(&rows);
+    print_small([&mut proved, &mut native], &inputs);
     let mark_rows = mark_tables::measured(&mut proved, &mut native, inputs);
     let same = same && mark_rows.iter().all(Option::is_some);
     let mark_rows: Vec<mark_tables::Row> = mark_rows.into_iter().flatten().collect();
     mark_tables::print_rows(&mark_rows);
+    print_alike(&alike_rows(&rows, &mark_rows));
     if let Some(file) = std::env::args().nth(1) {
         std::fs::write(&file, drawing(&rows, &mark_rows)).expect("the drawing is written");
     }

@@ -3,7 +3,7 @@
 use crate::engine::Engine;
 use crate::input::{Input, Series};
 use crate::mark_inputs::mark_inputs;
-use crate::measure::{mark_result, mark_times, Outcome, ROUNDS};
+use crate::measure::{lower, mark_result, mark_times, Outcome, ROUNDS};
 use crate::table::Table;
 
 /// What was measured on an input: its work, the outcomes by strata and by marks, and the times of the two engines; the strata response only where the text is accepted.
@@ -16,7 +16,7 @@ pub struct Row {
     outcomes: [String; 2],
     readings: [[f64; 2]; 2],
     by_strata: Option<[f64; 2]>,
-    by_marks: [f64; 2],
+    pub by_marks: [f64; 2],
 }
 
 /// How many triggers and literals, and how many assignments, a table's rules have.
@@ -56,11 +56,6 @@ fn row(first: &mut dyn Engine, second: &mut dyn Engine, input: &Input) -> Option
         by_strata: accepted.then_some(by_strata),
         by_marks,
     })
-}
-
-/// Takes the smaller of each two times.
-fn lower(times: &mut [f64; 2], others: [f64; 2]) {
-    times.iter_mut().zip(others).for_each(|(time, other)| *time = time.min(other));
 }
 
 impl Row {
@@ -114,7 +109,7 @@ pub fn print_versions(rows: &[Row]) {
     for row in rows {
         let by_strata = row.by_strata.map_or(format!("{:>9} | {:>9} | {:>5}", "", "", ""), columns);
         let [with, without] = row.readings.map(columns);
-        println!("| {:<52} | {by_strata} | {} | {with} | {without} |", row.name, columns(row.by_marks));
+        println!("| {:<56} | {by_strata} | {} | {with} | {without} |", row.name, columns(row.by_marks));
     }
 }
 
@@ -130,7 +125,7 @@ pub fn print_rows(rows: &[Row]) {
         let part = row.by_strata.map_or(String::new(), |times| format!("{:.1}", row.by_marks[0] / times[0]));
         let [strata, marks] = &row.outcomes;
         println!(
-            "| {:<52} | {:>4} | {:>4} | {strata:<12} | {marks:<12} | {by_strata} | {} | {part:>5} |",
+            "| {:<56} | {:>5} | {:>5} | {strata:<12} | {marks:<12} | {by_strata} | {} | {part:>5} |",
             row.name,
             row.tests,
             row.assigned,
@@ -142,13 +137,13 @@ pub fn print_rows(rows: &[Row]) {
     println!("|---|---|---|---|---|---|---|---|");
     for row in rows {
         let [with, without] = row.readings.map(columns);
-        println!("| {:<52} | {:>3} | {with} | {without} |", row.name, row.rules);
+        println!("| {:<56} | {:>4} | {with} | {without} |", row.name, row.rules);
     }
     println!("\nGrowth of the response by marks: nanoseconds for each test and assignment.\n");
     println!("| input | tests and assignments | proved | native |");
     println!("|---|---|---|---|");
     for row in rows.iter().filter(|row| row.series == Some(Series::Growing)) {
         let [proved, native] = row.by_marks.map(|time| time * 1e3 / row.pairs());
-        println!("| {:<52} | {:>5} | {proved:>8.2} | {native:>8.2} |", row.name, row.pairs());
+        println!("| {:<56} | {:>5} | {proved:>8.2} | {native:>8.2} |", row.name, row.pairs());
     }
 }

@@ -98,6 +98,18 @@ pub fn result(engine: &mut dyn Engine, input: &Input) -> Result {
     Result { reading, table, is_sound, response, printing, print }
 }
 
+/// A response that is refused with 44 before all else, since no editor has number 0: what the call by itself takes.
+fn refuse(engine: &mut dyn Engine, table: &Table, input: &Input, lent: &mut Lent) -> Outcome {
+    let Lent { outputs: [card, changes, fired], records } = lent;
+    let (caller, outputs) = (Caller { records, editor: 0 }, Outputs { card, changes, fired });
+    engine.respond(table, caller, &input.card, &input.slip, outputs)
+}
+
+/// Takes the smaller of each two times.
+pub fn lower(times: &mut [f64; 2], others: [f64; 2]) {
+    times.iter_mut().zip(others).for_each(|(time, other)| *time = time.min(other));
+}
+
 /// How many calls take about the time of a repetition.
 fn rounds(call: &mut dyn FnMut()) -> u32 {
     let mut rounds = 1;
@@ -189,4 +201,13 @@ pub fn mark_times(engines: [&mut dyn Engine; 2], input: &Input, layered: &Table,
         &mut || _ = black_box(respond(*second.borrow_mut(), true, black_box(table), input, &mut d)),
     ]);
     [0, 2, 4, 6].map(|at| [times[at], times[at + 1]])
+}
+
+/// The best times of two engines in microseconds: of a response that is refused with 44.
+pub fn refused_times(engines: [&mut dyn Engine; 2], input: &Input, table: &Table) -> [f64; 2] {
+    let [first, second] = engines;
+    let (mut a, mut b) = (lent(), lent());
+    best([&mut || _ = black_box(refuse(first, black_box(table), input, &mut a)), &mut || {
+        _ = black_box(refuse(second, black_box(table), input, &mut b))
+    }])
 }

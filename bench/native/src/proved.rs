@@ -1,7 +1,7 @@
 //! The proved library by its C interface: the one that is linked, or another that is loaded, so that two can be measured in one run.
 
 use std::ffi::{c_char, c_int, c_void, CString};
-use std::mem::transmute;
+use std::mem::{size_of, transmute};
 
 use crate::engine::Engine;
 use crate::raw::{self, given, respond_with, Responds, RlPrinted, RlRead, RlResponse};
@@ -9,10 +9,16 @@ use crate::response::{Answer, Caller, Outputs};
 use crate::table::Table;
 use crate::Refusal;
 
+/// A function of the library that reads. C hands over the place of so large a result as one more argument, the first; said so here, the reading is written where it is kept.
+type Reads = unsafe extern "C" fn(*mut RlRead, *const u8, usize);
+
+/// The same function as the interface declares it.
+type Declared = unsafe extern "C" fn(*const u8, usize) -> RlRead;
+
 /// The entry points of a library that are measured.
 struct Entries {
-    read: unsafe extern "C" fn(*const u8, usize) -> RlRead,
-    read_unlayered: unsafe extern "C" fn(*const u8, usize) -> RlRead,
+    read: Reads,
+    read_unlayered: Reads,
     print: unsafe extern "C" fn(*const u8, usize, *mut u8, usize) -> RlPrinted,
     is_sound: unsafe extern "C" fn(Table) -> bool,
     respond: Responds,
@@ -41,17 +47,33 @@ fn entry(library: *mut c_void, name: &str) -> *mut c_void {
     address
 }
 
+/// A word that no empty reading has, and more of them than a reading has words.
+const FILL: u64 = 0xA5A5_A5A5_A5A5_A5A5;
+const WORDS: usize = 1 << 17;
+
+/// How many bytes a reading has in the layout of a library.
+fn reading_size(reads: Reads) -> usize {
+    let mut room = vec![FILL; WORDS];
+    unsafe { reads(room.as_mut_ptr().cast(), [].as_ptr(), 0) };
+    8 * room.iter().rposition(|word| *word != FILL).map_or(0, |last| last + 1)
+}
+
 impl Proved {
-    /// A library before any reading.
+    /// A library before any reading; only one of the layout in `raw.rs` can be called.
     fn with(entries: Entries) -> Proved {
+        let (theirs, ours) = (reading_size(entries.read), size_of::<RlRead>());
+        assert_eq!(theirs, ours, "the library has another layout: the bytes of its reading, and of a reading here");
         Proved { entries, read: Box::new(RlRead { number: 0, second: 0, table: *Table::empty() }) }
     }
 
     /// The library that is linked.
     pub fn new() -> Proved {
+        let [read, read_unlayered]: [Declared; 2] = [raw::rl_read, raw::rl_read_unlayered];
+        // SAFETY: both types say the same of where C puts the arguments and the result.
+        let reads = |declared: Declared| unsafe { transmute::<Declared, Reads>(declared) };
         Proved::with(Entries {
-            read: raw::rl_read,
-            read_unlayered: raw::rl_read_unlayered,
+            read: reads(read),
+            read_unlayered: reads(read_unlayered),
             print: raw::rl_print,
             is_sound: raw::rl_is_sound,
             respond: raw::rl_respond,
@@ -76,9 +98,9 @@ impl Proved {
         }
     }
 
-    /// Keeps what a reading gave, and says whether it was refused.
-    fn keep(&mut self, read: RlRead) -> Result<(), Refusal> {
-        *self.read = read;
+    /// Reads a text with a function of the library, and says whether it was refused.
+    fn read_with(&mut self, reads: Reads, text: &[u8]) -> Result<(), Refusal> {
+        unsafe { reads(&mut *self.read, text.as_ptr(), text.len()) };
         given(self.read.number, self.read.second, ())
     }
 }
@@ -97,11 +119,11 @@ fn told(response: RlResponse) -> Result<Answer, Refusal> {
 
 impl Engine for Proved {
     fn read(&mut self, text: &[u8]) -> Result<(), Refusal> {
-        self.keep(unsafe { (self.entries.read)(text.as_ptr(), text.len()) })
+        self.read_with(self.entries.read, text)
     }
 
     fn read_unlayered(&mut self, text: &[u8]) -> Result<(), Refusal> {
-        self.keep(unsafe { (self.entries.read_unlayered)(text.as_ptr(), text.len()) })
+        self.read_with(self.entries.read_unlayered, text)
     }
 
     fn table(&self) -> &Table {

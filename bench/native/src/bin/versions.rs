@@ -1,4 +1,4 @@
-//! Measures two versions of the proved library on the same inputs in one run, in turn, about a millisecond each: `versions BEFORE AFTER`, each a shared object; fails where their results differ.
+//! Measures two versions of the proved library on the same inputs in one run, in turn, about a millisecond each: `versions BEFORE AFTER`, each a shared object; fails where their results differ. Both have the layout of `raw.rs`: versions with different layouts cannot be compared here, and one of another layout is not called.
 
 use native::inputs::inputs;
 use native::mark_tables::{measured, print_versions, Row};
