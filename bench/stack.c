@@ -7,65 +7,103 @@
 #include <stdlib.h>
 #include <string.h>
 
-#define STACK (1 << 20)
+#define STACK (8 << 20)
 #define FILL 0xA5
 
-/* The largest file: every slot has all values, every rule all literals and assignments. */
-static uint8_t text[65535];
-static size_t size;
+/* A rule file with its card and slip, the same with a rule on a circle through a NOT, and what was made of them. */
+typedef struct {
+    uint8_t text[RL_PRINT_BYTES], circled[RL_PRINT_BYTES];
+    size_t size, circled_size;
+    uint8_t card_bytes[RL_CARD_BYTES], slip_bytes[1];
+    size_t card_length;
+    RlRead reading;
+    RlCard card;
+    RlSlip slip;
+    uint8_t circle, print, answer, marks;
+} File;
 
-static RlRead reading;
-static RlCard card;
-static RlSlip slip;
-static uint8_t card_bytes[RL_CARD_BYTES], slip_bytes[RL_SLIP_BYTES], out[RL_PRINT_BYTES], changes[RL_SLIP_BYTES], fired[RL_FIRED_BYTES];
-static size_t card_length, slip_length;
+static File largest, small;
+
+/* The file that is called with. */
+static File *file;
+
+static uint8_t out[RL_PRINT_BYTES], changes[RL_SLIP_BYTES], fired[RL_FIRED_BYTES];
 static RlTally records[RL_EDITORS];
 
-static void put(const char *part) {
+/* The names of the slots. */
+static const char names[] = "abcdefghijklmnopqrstuvwxyzABCDEF";
+
+/* Puts a part at the end of a file's text. */
+static void put(File *to, const char *part) {
     size_t length = strlen(part);
-    memcpy(text + size, part, length);
-    size += length;
+    memcpy(to->text + to->size, part, length);
+    to->size += length;
 }
 
-static void write_text(void) {
+/* Puts the last rule, and makes the text with a circle, which has another in its place. */
+static void put_last(File *to, const char *rule, const char *circled) {
+    to->circled_size = to->size + strlen(circled);
+    memcpy(to->circled, to->text, to->size);
+    memcpy(to->circled + to->size, circled, strlen(circled));
+    put(to, rule);
+}
+
+/* The largest file: every slot has all values, every rule all literals and every other one all assignments; with more of them the print would be too long. */
+static void write_largest(void) {
     char part[400];
     for (int slot = 0; slot < RL_SLOTS; slot++) {
-        snprintf(part, sizeof part, "SLOT s%d {a,b,c,d,e,f,g,h,i,j,k,l,m,n,o};", slot);
-        put(part);
+        snprintf(part, sizeof part, "SLOT %c{a,b,c,d,e,f,g,h,i,j,k,l,m,n,o};", names[slot]);
+        put(&largest, part);
     }
-    for (int rule = 0; rule < RL_RULES; rule++) {
-        int s = rule % 24;
+    for (int rule = 0; rule < RL_RULES - 1; rule++) {
+        const char *s = names + rule % 24;
         snprintf(part, sizeof part,
-                 "WHEN s%d *= b IF s%d |= a AND s%d |= a AND s%d |= a AND s%d |= a AND s%d |= a AND s%d |= a AND s%d |= a AND NOT s%d *= %c "
-                 "THEN {s%d := b, s%d := b, s%d := b, s%d := b};",
-                 s, s, s + 1, s + 2, s + 3, s + 4, s + 5, s + 6, s + 8, 'c' + rule % 12, s + 1, s + 2, s + 3, s + 4);
-        put(part);
+                 "WHEN %c*=b IF %c|=a AND %c|=a AND %c|=a AND %c|=a AND %c|=a AND %c|=a AND %c|=a AND NOT %c*=%c THEN", s[0], s[0],
+                 s[1], s[2], s[3], s[4], s[5], s[6], s[8], 'c' + rule % 12);
+        put(&largest, part);
+        snprintf(part, sizeof part, rule % 2 ? "{%c:=b,%c:=b,%c:=b,%c:=b};" : " %c:=b;", s[1], s[2], s[3], s[4]);
+        put(&largest, part);
     }
+    put_last(&largest, "WHEN a*=b IF TRUE THEN b:=b;", "WHEN a*=b IF NOT a*=c THEN a:=c;");
+    largest.card_bytes[0] = RL_SLOTS << 2;
+    for (int at = 1; at < RL_CARD_BYTES; at++) largest.card_bytes[at] = 0x44;
+    largest.card_bytes[RL_CARD_BYTES - 1] = 0x40;
+    largest.card_length = RL_CARD_BYTES;
 }
 
-/* The entry points, each called with what the largest file needs; the first does nothing, and what it uses is taken off. */
+/* A file of two slots and two rules. */
+static void write_small(void) {
+    put(&small, "SLOT a{x,y};SLOT b{x,y};WHEN a*=y IF TRUE THEN b:=y;");
+    put_last(&small, "WHEN b*=y IF NOT a|=x THEN a:=x;", "WHEN a*=y IF NOT a*=x THEN a:=x;");
+    small.card_bytes[0] = 2 << 2;
+    small.card_bytes[1] = 0x44;
+    small.card_length = 2;
+}
+
+/* The entry points, each called with the file; the first does nothing, and what it uses is taken off. In a text that is refused with 18 what is made to find the circle comes on top. */
 static void none(void) {}
-static void read_text(void) { reading = rl_read(text, size); }
-static void print(void) { rl_print(text, size, out, sizeof out); }
-/* A text whose rules have no strata: what is made to find the circle comes on top. */
-static const uint8_t circle[] = "SLOT x {0,1}; WHEN x *= 0 IF NOT x *= 1 THEN x := 1;";
-static void read_circle(void) { rl_read(circle, sizeof circle - 1); }
-static void print_circle(void) { rl_print(circle, sizeof circle - 1, out, sizeof out); }
-static void read_unlayered(void) { rl_read_unlayered(text, size); }
-static void is_sound(void) { rl_is_sound(reading.table); }
-static void slot_name(void) { rl_slot_name(text, size, reading.table, 31); }
-static void value_name(void) { rl_value_name(text, size, reading.table, 31, 15); }
-static void unpack_card(void) { card = rl_unpack_card(reading.table, card_bytes, card_length); }
-static void unpack_slip(void) { slip = rl_unpack_slip(reading.table, slip_bytes, slip_length); }
-static void pack_card(void) { rl_pack_card(reading.table, card.card, out, sizeof out); }
-static void pack_slip(void) { rl_pack_slip(reading.table, slip.slip, out, sizeof out); }
+static void read_text(void) { file->reading = rl_read(file->text, file->size); }
+static void read_circled(void) { file->circle = rl_read(file->circled, file->circled_size).number; }
+static void print(void) { file->print = rl_print(file->text, file->size, out, sizeof out).number; }
+static void print_circled(void) { rl_print(file->circled, file->circled_size, out, sizeof out); }
+static void read_unlayered(void) { rl_read_unlayered(file->text, file->size); }
+static void is_sound(void) { rl_is_sound(file->reading.table); }
+static void slot_name(void) { rl_slot_name(file->text, file->size, file->reading.table, file->reading.table.width - 1); }
+static void value_name(void) { rl_value_name(file->text, file->size, file->reading.table, file->reading.table.width - 1, 2); }
+static void unpack_card(void) { file->card = rl_unpack_card(file->reading.table, file->card_bytes, file->card_length); }
+static void unpack_slip(void) { file->slip = rl_unpack_slip(file->reading.table, file->slip_bytes, sizeof file->slip_bytes); }
+static void pack_card(void) { rl_pack_card(file->reading.table, file->card.card, out, sizeof out); }
+static void pack_slip(void) { rl_pack_slip(file->reading.table, file->slip.slip, out, sizeof out); }
 static void respond(void) {
-    rl_respond(reading.table, records, RL_EDITORS, 40, card_bytes, card_length, slip_bytes, slip_length, out, sizeof out, changes,
-               sizeof changes, fired, sizeof fired);
+    RlResponse response = rl_respond(file->reading.table, records, RL_EDITORS, 40, file->card_bytes, file->card_length, file->slip_bytes,
+                                     sizeof file->slip_bytes, out, sizeof out, changes, sizeof changes, fired, sizeof fired);
+    file->answer = response.number;
 }
 static void respond_by_marks(void) {
-    rl_respond_by_marks(reading.table, records, RL_EDITORS, 40, card_bytes, card_length, slip_bytes, slip_length, out, sizeof out, changes,
-                        sizeof changes, fired, sizeof fired);
+    RlResponse response = rl_respond_by_marks(file->reading.table, records, RL_EDITORS, 40, file->card_bytes, file->card_length,
+                                              file->slip_bytes, sizeof file->slip_bytes, out, sizeof out, changes, sizeof changes, fired,
+                                              sizeof fired);
+    file->marks = response.number;
 }
 
 static void *call(void *function) {
@@ -89,27 +127,43 @@ static size_t used(void (*function)(void)) {
     return STACK - low;
 }
 
+/* Whether all that was called with a file came to its end, and the text with a circle was refused with 18. */
+static bool came_through(const File *of) {
+    return !(of->reading.number | of->card.number | of->slip.number | of->print | of->answer | of->marks) && of->circle == 18;
+}
+
+/* The bytes of stack that a function uses with a file. */
+static size_t used_with(File *with, void (*function)(void)) {
+    file = with;
+    return used(function) - used(none);
+}
+
 int main(void) {
     static const struct {
         const char *name;
         void (*function)(void);
     } entries[] = {
-        {"rl_read", read_text},         {"rl_read (18)", read_circle},  {"rl_print", print},
-        {"rl_print (18)", print_circle}, {"rl_read_unlayered", read_unlayered},
-        {"rl_is_sound", is_sound},      {"rl_slot_name", slot_name},    {"rl_value_name", value_name},
-        {"rl_unpack_card", unpack_card}, {"rl_unpack_slip", unpack_slip}, {"rl_pack_card", pack_card},
-        {"rl_pack_slip", pack_slip},    {"rl_respond", respond},
+        {"rl_read", read_text},
+        {"rl_read (18)", read_circled},
+        {"rl_print", print},
+        {"rl_print (18)", print_circled},
+        {"rl_read_unlayered", read_unlayered},
+        {"rl_is_sound", is_sound},
+        {"rl_slot_name", slot_name},
+        {"rl_value_name", value_name},
+        {"rl_unpack_card", unpack_card},
+        {"rl_unpack_slip", unpack_slip},
+        {"rl_pack_card", pack_card},
+        {"rl_pack_slip", pack_slip},
+        {"rl_respond", respond},
         {"rl_respond_by_marks", respond_by_marks},
     };
-    write_text();
-    size_t before = used(none);
-    card_bytes[0] = RL_SLOTS << 2;
-    card_length = RL_CARD_BYTES;
-    for (int at = 1; at < RL_CARD_BYTES; at++) card_bytes[at] = 0x44;
-    card_bytes[RL_CARD_BYTES - 1] = 0x40;
-    slip_length = 1;
-    printf("| entry point | stack |\n|---|---|\n");
-    for (size_t at = 0; at < sizeof entries / sizeof *entries; at++)
-        printf("| %-19s | %6zu |\n", entries[at].name, used(entries[at].function) - before);
-    return reading.number | card.number | slip.number;
+    write_largest();
+    write_small();
+    printf("| entry point | the largest file | 2 rules |\n|---|---|---|\n");
+    for (size_t at = 0; at < sizeof entries / sizeof *entries; at++) {
+        size_t most = used_with(&largest, entries[at].function), least = used_with(&small, entries[at].function);
+        printf("| %-19s | %7zu | %7zu |\n", entries[at].name, most, least);
+    }
+    return came_through(&largest) && came_through(&small) ? 0 : 1;
 }
