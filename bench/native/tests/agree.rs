@@ -3,7 +3,7 @@
 use native::engine::{Engine, Native};
 use native::raw::{Tally, PRINT_BYTES};
 use native::response::{Caller, Outputs};
-use native::table::{Assignment, Literal, Name, Rule, Slot, Table};
+use native::table::{Assignment, Literal, Name, Rule, Slot, Table, RULES};
 use native::Refusal;
 use second::engine::{Engine as _, Second, Way};
 use second::gen::{any_file, card, rooms, slip, Rng};
@@ -58,7 +58,8 @@ fn two_bytes(records: &[second::editors::Tally]) -> Vec<Tally> {
 fn responses(rng: &mut Rng, way: Way, table: &SecondTable, sketch: &Sketch, engine: &mut Native) -> u8 {
     let (card, slip, day) = (card(rng, sketch), slip(rng, sketch), Day::new(rng));
     let editor = day.caller(rng);
-    let needed = [(6 + 4 * table.width.min(40) as usize).div_ceil(8), 37, (table.count as usize).min(300).div_ceil(8)];
+    let needed =
+        [(6 + 4 * table.width.min(40) as usize).div_ceil(8), 37, (table.count as usize).min(RULES + 40).div_ceil(8)];
     let lengths = rooms(rng, needed);
     let mut theirs = lengths.map(|length| vec![0xA5; length]);
     let mut ours = theirs.clone();
