@@ -79,10 +79,12 @@ impl Size {
         first.chain((0..START - 1).flat_map(|link| step(link, false, self.coming))).collect()
     }
 
-    /// How many links a chain through all values of a slot after another has, and the slot and the value of one.
+    /// How many links a chain through all values of one slot after another has.
     fn links(&self) -> usize {
         START * self.values
     }
+
+    /// The slot and the value of a link of such a chain.
     fn link(&self, link: usize) -> (usize, usize) {
         (link / self.values, link % self.values)
     }
@@ -162,12 +164,14 @@ fn many_assignments(rules: usize, idle: bool) -> Vec<String> {
     (0..rules).map(made).collect()
 }
 
-/// The input of so many rules by chance, or of such with circles.
+/// The input of so many rules by chance.
 fn chance_input(rules: usize, literals: usize) -> Input {
     let word = if rules == 1 { "rule" } else { "rules" };
     let name = format!("{rules} {word} by chance, {literals} in a condition");
     Input { series: Some(Series::Growing), ..SMALL.input(name, by_chance(rules, literals, false)) }
 }
+
+/// The input of so many rules by chance among which there are circles.
 fn circled_input(rules: usize) -> Input {
     SMALL.input(format!("{rules} rules by chance, any circles"), by_chance(rules, 4, true))
 }
@@ -180,7 +184,7 @@ fn full_inputs(rules: usize) -> [Input; 2] {
     })
 }
 
-/// All inputs for the response by marks, the growing ones first. So many bytes as a text may have are 1,000 rules of eight literals and four assignments here.
+/// All inputs for the response by marks, the growing ones first. With eight literals and four assignments there are 1,000 rules at the most: 2,000 would be too many bytes.
 pub fn mark_inputs() -> Vec<Input> {
     let growing = [1, 2, 4, 8, 16, 32, 64, 128, 255, 500, 1000, RULES].map(|rules| (rules, 4));
     let wider = [(255, 1), (255, 2), (255, 8), (RULES, 1), (RULES, 2)];

@@ -10,7 +10,7 @@ use native::response::{Answer, Caller, Outputs};
 use native::table::RULES;
 use native::Refusal;
 
-/// A text of a slot and so many rules that the slip starts.
+/// A text of two slots and so many rules.
 fn ruled(rules: usize) -> Vec<u8> {
     let slots = "SLOT a {x, y}; SLOT b {x, y};\n";
     [slots, &"WHEN a *= x IF TRUE THEN b := y;\n".repeat(rules)].concat().into_bytes()
@@ -42,7 +42,7 @@ fn strata_and_fired(name: &str) -> (u16, Result<usize, u8>) {
     (strata, answer(&mut engine, false, &input).map(|answer| answer.fired).map_err(|why| why.number))
 }
 
-/// Two thousand rules are read and fire; one more is 15 after 2,000 rules.
+/// Two thousand rules are read, all in stratum 1; at one more it is 15, after 2,000 rules.
 #[test]
 fn takes_two_thousand_rules() {
     let mut engine = Native::new();
