@@ -16,7 +16,6 @@ use table::Limits;
 use table::PAIRS;
 use table::RULES;
 use table::SLOTS;
-use table::Stratum;
 use table::Way;
 
 // A refusal, and the table without slots or rules.
@@ -81,8 +80,7 @@ pub fn read(text: &[u8], way: Way, limits: Limits) -> FileRead
                 }
                 let mut j: usize = 0;
                 'strata: while j < count {
-                    let s = numbers[j];
-                    t.rules[j].stratum = s as Stratum;
+                    t.rules[j].stratum = numbers[j];
                     j += 1;
                 }
                 return FileRead {

@@ -18,7 +18,7 @@ use Rattle.model.specs.Strata.{weak}
 use Rattle.model.specs.Circles.{circle-of}
 use Rattle.strata.proofs.Layered.{number-small, numbering-start, numbering-step, numbering-end}
 use Rattle.rule_file.proofs.Answers.{whole-layered, whole-circle, whole-unlayered, whole-refused}
-use Rattle.rule_file.proofs.read.Proof.Places.{Inv-rows, μ-rows, Inv-strata, μ-strata, Inv-statements, μ-statements, text-at, way-at, limits-at, most-at, most-is, table-at, halfway, answer, slot-lies, rule-lies, file-of, within, ended-by, fits, shape, places, rules-are, end-at, table-in-rows, by-strata, entered, rows-fit, circle-is, numbers-are}
+use Rattle.rule_file.proofs.read.Proof.Places.{Inv-rows, μ-rows, Inv-strata, μ-strata, Inv-statements, μ-statements, text-at, way-at, limits-at, most-at, most-is, table-at, halfway, answer, slot-lies, rule-lies, rule-placed, file-of, within, ended-by, fits, shape, places, rules-are, end-at, table-in-rows, by-strata, entered, rows-fit, circle-is, numbers-are}
 use Rattle.rule_file.proofs.read.Statement.{statement}
 use Rattle.rule_file.proofs.read.Tie as tie
 
@@ -28,7 +28,7 @@ refused-requires c κs = search needs
 
 returns : tie.Need-returns Inv-rows μ-rows Inv-strata μ-strata Inv-statements μ-statements
 returns c =
-    let s = c .before .before .before in
+    let s = c .before .before .before .before in
     c .refused .ensures ∙ whole-refused (s .args .way) (s .args .limits) (s .args .text .now) 10 0 (read-long (bytes-by (s .args .limits)) (rules-by (s .args .limits)) (s .args .text .now) (omega (arith, c .before .if1 .taken, c .before .before .most-bytes .ensures)))
 
 table-requires : tie.Need-table-requires Inv-rows μ-rows Inv-strata μ-strata Inv-statements μ-statements
@@ -40,13 +40,13 @@ empty-table-requires c κs = search needs
 
 statements-holds :
     tie.Need-statements-holds Inv-rows μ-rows Inv-strata μ-strata Inv-statements μ-statements
-statements-holds c = rw (c .empty-table .ensures) (halfway-start (c .before .before .most-rules .result) (c .before .before .before .before .args .text .now) (omega (arith, c .before .before .before .if1 .left, c .before .before .before .before .most-bytes .ensures, bytes-low (c .before .before .before .before .args .limits))))
+statements-holds c = rw (c .empty-table .ensures) (halfway-start (c .before .before .most-rules .result) (c .before .before .before .before .before .before .args .text .now) (omega (arith, c .before .before .before .if1 .left, c .before .before .before .before .most-bytes .ensures, bytes-low (c .before .before .before .before .before .before .args .limits))))
 
 cast-width : tie.Need-cast-width Inv-rows μ-rows Inv-strata μ-strata Inv-statements μ-statements
 cast-width c = let H = c .statements .inv in record { fits = omega (arith, halfway-width H, H .indexed .few) }
 
 cast-count : tie.Need-cast-count Inv-rows μ-rows Inv-strata μ-strata Inv-statements μ-statements
-cast-count c = let H = c .statements .inv in record { fits = omega (arith, halfway-count H, H .few, c .before .most-rules .ensures, rules-low (c .before .args .limits)) }
+cast-count c = let H = c .statements .inv in record { fits = omega (arith, halfway-count H, H .few, c .before .before .before .most-rules .ensures, rules-low (c .before .before .before .before .before .before .before .args .limits)) }
 
 slice-aggregate-statement-next :
     tie.Need-slice-aggregate-statement-next
@@ -103,7 +103,7 @@ index-1-enter-rule c = omega (arith, c .before .rows-test .taken, c .before .bef
 
 enter-rule-requires :
     tie.Need-enter-rule-requires Inv-rows μ-rows Inv-strata μ-strata Inv-statements μ-statements
-enter-rule-requires c κs = let a = c .before .before .before in (fits (end-at a) .each-fits (a .rows .i) (c .before .before .rows-test .taken), a .rows .inv .2 .shaped .each-row (a .rows .i) (omega (arith, c .before .before .rows-test .taken, a .rows .inv .0)))
+enter-rule-requires c κs = let a = c .before .before .before in (fits (end-at a) .each-fits (a .rows .i) (c .before .before .rows-test .taken), a .rows .inv .3 .shaped .each-row (a .rows .i) (omega (arith, c .before .before .rows-test .taken, a .rows .inv .0, a .rows .inv .2)))
 
 add-i : tie.Need-add-i Inv-rows μ-rows Inv-strata μ-strata Inv-statements μ-statements
 add-i c = record { fits = omega (arith, c .before .before .before .rows-test .taken, c .before .before .before .before .rows .inv .0) }
@@ -133,21 +133,6 @@ returns-3 c =
 strata-holds :
     tie.Need-strata-holds Inv-rows μ-rows Inv-strata μ-strata Inv-statements μ-statements
 strata-holds c = (c .before .before .before .before .before .rows .inv .0, search needs, numbering-start _ _)
-
-mul-s : tie.Need-mul-s Inv-rows μ-rows Inv-strata μ-strata Inv-statements μ-statements
-mul-s c = record { fits = omega (arith, c .strata-test .taken, c .before .strata .inv .0) }
-
-array-read-s :
-    tie.Need-array-read-s Inv-rows μ-rows Inv-strata μ-strata Inv-statements μ-statements
-array-read-s c = omega (arith, c .strata-test .taken, c .before .strata .inv .0)
-
-cast-t : tie.Need-cast-t Inv-rows μ-rows Inv-strata μ-strata Inv-statements μ-statements
-cast-t c =
-    let d = c .before .before .before in
-    let r = d .before .before .before .before in
-    let e = end-at r in
-    let z : d .find .result ≡ 0 = omega (arith, c .before .before .if2 .left) in
-    record { fits = omega (arith, rw (← (numbers-are d z)) at (number-small (table-in-rows r) (fits e) (shape e) (sym (circle-is d) ∙ z) (c .before .strata .j) (c .strata-test .taken))) }
 
 mul-t : tie.Need-mul-t Inv-rows μ-rows Inv-strata μ-strata Inv-statements μ-statements
 mul-t c = record { fits = omega (arith, c .strata-test .taken, c .before .strata .inv .0) }
@@ -193,8 +178,8 @@ slot-of-requires :
     tie.Need-slot-of-requires Inv-rows μ-rows Inv-strata μ-strata Inv-statements μ-statements
 slot-of-requires c κs = slot-lies (c .before .before .before .before .before .before) .6 .few
 
-mul-t65 : tie.Need-mul-t65 Inv-rows μ-rows Inv-strata μ-strata Inv-statements μ-statements
-mul-t65 c = let l = slot-lies (c .before .before .before .before .before .before .before) .2 in record { fits = omega arith }
+mul-t67 : tie.Need-mul-t67 Inv-rows μ-rows Inv-strata μ-strata Inv-statements μ-statements
+mul-t67 c = let l = slot-lies (c .before .before .before .before .before .before .before) .2 in record { fits = omega arith }
 
 element-set-from-t :
     tie.Need-element-set-from-t Inv-rows μ-rows Inv-strata μ-strata Inv-statements μ-statements
@@ -236,14 +221,14 @@ enum-known-kind-2 :
 enum-known-kind-2 c = search needs
 
 mul-rule : tie.Need-mul-rule Inv-rows μ-rows Inv-strata μ-strata Inv-statements μ-statements
-mul-rule c = let l = rule-lies (c .before .before) .2 in record { fits = omega arith }
+mul-rule c = let l = rule-placed (c .before .before) in record { fits = omega arith }
 
 element-set-from-rule :
     tie.Need-element-set-from-rule Inv-rows μ-rows Inv-strata μ-strata Inv-statements μ-statements
-element-set-from-rule c = rule-lies (c .before .before) .2
+element-set-from-rule c = rule-placed (c .before .before)
 
 add-t-2 : tie.Need-add-t-2 Inv-rows μ-rows Inv-strata μ-strata Inv-statements μ-statements
-add-t-2 c = let l = rule-lies (c .before .before) .2 in record { fits = omega arith }
+add-t-2 c = let l = rule-placed (c .before .before) in record { fits = omega arith }
 
 sub-rest-2 : tie.Need-sub-rest-2 Inv-rows μ-rows Inv-strata μ-strata Inv-statements μ-statements
 sub-rest-2 c = rule-lies (c .before .before) .1
@@ -287,6 +272,18 @@ returns-5 c =
     let H = halfway k in
     c .refused3 .ensures ∙ whole-refused (way-at k) (limits-at k) (text-at k) _ _ (within k _ (answer k (a .kind3 .given .1) ∙ ap (λ (n : ℕ). refused (a .kind3 .given .0 .0) n) (sym (halfway-count H))))
 
+most-bytes-requires : tie.Need-most-bytes-requires Inv-rows μ-rows Inv-strata μ-strata Inv-statements μ-statements
+most-bytes-requires c κs = search needs
+
+most-rules-requires : tie.Need-most-rules-requires Inv-rows μ-rows Inv-strata μ-strata Inv-statements μ-statements
+most-rules-requires c κs = search needs
+
+array-read-t : tie.Need-array-read-t Inv-rows μ-rows Inv-strata μ-strata Inv-statements μ-statements
+array-read-t c = search needs
+
+mul-t-2 : tie.Need-mul-t-2 Inv-rows μ-rows Inv-strata μ-strata Inv-statements μ-statements
+mul-t-2 c = search needs
+
 pub read-spec : {M : Type 1} → statement M
 read-spec =
     tie.close
@@ -297,8 +294,10 @@ read-spec =
     μ-strata
     Inv-statements
     μ-statements
+    most-bytes-requires
     refused-requires
     returns
+    most-rules-requires
     table-requires
     empty-table-requires
     statements-holds
@@ -323,10 +322,9 @@ read-spec =
     refused-requires-2
     returns-3
     strata-holds
-    mul-s
-    array-read-s
-    cast-t
     mul-t
+    array-read-t
+    mul-t-2
     way-write-given-t
     add-j
     strata-less
@@ -335,7 +333,7 @@ read-spec =
     enum-known-kind
     enter-requires
     slot-of-requires
-    mul-t65
+    mul-t67
     element-set-from-t
     add-t
     sub-rest

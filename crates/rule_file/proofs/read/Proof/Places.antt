@@ -1,6 +1,6 @@
 -- The invariants of the loops of `rule_file::read`, and what is known where a statement is read and at the end of the text.
 -- Assumes nothing.
-use Prim.Native.Nat.{ℕ, _-_, _≤_}
+use Prim.Native.Nat.{ℕ, _-_, _≤_, _<_}
 use native.Mathlib.Omega.{arith}
 use mathlib.Core.Path.{_≡_, sym, ap, subst, _∙_}
 use mathlib.Core.List.{List}
@@ -8,7 +8,7 @@ use Rattle.laws.specs.Limits.{rule-limit}
 use lib.ListN.{length}
 use Rattle.text.specs.Tokens.{tokens}
 use Rattle.grammar.specs.Reading.{Parsed, parse, parse-by, bytes-by, rules-by, accepted, read-tokens}
-use Rattle.grammar.proofs.Within.{accepted-by}
+use Rattle.grammar.proofs.Within.{accepted-by, rules-low}
 use Rattle.grammar.specs.Files.{File}
 use Rattle.grammar.proofs.Forward.{read-short}
 use Rattle.table.specs.declared.Table.{Table}
@@ -33,22 +33,22 @@ use Rattle.rule_file.proofs.Answers.{file-table-fits, file-table-shaped
 use Rattle.rule_file.proofs.read.Tie as tie
 
 abbrev pub Inv-rows : tie.InvT-rows
-Inv-rows text t base width count rows₀ i₀ rows i = (count ≤ rule-limit) × (i ≤ count) × (length rows ≡ rule-limit) × Entered (t .rules) rows i
+Inv-rows text most t base width count rows₀ i₀ rows i = (count ≤ rule-limit) × (i ≤ count) × (length rows ≡ rule-limit) × Entered (t .rules) rows i
 
 abbrev pub μ-rows : tie.MeasureT-rows
-μ-rows text t base width count rows₀ i₀ rows i = count - i
+μ-rows text most t base width count rows₀ i₀ rows i = count - i
 
 abbrev pub Inv-strata : tie.InvT-strata
-Inv-strata text t₀ base width count i numbers k j₀ t j = (count ≤ rule-limit) × (j ≤ count) × Numbering numbers t₀ j t
+Inv-strata text most t₀ base width count i numbers k j₀ t j = (count ≤ rule-limit) × (j ≤ count) × Numbering numbers t₀ j t
 
 abbrev pub μ-strata : tie.MeasureT-strata
-μ-strata text t₀ base width count i numbers k j₀ t j = count - j
+μ-strata text most t₀ base width count i numbers k j₀ t j = count - j
 
 abbrev pub Inv-statements : tie.InvT-statements
-Inv-statements text way limits most classes t₀ slotspans₀ valuespans₀ rest₀ base₀ t slotspans valuespans rest base = Halfway most text t slotspans valuespans rest base
+Inv-statements text way most classes t₀ slotspans₀ valuespans₀ rest₀ base₀ t slotspans valuespans rest base = Halfway most text t slotspans valuespans rest base
 
 abbrev pub μ-statements : tie.MeasureT-statements
-μ-statements text way limits most classes t₀ slotspans₀ valuespans₀ rest₀ base₀ t slotspans valuespans rest base = length rest
+μ-statements text way most classes t₀ slotspans₀ valuespans₀ rest₀ base₀ t slotspans valuespans rest base = length rest
 
 -- The places in the code that the proofs speak of: a statement that is read, the end of the text, and there the response by strata.
 abbrev pub Reads : Type 0
@@ -62,13 +62,13 @@ Layers = tie.At-rows Inv-rows μ-rows Inv-strata μ-strata Inv-statements μ-sta
 
 -- Before a statement: the text and the response that it is read for, what is left of the text and where that begins, and the table so far.
 abbrev pub text-at : Reads → List ℕ
-text-at c = c .before .before .before .before .before .before .before .before .before .args .text .now
+text-at c = c .before .before .before .before .before .before .before .before .before .before .before .args .text .now
 
 abbrev pub way-at : Reads → Way
-way-at c = c .before .before .before .before .before .before .before .before .before .args .way
+way-at c = c .before .before .before .before .before .before .before .before .before .before .before .args .way
 
 abbrev pub limits-at : Reads → Limits
-limits-at c = c .before .before .before .before .before .before .before .before .before .args .limits
+limits-at c = c .before .before .before .before .before .before .before .before .before .before .before .args .limits
 
 -- How many rules are taken.
 abbrev pub most-at : Reads → ℕ
@@ -111,6 +111,10 @@ pub rule-lies : (c : tie.After-kind2 Inv-rows μ-rows Inv-strata μ-strata Inv-s
     let k = c .before .before in
     Kind-lies (most-at k) (text-at k) (length (rest-at k)) (table-at k .width) (table-at k .count) (kind.Rule (c .kind2 .given .0 .0)) (k .statement-next .result .line) (k .statement-next .result .rule)
 rule-lies c = lies (c .before .before) (c .kind2 .given .1)
+
+-- There is a place for the rule.
+pub rule-placed : (c : tie.After-kind2 Inv-rows μ-rows Inv-strata μ-strata Inv-statements μ-statements) → table-at (c .before .before) .count < rule-limit
+rule-placed c = let k = c .before .before in omega (arith, rule-lies c .2, most-is k, rules-low (limits-at k))
 
 -- At the end of the text: the file that it is.
 abbrev pub file-of : Ends → File
