@@ -123,7 +123,7 @@ module _ (text : List ℕ) (o : reading text .outcome ≡ Accepted) where
   assigns : Shaped read-table → (j : ℕ) → j < read-table .count → 1 ≤ getD (read-table .rules) j zero-rule .assigned
   assigns sh j h =
       let r = getD (read-table .rules) j zero-rule in
-      let m : read-table .count ≤ length (read-table .rules) = omega (arith, table-fits sh .rules-fit, sh .rule-places) in
+      let m : read-table .count ≤ length (read-table .rules) = sh .rule-places (table-fits sh .rules-fit) in
       let k : j < length (file .rules) = omega (arith, h, rules-length read-table m, ap length (accepted-table text o .3)) in
       let d = each-at (Declared-rule (file .slots)) (file .rules) j (rule-of zero-rule) (declared .each-rule) k .some in
       let e = ap (λ (x : Rule). length (x .assignments)) (sym (rule-is read-table j h) ∙ ap (λ (rs : List Rule). getD rs j (rule-of zero-rule)) (accepted-table text o .3)) in

@@ -81,7 +81,7 @@ module _ (text ss vs : List ℕ) (t : Table) where
 
   pub rules-on : (j : ℕ) → Shaped t → j < t .count → t .count ≤ rule-limit → rules-from j ≡ rule-at j ++ rules-from (j + 1)
   unfolding lines-joined rules-from rules-of
-  rules-on j sh h k = ap (λ (rs : List model.Rule). lines-joined (map (rule-bytes (spelled-pair text ss vs)) rs)) (used-next rule-of (t .count) (t .rules) j zero-rule h (omega (arith, sh .rule-places)))
+  rules-on j sh h k = ap (λ (rs : List model.Rule). lines-joined (map (rule-bytes (spelled-pair text ss vs)) rs)) (used-next rule-of (t .count) (t .rules) j zero-rule h (omega (arith, sh .rule-places k)))
 
   pub rules-over : (j : ℕ) → t .count ≤ j → rules-from j ≡ []
   unfolding lines-joined rules-from rules-of
