@@ -4,25 +4,28 @@ use mathlib.Core.Path.{_≡_, sym, _∙_}
 use mathlib.Core.Bool.{Bool, true, false, false≢true}
 use mathlib.Core.List.{List}
 use Prim.Native.Nat.{ℕ, _≤_}
+use native.Mathlib.Omega.{arith}
+use lib.ListN.{length, replicate, length-replicate}
 use Rattle.laws.specs.Limits.{rule-limit}
 use Rattle.table.specs.declared.Table.{Table}
 use Rattle.table.specs.inner.Shape.{Shaped}
 use Rattle.table.specs.Link.{stratum-at}
 use Rattle.rows.specs.inner.Rows.{table-in, RowsFit, Entered}
-use Rattle.rows.proofs.Laws.{entered-fits, entered-rules, entered-strata}
+use Rattle.rows.proofs.Laws.{zero-shaped, entered-fits, entered-rules, entered-strata}
 use Rattle.leastness.specs.CarriesLeast.{carries-least}
-use Rattle.soundness.specs.inner.Admitted.{Admitted, Enters}
+use Rattle.soundness.specs.inner.Admitted.{RowsFor, Admitted, Enters}
 use Rattle.soundness.specs.declared.Entry.{Entry}
 use Rattle.soundness.proofs.WellFormed.{Counted}
 
 -- All slots are counted and all rules are entered.
-pub admitted : (t : Table) (counts : List ℕ) (rows : List (List ℕ)) → Shaped t → t .count ≤ rule-limit → Counted t (t .width) counts → Entered (t .rules) rows (t .count) → Admitted t counts rows
-admitted t counts rows sh few g e = record {
-  same-count = g .same-count;
-  rows-fit = entered-fits (t .rules) rows (t .count) few e;
-  same-rules = entered-rules t rows sh few e;
-  same-strata = entered-strata t rows sh few e;
-}
+pub admitted : (t : Table) (counts : List ℕ) (rows : List (List ℕ)) → Shaped t → t .count ≤ rule-limit → t .count ≤ length rows → Counted t (t .width) counts → Entered (t .rules) rows (t .count) → Admitted t counts rows
+admitted t counts rows sh few inside g e =
+    let f = entered-fits (t .rules) rows (t .count) few inside e in
+    record { same-count = g .same-count; rows-fit = f; same-rules = entered-rules t rows sh f e; same-strata = entered-strata t rows sh f e }
+
+-- Cleared rows, where they are as many.
+pub cleared : (t : Table) (k : ℕ) → (t .count ≤ rule-limit → t .count ≤ k) → RowsFor t (replicate k (replicate {A = ℕ} 16 0))
+cleared t k h = record { rows-shaped = zero-shaped k; enough = λ l. omega (arith, h l, length-replicate k (replicate {A = ℕ} 16 0)) }
 
 -- The rows carry the least strata exactly where the table does.
 pub admitted-least : (t : Table) (counts : List ℕ) (rows : List (List ℕ)) → Admitted t counts rows → carries-least (table-in rows (t .count)) ≡ carries-least t

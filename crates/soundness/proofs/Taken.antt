@@ -99,7 +99,7 @@ module _ (rows : List (List ℕ)) (n : ℕ) (f : RowsFit rows n) where
   as-many : length (carried-strata (table-in rows n)) ≡ n
   as-many =
       let c = rows-count rows n in
-      strata-length (table-in rows n) (omega (arith, f .few, rows-table-shaped rows n (f .rows-shaped) .rule-places)) ∙ c
+      strata-length (table-in rows n) (rows-table-shaped rows n f .rule-places (omega (arith, f .few, c))) ∙ c
 
   pub rows-stratum-0 : ((i : ℕ) → i < n → getD (getD rows i []) 3 0 ≡ 0) → true ≡ stratum-0 (table-in rows n)
   unfolding stratum-0

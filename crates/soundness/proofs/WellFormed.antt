@@ -89,7 +89,7 @@ module _ (t : Table) (sh : Shaped t) where
 
   rules-e : (f : Rule → Bool) → t .count ≤ rule-limit → T (all-of f (used-rules t)) → (i : ℕ) → i < t .count → T (f (getD (t .rules) i zero-rule))
   rules-e f w u i h =
-      rw (getD-take (t .count) (t .rules) i zero-rule h) at (all-e f (used-rules t) zero-rule u i (rw length-take (omega (arith, sh .rule-places))))
+      rw (getD-take (t .count) (t .rules) i zero-rule h) at (all-e f (used-rules t) zero-rule u i (rw length-take (omega (arith, sh .rule-places w))))
 
   pub well-formed-e : T (well-formed t) → WellFormed t
   unfolding well-formed within-limits slots-have-values names-its-own assigns-once rule-right
@@ -159,7 +159,7 @@ well-formed-fits t sh u =
     let w = well-formed-e t sh u in
     record {
       rules-fit = w .few-rules;
-      each-fits = λ i h. right-fits (t .width) (value-counts t) (getD (t .rules) i zero-rule) (sh .each-rule i (omega (arith, w .few-rules))) (w .each-right i h);
+      each-fits = λ i h. right-fits (t .width) (value-counts t) (getD (t .rules) i zero-rule) (sh .each-rule i (omega (arith, h, sh .rule-places (w .few-rules)))) (w .each-right i h);
     }
 
 -- The array of counts that the code gathers: that of each of the first k slots, with what the slots are asked for.

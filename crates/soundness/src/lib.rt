@@ -4,10 +4,12 @@ mod right;
 ghost use mathlib.Core.Path.{_≡_};
 ghost use lib.ListN.{length};
 ghost use Rattle.laws.specs.Limits.{slot-limit};
-ghost use Rattle.rows.specs.inner.Rows.{table-in, RowsShaped, RowsFit};
+ghost use Rattle.rows.specs.inner.Rows.{table-in, RowsFit};
 ghost use Rattle.soundness.specs.Sound.{well-formed, sound, stratum-0, strata-right};
-ghost use Rattle.soundness.specs.inner.Admitted.{Enters};
+ghost use Rattle.soundness.specs.inner.Admitted.{RowsFor, Enters};
+use rows::FEW;
 use rows::NUMBERS;
+use rows::SOME;
 use table::RULES;
 use table::SLOTS;
 use table::Table;
@@ -22,8 +24,8 @@ pub struct Entry {
 }
 
 // The test of a table without its strata: what passes is entered, its rules into their rows and how many values each slot has into the counts.
-pub fn enter(t: Table, counts: &mut [usize; SLOTS], rows: &mut [[u16; NUMBERS]; RULES]) -> Entry
-    requires { ⌜ RowsShaped (now rows) × (length (now counts) ≡ slot-limit) ⌝ }
+pub fn enter(t: Table, counts: &mut [usize; SLOTS], rows: &mut [[u16; NUMBERS]]) -> Entry
+    requires { ⌜ RowsFor t (now rows) × (length (now counts) ≡ slot-limit) ⌝ }
     ensures { λ e. ⌜ Enters t (well-formed t) e (now (counts .exit)) (now (rows .exit)) ⌝ }
 {
     let width = t.width as usize;
@@ -87,14 +89,25 @@ pub fn is_well_formed(t: Table) -> bool
     ensures { λ b. ⌜ b ≡ well-formed t ⌝ }
 {
     let mut counts: [usize; SLOTS] = [0; SLOTS];
+    let n = t.count as usize;
+    if n <= FEW {
+        let mut rows: [[u16; NUMBERS]; FEW] = [[0; NUMBERS]; FEW];
+        let entry = enter(t, &mut counts, &mut rows);
+        return entry.passed;
+    }
+    if n <= SOME {
+        let mut rows: [[u16; NUMBERS]; SOME] = [[0; NUMBERS]; SOME];
+        let entry = enter(t, &mut counts, &mut rows);
+        return entry.passed;
+    }
     let mut rows: [[u16; NUMBERS]; RULES] = [[0; NUMBERS]; RULES];
     let entry = enter(t, &mut counts, &mut rows);
     entry.passed
 }
 
 // The test of a table: well-formed, and it carries the least strata; what passes is entered.
-pub fn admit(t: Table, counts: &mut [usize; SLOTS], rows: &mut [[u16; NUMBERS]; RULES]) -> Entry
-    requires { ⌜ RowsShaped (now rows) × (length (now counts) ≡ slot-limit) ⌝ }
+pub fn admit(t: Table, counts: &mut [usize; SLOTS], rows: &mut [[u16; NUMBERS]]) -> Entry
+    requires { ⌜ RowsFor t (now rows) × (length (now counts) ≡ slot-limit) ⌝ }
     ensures { λ e. ⌜ Enters t (sound t) e (now (counts .exit)) (now (rows .exit)) ⌝ }
 {
     let entry = enter(t, counts, rows);
@@ -115,13 +128,24 @@ pub fn is_sound(t: Table) -> bool
     ensures { λ b. ⌜ b ≡ sound t ⌝ }
 {
     let mut counts: [usize; SLOTS] = [0; SLOTS];
+    let n = t.count as usize;
+    if n <= FEW {
+        let mut rows: [[u16; NUMBERS]; FEW] = [[0; NUMBERS]; FEW];
+        let entry = admit(t, &mut counts, &mut rows);
+        return entry.passed;
+    }
+    if n <= SOME {
+        let mut rows: [[u16; NUMBERS]; SOME] = [[0; NUMBERS]; SOME];
+        let entry = admit(t, &mut counts, &mut rows);
+        return entry.passed;
+    }
     let mut rows: [[u16; NUMBERS]; RULES] = [[0; NUMBERS]; RULES];
     let entry = admit(t, &mut counts, &mut rows);
     entry.passed
 }
 
 // Whether rows carry stratum 0 throughout.
-fn is_stratum_0(rows: &[[u16; NUMBERS]; RULES], n: usize) -> bool
+fn is_stratum_0(rows: &[[u16; NUMBERS]], n: usize) -> bool
     requires { ⌜ RowsFit (now rows) n ⌝ }
     ensures { λ b. ⌜ b ≡ stratum-0 (table-in (now (rows .entry)) n) ⌝ }
 {
@@ -136,7 +160,7 @@ fn is_stratum_0(rows: &[[u16; NUMBERS]; RULES], n: usize) -> bool
 }
 
 // The test of the strata that rows carry, by the response asked: stratum 0 throughout is looked for first, which costs less.
-pub fn strata_right(rows: &[[u16; NUMBERS]; RULES], n: usize, way: Way) -> bool
+pub fn strata_right(rows: &[[u16; NUMBERS]], n: usize, way: Way) -> bool
     requires { ⌜ RowsFit (now rows) n ⌝ }
     ensures { λ b. ⌜ b ≡ strata-right way (table-in (now (rows .entry)) n) ⌝ }
 {

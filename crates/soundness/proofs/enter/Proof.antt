@@ -2,8 +2,8 @@
 -- Assumes nothing.
 use mathlib.Core.Path.{_≡_, refl, sym, _∙_}
 use mathlib.Core.Bool.{true}
-use Prim.Native.Nat.{_-_, _≤_}
-use lib.ListN.{getD}
+use Prim.Native.Nat.{_-_, _≤_, _<_}
+use lib.ListN.{length, getD, length-set}
 use borrow.Author.Tests.{not-true, not-false}
 use Rattle.laws.proofs.Equations.{from-true}
 use Rattle.table.specs.Zero.{zero-rule}
@@ -26,7 +26,7 @@ abbrev μ-slots : tie.MeasureT-slots
 μ-slots counts₀ rows t width k₀ counts k = width - k
 
 abbrev Inv-rules : tie.InvT-rules
-Inv-rules counts rows₀ t width k n i₀ rows i = (i ≤ n) × RightUpTo t counts i × Entered (t .rules) rows i
+Inv-rules counts rows₀ t width k n i₀ rows i = (i ≤ n) × (length rows ≡ length rows₀) × RightUpTo t counts i × Entered (t .rules) rows i
 
 abbrev μ-rules : tie.MeasureT-rules
 μ-rules counts rows₀ t width k n i₀ rows i = n - i
@@ -37,6 +37,10 @@ shape c = shaped (c .args .t1) _ (c .good .0)
 -- All slots are counted.
 full : (c : tie.After-slots Inv-slots μ-slots Inv-rules μ-rules) → Counted (c .before .before .before .args .t1) (c .before .before .before .args .t1 .width) (c .before .slots .counts)
 full c = let e : c .before .slots .k ≡ c .before .before .before .args .t1 .width = omega arith in rw e at (c .before .slots .inv .1)
+
+-- There is a row for each rule.
+room : (c : tie.Else4 Inv-slots μ-slots Inv-rules μ-rules) → c .before .before .before .before .args .t1 .count ≤ length (c .before .before .before .before .args .rows .now)
+room c = c .before .before .before .before .pre .0 .enough (search needs)
 
 -- The rule at hand is right.
 right : (c : tie.Else5 Inv-slots μ-slots Inv-rules μ-rules) → rule-right (c .before .before .before .before .before .before .before .before .before .before .args .t1 .width) (c .before .before .before .before .before .before .before .before .slots .counts) (getD (c .before .before .before .before .before .before .before .before .before .before .args .t1 .rules) (c .before .before .before .before .before .rules .i) zero-rule) ≡ true
@@ -98,7 +102,7 @@ returns-4 : tie.Need-returns-4 Inv-slots μ-slots Inv-rules μ-rules
 returns-4 c = let s = c .before .before .before .before in not-entered _ _ _ _ (many-rules (s .args .t1) (shape s) (c .if4 .taken))
 
 rules-holds : tie.Need-rules-holds Inv-slots μ-slots Inv-rules μ-rules
-rules-holds c = let s = c .before .before .before .before in (search needs, right-start _ _, entered-start _ _ (s .pre .0))
+rules-holds c = let s = c .before .before .before .before in (search needs, refl, right-start _ _, entered-start _ _ (s .pre .0 .rows-shaped))
 
 mul-r : tie.Need-mul-r Inv-slots μ-slots Inv-rules μ-rules
 mul-r c = search needs
@@ -108,6 +112,9 @@ element-copy-out-r c = search needs
 
 is-right-requires : tie.Need-is-right-requires Inv-slots μ-slots Inv-rules μ-rules
 is-right-requires c κs = search needs
+
+same-length : tie.Need-same-length Inv-slots μ-slots Inv-rules μ-rules
+same-length c = search needs
 
 returns-5 : tie.Need-returns-5 Inv-slots μ-slots Inv-rules μ-rules
 returns-5 c =
@@ -119,13 +126,16 @@ mul-enter-rule : tie.Need-mul-enter-rule Inv-slots μ-slots Inv-rules μ-rules
 mul-enter-rule c = search needs
 
 index-1-enter-rule : tie.Need-index-1-enter-rule Inv-slots μ-slots Inv-rules μ-rules
-index-1-enter-rule c = search needs
+index-1-enter-rule c = omega (arith, room (c .before .before .before .before .before .before), c .before .before .before .before .before .rules .inv .1, c .before .before .before .before .rules-test .taken)
 
 enter-rule-requires : tie.Need-enter-rule-requires Inv-slots μ-slots Inv-rules μ-rules
 enter-rule-requires c κs =
     let s = c .before .before .before .before .before .before .before .before .before .before .before in
     let a = c .before .before .before .before .before .before in
-    (right-fits (s .args .t1 .width) (c .before .before .before .before .before .before .before .before .before .slots .counts) (getD (s .args .t1 .rules) (a .rules .i) zero-rule) (shape s .each-rule (a .rules .i) (search needs)) (from-true _ (right (c .before))), a .rules .inv .2 .shaped .each-row (a .rules .i) (search needs))
+    let h : a .rules .i < s .args .t1 .count = search needs in (
+      right-fits (s .args .t1 .width) (c .before .before .before .before .before .before .before .before .before .slots .counts) (getD (s .args .t1 .rules) (a .rules .i) zero-rule) (shape s .each-rule (a .rules .i) (omega (arith, h, shape s .rule-places (search needs)))) (from-true _ (right (c .before))),
+      a .rules .inv .3 .shaped .each-row (a .rules .i) (omega (arith, h, room (a .before), a .rules .inv .1)),
+    )
 
 add-i : tie.Need-add-i Inv-slots μ-slots Inv-rules μ-rules
 add-i c = search needs
@@ -137,7 +147,10 @@ rules-again : tie.Need-rules-again Inv-slots μ-slots Inv-rules μ-rules
 rules-again c =
     let s = c .before .before .before .before .before .before .before .before .before .before .before .before in
     let a = c .before .before .before .before .before .before .before in
-    (search needs, right-more (s .args .t1) (c .before .before .before .before .before .before .before .before .before .before .slots .counts) (a .rules .i) (right (c .before .before)) (a .rules .inv .1), entered-next (s .args .t1 .rules) (a .rules .rows) (a .rules .i) _ (search needs) (c .enter-rule .ensures) (a .rules .inv .2))
+    (search needs, length-set (a .rules .rows) _ _ ∙ a .rules .inv .1, right-more (s .args .t1) (c .before .before .before .before .before .before .before .before .before .before .slots .counts) (a .rules .i) (right (c .before .before)) (a .rules .inv .2), entered-next (s .args .t1 .rules) (a .rules .rows) (a .rules .i) _ (omega (arith, room (a .before), a .rules .inv .1, c .before .before .before .before .before .before .rules-test .taken)) (c .enter-rule .ensures) (a .rules .inv .3))
+
+same-length-2 : tie.Need-same-length-2 Inv-slots μ-slots Inv-rules μ-rules
+same-length-2 c = search needs
 
 returns-6 : tie.Need-returns-6 Inv-slots μ-slots Inv-rules μ-rules
 returns-6 c =
@@ -145,10 +158,10 @@ returns-6 c =
     let a = c .before in
     let e : a .rules .i ≡ s .args .t1 .count = omega arith in
     record {
-      says = all-right (s .args .t1) (shape s) (c .before .before .before .before .slots .counts) (full (c .before .before .before)) (search needs) (search needs) (rw e at (a .rules .inv .1));
+      says = all-right (s .args .t1) (shape s) (c .before .before .before .before .slots .counts) (full (c .before .before .before)) (search needs) (search needs) (rw e at (a .rules .inv .2));
       width-is = λ z. refl;
       count-is = λ z. refl;
-      admitted = λ z. admitted (s .args .t1) (c .before .before .before .before .slots .counts) (a .rules .rows) (shape s) (search needs) (full (c .before .before .before)) (rw e at (a .rules .inv .2));
+      admitted = λ z. admitted (s .args .t1) (c .before .before .before .before .slots .counts) (a .rules .rows) (shape s) (search needs) (omega (arith, room (a .before), a .rules .inv .1)) (full (c .before .before .before)) (rw e at (a .rules .inv .3));
     }
 
 pub enter-spec : {M : Type 1} → statement M
@@ -178,6 +191,7 @@ enter-spec =
     mul-r
     element-copy-out-r
     is-right-requires
+    same-length
     returns-5
     mul-enter-rule
     index-1-enter-rule
@@ -185,4 +199,5 @@ enter-spec =
     add-i
     rules-less
     rules-again
+    same-length-2
     returns-6)

@@ -23,8 +23,8 @@ loop-holds c = (search needs, λ k h. absurd (omega arith))
 mul-stratum : tie.Need-mul-stratum Inv-loop μ-loop
 mul-stratum c = search needs
 
-index-1-stratum : tie.Need-index-1-stratum Inv-loop μ-loop
-index-1-stratum c = search needs
+shared-slice-element-stratum : tie.Need-shared-slice-element-stratum Inv-loop μ-loop
+shared-slice-element-stratum c = search needs
 
 stratum-requires : tie.Need-stratum-requires Inv-loop μ-loop
 stratum-requires c κs = search needs
@@ -63,7 +63,7 @@ is-stratum-0-spec =
     μ-loop
     loop-holds
     mul-stratum
-    index-1-stratum
+    shared-slice-element-stratum
     stratum-requires
     returns
     add-i

@@ -2,13 +2,19 @@
 use mathlib.Core.Path.{_≡_}
 use mathlib.Core.Bool.{Bool, true}
 use mathlib.Core.List.{List}
-use Prim.Native.Nat.{ℕ, _<_}
-use lib.ListN.{getD}
+use Prim.Native.Nat.{ℕ, _≤_, _<_}
+use lib.ListN.{length, getD}
+use Rattle.laws.specs.Limits.{rule-limit}
 use Rattle.table.specs.declared.Table.{Table}
 use Rattle.table.specs.Zero.{zero-slot}
 use Rattle.table.specs.Link.{rules-of, carried-strata}
 use Rattle.soundness.specs.declared.Entry.{Entry}
-use Rattle.rows.specs.inner.Rows.{table-in, RowsFit}
+use Rattle.rows.specs.inner.Rows.{table-in, RowsShaped, RowsFit}
+
+-- Rows to enter a table into: one for each rule, unless it has more than a table may have and none is entered.
+pub record RowsFor (t : Table) (rows : List (List ℕ)) : Type 0 where
+  pub rows-shaped : RowsShaped rows
+  pub enough : t .count ≤ rule-limit → t .count ≤ length rows
 
 -- The counts are those of the slots, and the rows have the rules, with the strata that they carry.
 pub record Admitted (t : Table) (counts : List ℕ) (rows : List (List ℕ)) : Type 0 where
