@@ -9,11 +9,10 @@ ghost use Rattle.laws.specs.Packed.{byte-count, byte-at};
 ghost use Rattle.laws.specs.Limits.{rule-limit};
 ghost use Rattle.results.specs.Record.{ones-in};
 ghost use Rattle.results.specs.inner.Record.{fired-bits, flag-record};
-use table::RULES;
 
 // Bit i of the record: the flag of rule i + 1, and 0 in the padding.
-fn bit_at(fired: &[bool; RULES], count: usize, i: usize) -> u8
-    requires { ⌜ count ≤ rule-limit ⌝ }
+fn bit_at(fired: &[bool], count: usize, i: usize) -> u8
+    requires { ⌜ (count ≤ rule-limit) × (count ≤ length (now fired)) ⌝ }
     ensures { λ b. ⌜ b ≡ cond (getD (fired-bits (now (fired .entry)) count) i false) 1 0 ⌝ }
 {
     if count <= i {
@@ -26,8 +25,8 @@ fn bit_at(fired: &[bool; RULES], count: usize, i: usize) -> u8
 }
 
 // Byte k of the record.
-fn byte_at(fired: &[bool; RULES], count: usize, k: usize) -> u8
-    requires { ⌜ (count ≤ rule-limit) × (k < byte-count count) ⌝ }
+fn byte_at(fired: &[bool], count: usize, k: usize) -> u8
+    requires { ⌜ (count ≤ rule-limit) × (count ≤ length (now fired)) × (k < byte-count count) ⌝ }
     ensures { λ x. ⌜ x ≡ byte-at (fired-bits (now (fired .entry)) count) k ⌝ }
 {
     let mut x: u8 = 0;
@@ -41,8 +40,8 @@ fn byte_at(fired: &[bool; RULES], count: usize, k: usize) -> u8
 }
 
 // Writes the record to the front of the output.
-pub fn record_of(fired: &[bool; RULES], count: usize, out: &mut [u8])
-    requires { ⌜ (count ≤ rule-limit) × (byte-count count ≤ length (now out)) ⌝ }
+pub fn record_of(fired: &[bool], count: usize, out: &mut [u8])
+    requires { ⌜ (count ≤ rule-limit) × (count ≤ length (now fired)) × (byte-count count ≤ length (now out)) ⌝ }
     ensures { λ _. ⌜ now (out .exit) ≡ flag-record (now (fired .entry)) count ++ drop (byte-count count) (now (out .entry)) ⌝ }
 {
     let size = (count + 7) / 8;

@@ -13,8 +13,8 @@ returns c =
     let l = bits-size (s .args .fired .now) (s .args .count) in
     rw (bit-past (fired-bits (s .args .fired .now) (s .args .count)) (s .args .i) (omega arith))
 
-element-copy-out-if2 : tie.Need-element-copy-out-if2
-element-copy-out-if2 c = search needs
+shared-slice-read-if2 : tie.Need-shared-slice-read-if2
+shared-slice-read-if2 c = search needs
 
 returns-2 : tie.Need-returns-2
 returns-2 c =
@@ -27,4 +27,8 @@ returns-3 c =
     rw (bit-inside (s .args .fired .now) (s .args .count) (s .args .i) (search needs), c .if2 .left)
 
 pub bit-at-spec : {M : Type 1} → statement M
-bit-at-spec = tie.close (tie.spec returns element-copy-out-if2 returns-2 returns-3)
+bit-at-spec = tie.close (tie.spec
+    returns
+    shared-slice-read-if2
+    returns-2
+    returns-3)

@@ -20,7 +20,7 @@ abbrev μ-loop : tie.MeasureT-loop
 half : (c : tie.After-bit-at Inv-loop μ-loop) → c .before .before .loop .x < 128
 half c =
     let a = c .before .before in
-    let s = a .before in
+    let s = a .before .before in
     rw (a .loop .inv .1) (until-half (fired-bits (s .args .fired .now) (s .args .count)) (s .args .k) (a .loop .j) (search needs))
 
 loop-holds : tie.Need-loop-holds Inv-loop μ-loop
@@ -42,7 +42,7 @@ add-x : tie.Need-add-x Inv-loop μ-loop
 add-x c =
     let h = half c in
     let a = c .before .before in
-    let l = one-top (getD (fired-bits (a .before .args .fired .now) (a .before .args .count)) (8 * a .before .args .k + a .loop .j) false) in
+    let l = one-top (getD (fired-bits (a .before .before .args .fired .now) (a .before .before .args .count)) (8 * a .before .before .args .k + a .loop .j) false) in
     let e = c .bit-at .ensures in
     search needs
 
@@ -55,7 +55,7 @@ loop-less c = search needs
 loop-again : tie.Need-loop-again Inv-loop μ-loop
 loop-again c =
     let a = c .before .before in
-    let s = a .before in
+    let s = a .before .before in
     (search needs, rw (c .bit-at .ensures, a .loop .inv .1) (until-next (fired-bits (s .args .fired .now) (s .args .count)) (s .args .k) (a .loop .j)))
 
 returns : tie.Need-returns Inv-loop μ-loop
