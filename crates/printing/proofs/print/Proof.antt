@@ -18,9 +18,11 @@ enum-told c = search needs
 
 -- The text is accepted where the reading's answer says so.
 accepted : (c : tie.After-enum-told) → reading (c .before .before .before .before .before .before .args .text .now) .outcome ≡ Accepted
+unfolding reading
 accepted c = sym (ap (λ (r : FileRead). r .outcome) (c .before .before .before .read .ensures)) ∙ c .enum-told .given .1
 
 print-table-requires : tie.Need-print-table-requires
+unfolding reading
 print-table-requires c κs = (accepted (c .before), ap (λ (r : FileRead). r .table) (c .before .before .before .before .read .ensures))
 
 same-length : tie.Need-same-length
@@ -37,6 +39,7 @@ enum-known-outcome : tie.Need-enum-known-outcome
 enum-known-outcome c = search needs
 
 returns-2 : tie.Need-returns-2
+unfolding reading
 returns-2 c =
     let a = c .before in
     let k = a .before .before .before in
