@@ -1,4 +1,6 @@
-// Writes what the crate strata says of each table on standard input, then of chains of every length.
+// Writes what the crate strata says of each table on standard input, then of chains of many lengths.
+ghost use Prim.Native.Nat.{_≤_};
+ghost use Rattle.laws.specs.Limits.{rule-limit};
 ghost use Rattle.rows.specs.inner.Rows.{RowsFit};
 use libc::STDOUT_FILENO;
 use rows::NUMBERS;
@@ -9,8 +11,13 @@ use table::Literal;
 use table::RULES;
 use table::Rule;
 use table::SLOTS;
-use table::Stratum;
 use table::Table;
+
+// The most bytes that are read of the input.
+const INPUT: usize = 262144;
+
+// The rules of the longest chain that does not come round to its first pair.
+const OPEN: u16 = 479;
 
 // A byte of the input, 0 after its end.
 fn byte(s: &[u8], at: usize) -> u8 {
@@ -20,6 +27,19 @@ fn byte(s: &[u8], at: usize) -> u8 {
 // The next place of an input of this size.
 fn next(at: usize, size: usize) -> usize {
     if at < size { at + 1 } else { size }
+}
+
+// The number that two bytes make, the high one first.
+fn double(high: u8, low: u8) -> u16 {
+    high as u16 * 256 + low as u16
+}
+
+// The places that so many rules use: no more than there are.
+fn places(count: u16) -> usize
+    ensures { λ n. ⌜ n ≤ rule-limit ⌝ }
+{
+    let n = rows::wide(count);
+    if n < RULES { n } else { RULES }
 }
 
 // A rule and the place after it.
@@ -96,7 +116,7 @@ fn read_assignments(s: &[u8], start: usize, before: Rule, fill: u8) -> ReadRule 
     ReadRule { rule: r, at: at }
 }
 
-// A rule: trigger, stratum, literals used, assignments used, each number before what it counts.
+// A rule: trigger, stratum (high byte first), literals used, assignments used, each number before what it counts.
 fn read_rule(s: &[u8], start: usize, fill: u8) -> ReadRule {
     let size = s.len();
     let mut at = start;
@@ -105,8 +125,11 @@ fn read_rule(s: &[u8], start: usize, fill: u8) -> ReadRule {
     at = next(at, size);
     r.value = byte(s, at);
     at = next(at, size);
-    r.stratum = byte(s, at);
+    let high = byte(s, at);
     at = next(at, size);
+    let low = byte(s, at);
+    at = next(at, size);
+    r.stratum = double(high, low);
     r.tested = byte(s, at);
     at = next(at, size);
     let half = read_literals(s, at, r, fill);
@@ -139,20 +162,19 @@ fn read_table(s: &[u8], start: usize) -> ReadTable {
         t.slots[k] = slot;
         k += 1;
     }
-    let high = byte(s, at) as u16;
+    let high = byte(s, at);
     at = next(at, size);
-    let low = byte(s, at) as u16;
+    let low = byte(s, at);
     at = next(at, size);
-    let count = high * 256 + low;
+    let count = double(high, low);
     t.count = count;
+    let n = places(count);
     let mut i: usize = 0;
-    'rules: while i < RULES {
-        if i < count as usize {
-            let got = read_rule(s, at, fill);
-            let r = got.rule;
-            at = got.at;
-            t.rules[i] = r;
-        }
+    'rules: while i < n {
+        let got = read_rule(s, at, fill);
+        let r = got.rule;
+        at = got.at;
+        t.rules[i] = r;
         i += 1;
     }
     ReadTable { table: t, at: at }
@@ -175,14 +197,11 @@ fn write_answer(yes: bool) {
 
 // The strata that a table carries.
 fn write_strata(t: Table) {
-    let n = t.count as usize;
+    let n = places(t.count);
     let mut i: usize = 0;
-    while i < RULES {
-        if i < n {
-            let r = t.rules[i];
-            let x = r.stratum;
-            write_number(table::wide(x));
-        }
+    while i < n {
+        let r = t.rules[i];
+        write_number(rows::wide(r.stratum));
         i += 1;
     }
 }
@@ -209,8 +228,7 @@ fn layer(t: Table, rows: &[[u16; NUMBERS]; RULES]) -> Layering
     let mut u = t;
     let mut i: usize = 0;
     while i < n {
-        let s = numbers[i];
-        u.rules[i].stratum = s as Stratum;
+        u.rules[i].stratum = numbers[i];
         i += 1;
     }
     Layering {
@@ -305,11 +323,11 @@ fn link_by(a: usize, b: usize, under_not: bool) -> Rule {
 }
 
 // A chain of so many rules: each tests what the one before it assigns, or the one after it; plainly or under NOT.
-fn chain(length: u8, backward: bool, under_not: bool) -> Table {
+fn chain(length: u16, backward: bool, under_not: bool) -> Table {
     let mut t = table::empty_table();
     t.width = SLOTS as u16;
-    t.count = length as u16;
-    let n = table::wide(length);
+    t.count = length;
+    let n = places(length);
     let mut k: usize = 0;
     'slots: while k < SLOTS {
         let mut slot = t.slots[k];
@@ -318,15 +336,13 @@ fn chain(length: u8, backward: bool, under_not: bool) -> Table {
         k += 1;
     }
     let mut i: usize = 0;
-    'rules: while i < RULES {
-        if i < n {
-            if backward {
-                let r = link_by(i + 1, i, under_not);
-                t.rules[i] = r;
-            } else {
-                let r = link_by(i, i + 1, under_not);
-                t.rules[i] = r;
-            }
+    'rules: while i < n {
+        if backward {
+            let r = link_by(i + 1, i, under_not);
+            t.rules[i] = r;
+        } else {
+            let r = link_by(i, i + 1, under_not);
+            t.rules[i] = r;
         }
         i += 1;
     }
@@ -345,11 +361,11 @@ fn write_chain(t: Table) {
     let u = answer.table;
     let n = u.count as usize;
     let first = u.rules[0];
-    write_number(table::wide(first.stratum));
+    write_number(rows::wide(first.stratum));
     if 0 < n {
         if n <= RULES {
             let last = u.rules[n - 1];
-            write_number(table::wide(last.stratum));
+            write_number(rows::wide(last.stratum));
         }
     }
     write_answer(soundness::is_sound(u));
@@ -357,26 +373,32 @@ fn write_chain(t: Table) {
 }
 
 // One chain under its name.
-fn write_named(name: &[u8], length: u8, backward: bool, under_not: bool) {
+fn write_named(name: &[u8], length: u16, backward: bool, under_not: bool) {
     io::write_all(STDOUT_FILENO, name);
-    write_number(table::wide(length));
+    write_number(rows::wide(length));
     write_chain(chain(length, backward, under_not));
 }
 
-// Chains of every length, both ways, plain and under NOT.
+// The chains of one length: both ways, plain and under NOT.
+fn write_length(length: u16) {
+    write_named(b"forward", length, false, false);
+    write_named(b"backward", length, true, false);
+    write_named(b"forward-not", length, false, true);
+    write_named(b"backward-not", length, true, true);
+}
+
+// Chains of every length that does not come round, then those of as many rules as a table may have, which do.
 fn write_chains() {
-    let mut length: u8 = 0;
-    while table::wide(length) < RULES {
+    let mut length: u16 = 0;
+    while length < OPEN {
         length += 1;
-        write_named(b"forward", length, false, false);
-        write_named(b"backward", length, true, false);
-        write_named(b"forward-not", length, false, true);
-        write_named(b"backward-not", length, true, true);
+        write_length(length);
     }
+    write_length(RULES as u16);
 }
 
 fn main() {
-    let mut buffer = io::large_buffer();
+    let mut buffer: [u8; INPUT] = [0; INPUT];
     let n = io::read_full(libc::STDIN_FILENO, &mut buffer);
     write_cases(&buffer[..n]);
     write_chains();

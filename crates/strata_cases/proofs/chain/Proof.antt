@@ -1,21 +1,22 @@
 -- `strata_cases::chain` is safe and ends.
 -- Assumes nothing.
 use Prim.Native.Nat.{_-_, _≤_}
+use Rattle.laws.specs.Limits.{rule-limit}
 use borrow.Author.Needs.{needs}
 use Rattle.strata_cases.proofs.chain.Statement.{statement}
 use Rattle.strata_cases.proofs.chain.Tie as tie
 
 abbrev Inv-slots : tie.InvT-slots
-Inv-slots length backward under t₀ n k₀ t k = k ≤ 32
+Inv-slots length backward under-not t₀ n k₀ t k = k ≤ 32
 
 abbrev μ-slots : tie.MeasureT-slots
-μ-slots length backward under t₀ n k₀ t k = 32 - k
+μ-slots length backward under-not t₀ n k₀ t k = 32 - k
 
 abbrev Inv-rules : tie.InvT-rules
-Inv-rules length backward under t₀ n k i₀ t i = i ≤ 255
+Inv-rules length backward under-not t₀ n k i₀ t i = (n ≤ rule-limit) × (i ≤ n)
 
 abbrev μ-rules : tie.MeasureT-rules
-μ-rules length backward under t₀ n k i₀ t i = 255 - i
+μ-rules length backward under-not t₀ n k i₀ t i = n - i
 
 empty-table-requires : tie.Need-empty-table-requires Inv-slots μ-slots Inv-rules μ-rules
 empty-table-requires c κs = search needs
@@ -23,8 +24,8 @@ empty-table-requires c κs = search needs
 cast-t : tie.Need-cast-t Inv-slots μ-slots Inv-rules μ-rules
 cast-t c = search needs
 
-wide-requires : tie.Need-wide-requires Inv-slots μ-slots Inv-rules μ-rules
-wide-requires c κs = search needs
+places-requires : tie.Need-places-requires Inv-slots μ-slots Inv-rules μ-rules
+places-requires c κs = search needs
 
 slots-holds : tie.Need-slots-holds Inv-slots μ-slots Inv-rules μ-rules
 slots-holds c = search needs
@@ -99,7 +100,7 @@ chain-spec =
     μ-rules
     empty-table-requires
     cast-t
-    wide-requires
+    places-requires
     slots-holds
     mul-slot
     element-copy-out-slot

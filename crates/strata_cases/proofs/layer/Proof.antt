@@ -1,12 +1,9 @@
 -- `strata_cases::layer` is safe and ends.
 -- Assumes nothing.
-use Prim.Native.Nat.{ℕ, _-_, _≤_, _<_}
+use Prim.Native.Nat.{_-_, _≤_}
 use native.Mathlib.Omega.{arith}
-use mathlib.Core.Path.{_≡_, refl, sym, _∙_}
-use lib.ListN.{getD}
+use mathlib.Core.Path.{refl}
 use Rattle.laws.specs.Limits.{rule-limit}
-use Rattle.rows.proofs.Laws.{rows-count, rows-table-shaped, rows-table-fits}
-use Rattle.strata.proofs.Layered.{number-small}
 use borrow.Author.Needs.{needs}
 use Rattle.strata_cases.proofs.layer.Statement.{statement}
 use Rattle.strata_cases.proofs.layer.Tie as tie
@@ -16,14 +13,6 @@ Inv-loop rows n numbers k u₀ i₀ u i = (n ≤ rule-limit) × (i ≤ n)
 
 abbrev μ-loop : tie.MeasureT-loop
 μ-loop rows n numbers k u₀ i₀ u i = n - i
-
--- The numbers found are strata.
-small : (c : tie.After-find Inv-loop μ-loop) → c .find .result ≡ 0 → (i : ℕ) → i < c .before .before .before .args .t .count → getD (c .find .last .1 .1 .0) i 0 ≤ rule-limit
-small c z i h =
-    let s = c .before .before .before in
-    let rows = s .args .rows .now in
-    let n = s .args .t .count in
-    rw (← (c .find .ensures .1 z)) at (number-small _ (rows-table-fits rows n (s .pre)) (rows-table-shaped rows n (s .pre .rows-shaped)) (sym (c .find .ensures .0) ∙ z) i (rw (rows-count rows n) h))
 
 cast-n : tie.Need-cast-n Inv-loop μ-loop
 cast-n c = search needs
@@ -40,20 +29,14 @@ returns c = search needs
 loop-holds : tie.Need-loop-holds Inv-loop μ-loop
 loop-holds c = (c .before .before .before .before .pre .few, search needs)
 
-mul-s : tie.Need-mul-s Inv-loop μ-loop
-mul-s c = search needs
-
-array-read-s : tie.Need-array-read-s Inv-loop μ-loop
-array-read-s c = search needs
-
-cast-u : tie.Need-cast-u Inv-loop μ-loop
-cast-u c =
-    let d = c .before .before .before in
-    let z : d .find .result ≡ 0 = omega (arith, c .before .before .if1 .left) in
-    record { fits = omega (arith, small d z (c .before .loop .i) (c .loop-test .taken)) }
-
 mul-u : tie.Need-mul-u Inv-loop μ-loop
 mul-u c = search needs
+
+array-read-u : tie.Need-array-read-u Inv-loop μ-loop
+array-read-u c = search needs
+
+mul-u-2 : tie.Need-mul-u-2 Inv-loop μ-loop
+mul-u-2 c = search needs
 
 way-write-given-u : tie.Need-way-write-given-u Inv-loop μ-loop
 way-write-given-u c = (omega (arith, c .loop-test .taken, c .before .loop .inv .0), tt)
@@ -81,10 +64,9 @@ layer-spec =
     empty-table-requires
     returns
     loop-holds
-    mul-s
-    array-read-s
-    cast-u
     mul-u
+    array-read-u
+    mul-u-2
     way-write-given-u
     add-i
     loop-less

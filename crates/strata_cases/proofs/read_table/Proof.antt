@@ -1,6 +1,7 @@
 -- `strata_cases::read_table` is safe and ends.
 -- Assumes nothing.
 use Prim.Native.Nat.{_-_, _≤_}
+use Rattle.laws.specs.Limits.{rule-limit}
 use borrow.Author.Needs.{needs}
 use Rattle.strata_cases.proofs.read_table.Statement.{statement}
 use Rattle.strata_cases.proofs.read_table.Tie as tie
@@ -12,10 +13,10 @@ abbrev μ-slots : tie.MeasureT-slots
 μ-slots s start size at₀ fill width t₀ k₀ at t k = 32 - k
 
 abbrev Inv-rules : tie.InvT-rules
-Inv-rules s start size at₀ fill width t₀ k high low count i₀ at t i = i ≤ 255
+Inv-rules s start size at₀ fill width t₀ k high low count n i₀ at t i = (n ≤ rule-limit) × (i ≤ n)
 
 abbrev μ-rules : tie.MeasureT-rules
-μ-rules s start size at₀ fill width t₀ k high low count i₀ at t i = 255 - i
+μ-rules s start size at₀ fill width t₀ k high low count n i₀ at t i = n - i
 
 byte-requires : tie.Need-byte-requires Inv-slots μ-slots Inv-rules μ-rules
 byte-requires c κs = search needs
@@ -77,32 +78,23 @@ slots-again c = search needs
 byte-requires-4 : tie.Need-byte-requires-4 Inv-slots μ-slots Inv-rules μ-rules
 byte-requires-4 c κs = search needs
 
-cast-high : tie.Need-cast-high Inv-slots μ-slots Inv-rules μ-rules
-cast-high c = search needs
-
 next-requires-4 : tie.Need-next-requires-4 Inv-slots μ-slots Inv-rules μ-rules
 next-requires-4 c κs = search needs
 
 byte-requires-5 : tie.Need-byte-requires-5 Inv-slots μ-slots Inv-rules μ-rules
 byte-requires-5 c κs = search needs
 
-cast-low : tie.Need-cast-low Inv-slots μ-slots Inv-rules μ-rules
-cast-low c = search needs
-
 next-requires-5 : tie.Need-next-requires-5 Inv-slots μ-slots Inv-rules μ-rules
 next-requires-5 c κs = search needs
 
-mul-count : tie.Need-mul-count Inv-slots μ-slots Inv-rules μ-rules
-mul-count c = search needs
+double-requires : tie.Need-double-requires Inv-slots μ-slots Inv-rules μ-rules
+double-requires c κs = search needs
 
-add-count : tie.Need-add-count Inv-slots μ-slots Inv-rules μ-rules
-add-count c = search needs
+places-requires : tie.Need-places-requires Inv-slots μ-slots Inv-rules μ-rules
+places-requires c κs = search needs
 
 rules-holds : tie.Need-rules-holds Inv-slots μ-slots Inv-rules μ-rules
 rules-holds c = search needs
-
-cast-if2 : tie.Need-cast-if2 Inv-slots μ-slots Inv-rules μ-rules
-cast-if2 c = search needs
 
 read-rule-requires : tie.Need-read-rule-requires Inv-slots μ-slots Inv-rules μ-rules
 read-rule-requires c κs = search needs
@@ -153,15 +145,12 @@ read-table-spec =
     slots-less
     slots-again
     byte-requires-4
-    cast-high
     next-requires-4
     byte-requires-5
-    cast-low
     next-requires-5
-    mul-count
-    add-count
+    double-requires
+    places-requires
     rules-holds
-    cast-if2
     read-rule-requires
     mul-r
     element-set-from-r

@@ -1,18 +1,19 @@
 -- `strata_cases::write_strata` is safe and ends.
 -- Assumes nothing.
 use Prim.Native.Nat.{_-_, _≤_}
+use Rattle.laws.specs.Limits.{rule-limit}
 use borrow.Author.Needs.{needs}
 use Rattle.strata_cases.proofs.write_strata.Statement.{statement}
 use Rattle.strata_cases.proofs.write_strata.Tie as tie
 
 abbrev Inv-loop : tie.InvT-loop
-Inv-loop t n i₀ i = i ≤ 255
+Inv-loop t n i₀ i = (n ≤ rule-limit) × (i ≤ n)
 
 abbrev μ-loop : tie.MeasureT-loop
-μ-loop t n i₀ i = 255 - i
+μ-loop t n i₀ i = n - i
 
-cast-n : tie.Need-cast-n Inv-loop μ-loop
-cast-n c = search needs
+places-requires : tie.Need-places-requires Inv-loop μ-loop
+places-requires c κs = search needs
 
 loop-holds : tie.Need-loop-holds Inv-loop μ-loop
 loop-holds c = search needs
@@ -47,7 +48,7 @@ write-strata-spec =
     (tie.spec
     Inv-loop
     μ-loop
-    cast-n
+    places-requires
     loop-holds
     mul-r
     element-copy-out-r
