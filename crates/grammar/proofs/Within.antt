@@ -131,6 +131,22 @@ smaller bytes most large more text h l = ⊎-elim short long (le-or-lt (length t
     long : bytes < length text → Smaller bytes most text (parse-within large more text) (parse-within bytes most text)
     long s = rw (lt-leb (length text) bytes s) (too-long s)
 
+-- Of a text that is short enough: the same where the larger reading came to no rule too many, 15 where it came to more.
+pub smaller-same : (bytes most : ℕ) (text : List ℕ) (larger y : Parsed) → length text ≤ bytes → (Beyond most larger → ⊥) → Smaller bytes most text larger y → y ≡ larger
+smaller-same bytes most text larger y h n (too-long s) = absurd (let z = s in omega arith)
+smaller-same bytes most text larger y h n (too-many s b) = absurd (n b)
+smaller-same bytes most text larger y h n (the-same s a) = refl
+
+pub smaller-many : (bytes most : ℕ) (text : List ℕ) (larger y : Parsed) → length text ≤ bytes → (At-most most larger → ⊥) → Smaller bytes most text larger y → y ≡ refused 15 most
+smaller-many bytes most text larger y h n (too-long s) = absurd (let z = s in omega arith)
+smaller-many bytes most text larger y h n (too-many s b) = refl
+smaller-many bytes most text larger y h n (the-same s a) = absurd (n a)
+
+pub smaller-either : (bytes most : ℕ) (text : List ℕ) (larger y : Parsed) → length text ≤ bytes → Smaller bytes most text larger y → (y ≡ larger) ⊎ (y ≡ refused 15 most)
+smaller-either bytes most text larger y h (too-long s) = absurd (let z = s in omega arith)
+smaller-either bytes most text larger y h (too-many s b) = inr refl
+smaller-either bytes most text larger y h (the-same s a) = inl refl
+
 -- One that is accepted with the smaller limits is with the larger, as the same file.
 pub smaller-accepted : (bytes most large more : ℕ) (text : List ℕ) (f : File) → bytes ≤ large → most ≤ more → parse-within bytes most text ≡ accepted f → (parse-within large more text ≡ accepted f) × (length (f .rules) ≤ most)
 smaller-accepted bytes most large more text f h l e = go (parse-within large more text) (parse-within bytes most text) refl e (smaller bytes most large more text h l)

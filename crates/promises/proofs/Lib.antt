@@ -24,6 +24,7 @@ pub mod ResponseReasons
 pub mod Returned
 pub mod NameReasons
 pub mod Program
+pub mod ProgramLimits
 pub mod Demand1
 pub mod Called
 pub mod Demand2

@@ -7,7 +7,7 @@ use mathlib.Core.Bool.{Bool, true, false, cond}
 use mathlib.Core.List.{List, [], _∷_}
 use mathlib.Core.Logic.{_⊎_, inl, inr, ⊎-elim}
 use lib.ListN.{length}
-use Rattle.laws.specs.Limits.{slot-limit, rule-limit}
+use Rattle.laws.specs.Limits.{slot-limit, program-rule-limit}
 use Rattle.laws.specs.Answers.{OrRefused, taken, refused}
 use Rattle.laws.proofs.Equations.{is-true, from-true}
 use Rattle.laws.proofs.Numbers.{is-false}
@@ -21,7 +21,10 @@ use Rattle.soundness.specs.Sound.{sound, takes}
 use Rattle.reader.specs.declared.FileRead.{FileRead}
 use Rattle.reader.specs.declared.Outcome.{Outcome}
 use Rattle.reader.specs.declared.Outcome.the-variants.{Accepted, Refused}
-use Rattle.rule_file.specs.Whole.{reading}
+use Rattle.rule_file.specs.Whole.{reading, program-reading}
+use Rattle.rule_file.specs.Carries.{Carries}
+use Rattle.rule_file.proofs.Within.{program-accepted, program-few, program-range}
+use Rattle.grammar.proofs.Accepts.{accepts-iff}
 use Rattle.rule_file.proofs.Answers.{reading-passes, reading-carries}
 use Rattle.cards.proofs.EntryTrips.{few-slots}
 use Rattle.tally.specs.declared.Tally.{Tally}
@@ -71,13 +74,13 @@ one-editor-e [] e = absurd (omega (arith, editor-e 0 e .0))
 one-editor-e (b ∷ []) e = let n = editor-e b e in (b, refl, record { first = n .0; last = n .1 })
 one-editor-e (b ∷ c ∷ bs) e = absurd (omega (arith, editor-e 0 e .0))
 
-one-editor-i : (editor : List ℕ) → OneEditor editor → is-editor (editor-number editor) ≡ true
+pub one-editor-i : (editor : List ℕ) → OneEditor editor → is-editor (editor-number editor) ≡ true
 unfolding editor-number
 one-editor-i editor w = rw (w .1) (editor-i (w .0) (w .2 .first) (w .2 .last))
 
 module _ (text card slip editor : List ℕ) where
   abbrev t : Table
-  t = reading text .table
+  t = program-reading text .table
 
   -- The program's records, lent to the editor of the file.
   abbrev y : Editors
@@ -88,16 +91,18 @@ module _ (text card slip editor : List ℕ) where
   came = answer-to t y card slip program-rooms
 
   -- An accepted text's table has at most as many slots and rules as the program's outputs have room for.
-  enough : reading text .outcome ≡ Accepted → RoomRight (length (value-counts t)) (length (rules-of t)) program-rooms
+  enough : program-reading text .outcome ≡ Accepted → RoomRight (length (value-counts t)) (length (rules-of t)) program-rooms
   enough o =
-      let c = reading-carries text o in
-      let slots : length (value-counts t) ≤ slot-limit = few-slots t (is-true (sound t) (reading-passes text)) in
-      let few : length (c .file .rules) ≤ rule-limit = file-declared text (c .file) (c .is-file) .few-rules in
-      let rules : length (rules-of t) ≤ rule-limit = subst (λ (rs : List Rule). length rs ≤ rule-limit) (sym (c .rules-are)) few in
+      let e = program-accepted text o in
+      let same : reading text .table ≡ t = ap (λ (r : FileRead). r .table) e in
+      let c = subst (Carries text) same (reading-carries text (ap (λ (r : FileRead). r .outcome) e ∙ o)) in
+      let slots : length (value-counts t) ≤ slot-limit = few-slots t (is-true (sound t) (subst (λ (u : Table). T (sound u)) same (reading-passes text))) in
+      let few : length (c .file .rules) ≤ program-rule-limit = program-few text o (c .file) (accepts-iff text (c .file) .1 (c .is-file)) in
+      let rules : length (rules-of t) ≤ program-rule-limit = subst (λ (rs : List Rule). length rs ≤ program-rule-limit) (sym (c .rules-are)) few in
       record { for-card = omega (arith, slots); for-changes = omega arith; for-fired = omega (arith, rules) }
 
   -- So the response does not give 30.
-  answer-not-30 : HasRecord y → reading text .outcome ≡ Accepted → (s : ℕ) → ¬ (came ≡ refused 30 s)
+  answer-not-30 : HasRecord y → program-reading text .outcome ≡ Accepted → (s : ℕ) → ¬ (came ≡ refused 30 s)
   answer-not-30 h o s e =
       let c : Countable y = record { has-one = h; not-full = subst NotFull (sym (own-fresh (editor-number editor))) (omega arith, omega arith) } in
       table-not Strata t card slip program-rooms 30 s (enough o)
@@ -114,33 +119,27 @@ module _ (text card slip editor : List ℕ) where
   response-refuses (taken a) k s e = absurd (let z : _≡_ {A = ℕ} 0 1 = cc in omega arith)
   response-refuses (refused j r) k s e = let x : j ≡ k = cc in let z : r ≡ s = cc in rw (x, z) refl
 
-  refuses : (o : Outcome) → reading text .outcome ≡ o → (k s : ℕ) → list-reading text o t y card slip ≡ refusal k s → ((reading text .outcome ≡ Accepted) × (came ≡ refused k s)) ⊎ (k ≤ 18)
+  refuses : (o : Outcome) → program-reading text .outcome ≡ o → (k s : ℕ) → list-reading text o t y card slip ≡ refusal k s → ((program-reading text .outcome ≡ Accepted) × (came ≡ refused k s)) ⊎ (k ≤ 18)
   unfolding list-reading
   refuses Accepted q k s e = inl (q, response-refuses came k s e)
-  refuses (Refused j n) q k s e =
-      let x : j ≡ k = cc in
-      inr (⊎-elim (λ o. absurd (let z : Accepted ≡ Refused j n = sym o ∙ q in let w : _≡_ {A = ℕ} 0 1 = cc in omega arith))
-      (λ w. let z : w .0 ≡ j = same (w .0) j (w .1) n (sym (ap (λ (r : FileRead). r .outcome) (w .3)) ∙ q) in omega (arith, w .2 .1, x, z)) (text-comes Strata text))
-    where
-      same : (a b m p : ℕ) → Refused a m ≡ Refused b p → a ≡ b
-      same a b m p c = let z : a ≡ b = cc in z
+  refuses (Refused j n) q k s e = let x : j ≡ k = cc in inr (omega (arith, program-range text j n q, x))
 
   -- A refusal above 18 is 44, of a number that is no editor's, or that of a response.
-  lists-refusal : (k s : ℕ) → 18 < k → listing text card slip editor ≡ refusal k s → ((k ≡ 44) × (s ≡ 0) × (is-editor (editor-number editor) ≡ false)) ⊎ (HasRecord y × (reading text .outcome ≡ Accepted) × (came ≡ refused k s))
+  lists-refusal : (k s : ℕ) → 18 < k → listing text card slip editor ≡ refusal k s → ((k ≡ 44) × (s ≡ 0) × (is-editor (editor-number editor) ≡ false)) ⊎ (HasRecord y × (program-reading text .outcome ≡ Accepted) × (came ≡ refused k s))
   lists-refusal k s l e = go (is-editor (editor-number editor)) refl
     where
-      go : (b : Bool) → is-editor (editor-number editor) ≡ b → ((k ≡ 44) × (s ≡ 0) × (b ≡ false)) ⊎ (HasRecord y × (reading text .outcome ≡ Accepted) × (came ≡ refused k s))
-      go true q = ⊎-elim (λ w. inr (editor-has q, w .0, w .1)) (λ h. absurd (omega (arith, h, l))) (refuses (reading text .outcome) refl k s (sym (listing-read text card slip editor q) ∙ e))
+      go : (b : Bool) → is-editor (editor-number editor) ≡ b → ((k ≡ 44) × (s ≡ 0) × (b ≡ false)) ⊎ (HasRecord y × (program-reading text .outcome ≡ Accepted) × (came ≡ refused k s))
+      go true q = ⊎-elim (λ w. inr (editor-has q, w .0, w .1)) (λ h. absurd (omega (arith, h, l))) (refuses (program-reading text .outcome) refl k s (sym (listing-read text card slip editor q) ∙ e))
       go false q = let z = sym (listing-44 text card slip editor q) ∙ e in let x : 44 ≡ k = cc in let w : 0 ≡ s = cc in inl (sym x, sym w, refl)
 
-  never : (k s : ℕ) → 18 < k → ¬ (k ≡ 44) → (HasRecord y → reading text .outcome ≡ Accepted → ¬ (came ≡ refused k s)) → ¬ (listing text card slip editor ≡ refusal k s)
+  never : (k s : ℕ) → 18 < k → ¬ (k ≡ 44) → (HasRecord y → program-reading text .outcome ≡ Accepted → ¬ (came ≡ refused k s)) → ¬ (listing text card slip editor ≡ refusal k s)
   never k s l n f e = ⊎-elim (λ w. n (w .0)) (λ w. f (w .0) (w .1) (w .2)) (lists-refusal k s l e)
 
   -- 30, 31 AND 32 CANNOT OCCUR IN THE PROGRAM.
   pub none-of-caller : NoneOfCaller text card slip editor
   none-of-caller = record {
     no-30 = λ s. never 30 s (omega arith) (λ q. omega (arith, q)) (λ h o. answer-not-30 h o s);
-    no-31 = λ s. never 31 s (omega arith) (λ q. omega (arith, q)) (λ h o. reading-no-31 Strata text y card slip program-rooms s);
+    no-31 = λ s. never 31 s (omega arith) (λ q. omega (arith, q)) (λ h o. subst (λ (u : Table). ¬ (answer-to u y card slip program-rooms ≡ refused 31 s)) (ap (λ (r : FileRead). r .table) (program-accepted text o)) (reading-no-31 Strata text y card slip program-rooms s));
     no-32 = λ s. never 32 s (omega arith) (λ q. omega (arith, q)) (λ h o. fresh-no-32 Strata t y card slip program-rooms (own-fresh (editor-number editor)) s);
   }
 
@@ -173,7 +172,7 @@ module _ (text card slip editor : List ℕ) where
       where
         go : (b : Bool) → is-editor (editor-number editor) ≡ b → (editor ≡ n ∷ []) × (r ≡ one-answered fresh)
         go true q =
-            let w = reading-lists q (reading text .outcome) (sym (listing-read text card slip editor q) ∙ e) in
+            let w = reading-lists q (program-reading text .outcome) (sym (listing-read text card slip editor q) ∙ e) in
             let f = one-editor-e editor q in
             (f .1 ∙ ap (λ (m : ℕ). m ∷ []) (sym (ap editor-number (f .1)) ∙ w .0), w .1)
         go false q = absurd (let c = sym (listing-44 text card slip editor q) ∙ e in let z : _≡_ {A = ℕ} 0 1 = cc in omega arith)

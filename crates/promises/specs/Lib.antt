@@ -15,3 +15,4 @@ pub mod ByMarks
 pub mod TruthValues
 pub mod Withdrawals
 pub mod Program
+pub mod ProgramLimits

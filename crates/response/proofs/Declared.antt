@@ -53,7 +53,7 @@ module _ (t : Table) (sh : Shaped t) (passes : T (well-formed t)) where
   -- The rule of a number has a place, and names what the table has.
   module _ (i : ℕ) (inside : i < length (rules-of t)) where
     below : i < t .count
-    below = omega (arith, inside, rules-length t (omega (arith, form .few-rules, sh .rule-places)))
+    below = omega (arith, inside, rules-length t (sh .rule-places (form .few-rules)))
 
     own : T (has-pair (t .width) (value-counts t) (rule-of (getD (t .rules) i zero-rule) .trigger))
         × T (all-of (has-pair (t .width) (value-counts t)) (map (λ l. l .pair) (literals-of (getD (t .rules) i zero-rule)))) × T (all-of (has-pair (t .width) (value-counts t)) (assignments-of (getD (t .rules) i zero-rule)))

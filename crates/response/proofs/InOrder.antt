@@ -1,7 +1,7 @@
 -- A card, a slip and rows that are in order, as the model has them: what both responses use.
 -- Assumes nothing.
-use mathlib.Core.Path.{_≡_, sym, _∙_}
-use mathlib.Core.Bool.{false}
+use mathlib.Core.Path.{_≡_, sym, ap, _∙_}
+use mathlib.Core.Bool.{Bool, false}
 use mathlib.Core.Logic.{⊎-elim}
 use Prim.Native.Nat.{ℕ, zero, suc, _≤_, _<_}
 use mathlib.Core.List.{List}
@@ -12,6 +12,7 @@ use Rattle.laws.specs.Limits.{slot-limit, row}
 use Rattle.laws.specs.Tabulated.{tabulate}
 use Rattle.laws.proofs.Truth.{le-or-lt, or-e}
 use Rattle.laws.proofs.Tabulated.{tabulate-length, tabulate-at}
+use Rattle.laws.proofs.Filled.{replicate-at}
 use Rattle.model.specs.Rules.{Pair, same, among}
 use Rattle.model.proofs.Alike.{SameCard}
 use Rattle.model.proofs.Pairs.{same-eq}
@@ -25,6 +26,7 @@ use Rattle.cards.specs.declared.Card.{Card}
 use Rattle.cards.specs.declared.Slip.{Slip}
 use Rattle.cards.specs.Cards.{no-change, pair-of, card-values, changes-of}
 use Rattle.cards.specs.inner.Fitting.{counts-in, CardFits, SlipFits}
+use Rattle.response.specs.inner.InOrder.{NoneRan}
 
 -- A card whose places beyond its count are empty has the values of its places.
 pub values-same : (c : Card) → ((s : ℕ) → c .count ≤ s → getD (c .values) s 0 ≡ 0) → SameCard (c .values) (card-values c)
@@ -62,7 +64,21 @@ flags-length I = added-length I (replicate pair-places false) ∙ length-replica
 pub rules-counted : (rows : List (List ℕ)) (n : ℕ) → RowsFit rows n → length (rules-of (table-in rows n)) ≡ n
 rules-counted rows n f =
     let k = rows-count rows n in
-    rules-length (table-in rows n) (omega (arith, f .few, rows-table-shaped rows n (f .rows-shaped) .rule-places)) ∙ k
+    rules-length (table-in rows n) (rows-table-shaped rows n f .rule-places (omega (arith, f .few, k))) ∙ k
+
+-- Flags of which none is set are as many as the rows.
+module _ (rows : List (List ℕ)) (ran : List Bool) (none : NoneRan rows ran) where
+  ran-length : length ran ≡ length rows
+  ran-length = ap length none ∙ length-replicate (length rows) false
+
+  pub ran-room : (n : ℕ) → RowsFit rows n → n ≤ length ran
+  ran-room n f = omega (arith, f .inside, ran-length)
+
+  pub ran-clear : ran ≡ replicate (length ran) false
+  ran-clear = none ∙ ap (λ (k : ℕ). replicate k false) (sym ran-length)
+
+  pub ran-none : (i : ℕ) → getD ran i false ≡ false
+  ran-none i = rw none (replicate-at (length rows) false i)
 
 -- The counts of an array are as many as the slots.
 pub counts-length : (width : ℕ) (counts : List ℕ) → length (counts-in width counts) ≡ width

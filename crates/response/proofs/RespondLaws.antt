@@ -1,8 +1,9 @@
 -- The tests of a response one after the other, and what they leave.
 -- Assumes nothing.
-use mathlib.Core.Path.{_≡_, refl, sym, ap, ap₂, subst, _∙_}
+use mathlib.Core.Path.{_≡_, refl, sym, ap, ap₂, _∙_}
 use mathlib.Core.Bool.{true, false}
-use mathlib.Core.List.{List, _∷_}
+use mathlib.Core.List.{List}
+use mathlib.Core.Logic.{inl}
 use Prim.Native.Nat.{ℕ, _≤_, _<_}
 use native.Mathlib.Omega.{arith}
 use lib.Dec.{T}
@@ -13,21 +14,19 @@ use Rattle.laws.proofs.Equations.{from-true}
 use Rattle.laws.proofs.Fronts.{filled-at}
 use Rattle.laws.proofs.Tabulated.{tabulate-at}
 use Rattle.model.specs.Rules.{Pair, Rule}
-use Rattle.model.specs.Strata.{weak}
-use Rattle.model.specs.Strata as model
 use Rattle.table.specs.declared.Table.{Table}
 use Rattle.table.specs.declared.Way.{Way}
 use Rattle.table.specs.declared.Way.the-variants.{Strata, Marks}
 use Rattle.laws.specs.Limits.{slot-limit}
 use Rattle.table.specs.inner.Shape.{Shaped}
-use Rattle.table.specs.Link.{rules-of, value-counts, stratum-at}
+use Rattle.table.specs.Link.{rules-of, value-counts}
 use Rattle.rows.specs.inner.Rows.{table-in}
 use Rattle.soundness.specs.Sound.{well-formed, takes}
 use Rattle.soundness.specs.declared.Entry.{Entry}
 use Rattle.soundness.specs.inner.Admitted.{Admitted, Enters}
 use Rattle.soundness.proofs.WellFormed.{well-formed-e}
-use Rattle.soundness.proofs.Sound.{sound-strata}
-use Rattle.soundness.proofs.Taken.{takes-parts, takes-strata}
+use Rattle.soundness.proofs.Admitted.{admitted-least}
+use Rattle.soundness.proofs.Taken.{takes-parts, right-by-least}
 use Rattle.cards.specs.declared.Outcome.the-variants.{Accepted, Refused}
 use Rattle.cards.specs.declared.Card.{Card}
 use Rattle.cards.specs.declared.Slip.{Slip}
@@ -137,7 +136,7 @@ module _ (way : Way) (width : ℕ) (counts : List ℕ) (rs : List Rule) (S : Lis
   unfolding answer-by
   by-marks e = rw e refl
 
--- A table that 31 lets pass leaves rows that name declared pairs and carry strata where these are asked for, and counts within their limit.
+-- A table that 31 lets pass leaves rows that name declared pairs and carry the least strata where these are asked for, and counts within their limit.
 module _ (way : Way) (t : Table) (counts : List ℕ) (rows : List (List ℕ)) (sh : Shaped t) (e : takes way t ≡ true) (a : Admitted t counts rows) where
   passes : T (well-formed t)
   passes = takes-parts way t (from-true (takes way t) e) .0
@@ -146,10 +145,9 @@ module _ (way : Way) (t : Table) (counts : List ℕ) (rows : List (List ℕ)) (s
   same-counts = counts-all t sh (well-formed-e t sh passes .few-slots) counts rows a
 
   admitted-kept : Kept way rows (t .count) (t .width) counts
-  unfolding stratum-at
   admitted-kept = record {
     rows-fit = a .rows-fit;
-    strata = λ s. rw (a .same-rules) (subst (λ xs. model.Strata weak (rules-of t) (λ n. getD (0 ∷ xs) n 0)) (sym (a .same-strata)) (sound-strata t (sym (takes-strata t) ∙ ap (λ (w : Way). takes w t) (sym s) ∙ e)));
+    least = λ s. rw (admitted-least t counts rows a) (rw (right-by-least way t (inl s)) at (takes-parts way t (from-true (takes way t) e) .1));
     few-slots = well-formed-e t sh passes .few-slots;
     few-values = λ i h. omega (arith, a .same-count i h, well-formed-e t sh passes .few-values i h);
     assigned = rw (a .same-rules, same-counts) (assigned-declared t sh passes);

@@ -15,9 +15,11 @@ ghost use Rattle.cards.specs.inner.Fitting.{counts-in};
 ghost use Rattle.tally.specs.Counting.{is-full, one-refused};
 ghost use Rattle.response.specs.declared.Outcome.the-variants.{Refused};
 ghost use Rattle.response.specs.Respond.{rooms-of, outputs, outputs-after, answer-by-rules, answer-at, response-at};
-ghost use Rattle.response.specs.inner.InOrder.{Kept, Ends};
+ghost use Rattle.response.specs.inner.InOrder.{Kept, NoneRan, Ends};
 use answering::finish;
+use rows::FEW;
 use rows::NUMBERS;
+use rows::SOME;
 use soundness::Entry;
 use table::RULES;
 use table::SLOTS;
@@ -45,17 +47,18 @@ pub struct Response {
 // The response by what is left of a table that passed 31, without its tally: 20 to 28, 30, then 40, or 41 and 42, or the answer.
 fn work(
     way: Way,
-    rows: &[[u16; NUMBERS]; RULES],
+    rows: &[[u16; NUMBERS]],
     n: usize,
     width: usize,
     counts: &[usize; SLOTS],
+    ran: &mut [bool],
     card: &[u8],
     slip: &[u8],
     renewed: &mut [u8],
     changes: &mut [u8],
     fired: &mut [u8],
 ) -> Outcome
-    requires { ⌜ Kept way (now rows) n width (now counts) ⌝ }
+    requires { ⌜ Kept way (now rows) n width (now counts) × NoneRan (now rows) (now ran) ⌝ }
     ensures { λ r. ⌜ Ends (answer-by-rules way (counts-in width (now (counts .entry))) (rules-of (table-in (now (rows .entry)) n)) (now (card .entry)) (now (slip .entry)) (rooms-of (now (renewed .entry)) (now (changes .entry)) (now (fired .entry)))) r
         (outputs (now (renewed .entry)) (now (changes .entry)) (now (fired .entry))) (outputs (now (renewed .exit)) (now (changes .exit)) (now (fired .exit))) ⌝ }
 {
@@ -71,7 +74,19 @@ fn work(
     }
     let c = first.card;
     let s = next.slip;
-    finish(way, rows, n, width, counts, c, s, renewed, changes, fired)
+    finish(
+        way,
+        rows,
+        n,
+        width,
+        counts,
+        c,
+        s,
+        ran,
+        renewed,
+        changes,
+        fired,
+    )
 }
 
 // A refusal that is counted.
@@ -90,8 +105,9 @@ fn refuse(tally: Tally, number: u8, second: usize) -> Response
 fn conclude(
     way: Way,
     entry: Entry,
-    rows: &[[u16; NUMBERS]; RULES],
+    rows: &[[u16; NUMBERS]],
     counts: &[usize; SLOTS],
+    ran: &mut [bool],
     tally: Tally,
     card: &[u8],
     slip: &[u8],
@@ -99,7 +115,7 @@ fn conclude(
     changes: &mut [u8],
     fired: &mut [u8],
 ) -> Response
-    requires { ⌜ ((t : tables.Table) × Shaped t × Enters t (well-formed t) entry (now counts) (now rows)) ⌝ }
+    requires { ⌜ ((t : tables.Table) × Shaped t × Enters t (well-formed t) entry (now counts) (now rows)) × NoneRan (now rows) (now ran) ⌝ }
     ensures { λ r. ⌜ ((t : tables.Table) → Shaped t → Enters t (well-formed t) entry (now (counts .entry)) (now (rows .entry))
         → (r ≡ response-at way t tally (now (card .entry)) (now (slip .entry)) (rooms-of (now (renewed .entry)) (now (changes .entry)) (now (fired .entry))))
         × (outputs (now (renewed .exit)) (now (changes .exit)) (now (fired .exit))
@@ -125,6 +141,7 @@ fn conclude(
         n,
         width,
         counts,
+        ran,
         card,
         slip,
         renewed,
@@ -146,7 +163,7 @@ fn conclude(
 }
 
 // The response to a slip by strata: any table, any tally, any bytes of any length, outputs of any length.
-// The table is handed on at once, to be entered into counts and rows; what comes after goes by these.
+// The table is handed on at once, to be entered into counts and rows; what comes after goes by these. Rows, and flags of the rules that ran, are as many as one of three sizes, the least that has room for the rules.
 pub fn respond(
     t: Table,
     tally: Tally,
@@ -161,13 +178,52 @@ pub fn respond(
         ≡ outputs-after (answer-at Strata t tally (now (card .entry)) (now (slip .entry)) (rooms-of (now (renewed .entry)) (now (changes .entry)) (now (fired .entry)))) (outputs (now (renewed .entry)) (now (changes .entry)) (now (fired .entry)))) ⌝ }
 {
     let mut counts: [usize; SLOTS] = [0; SLOTS];
+    let n = t.count as usize;
+    if n <= FEW {
+        let mut rows: [[u16; NUMBERS]; FEW] = [[0; NUMBERS]; FEW];
+        let mut ran: [bool; FEW] = [false; FEW];
+        let entry = soundness::enter(t, &mut counts, &mut rows);
+        return conclude(
+            Way::Strata,
+            entry,
+            &rows,
+            &counts,
+            &mut ran,
+            tally,
+            card,
+            slip,
+            renewed,
+            changes,
+            fired,
+        );
+    }
+    if n <= SOME {
+        let mut rows: [[u16; NUMBERS]; SOME] = [[0; NUMBERS]; SOME];
+        let mut ran: [bool; SOME] = [false; SOME];
+        let entry = soundness::enter(t, &mut counts, &mut rows);
+        return conclude(
+            Way::Strata,
+            entry,
+            &rows,
+            &counts,
+            &mut ran,
+            tally,
+            card,
+            slip,
+            renewed,
+            changes,
+            fired,
+        );
+    }
     let mut rows: [[u16; NUMBERS]; RULES] = [[0; NUMBERS]; RULES];
+    let mut ran: [bool; RULES] = [false; RULES];
     let entry = soundness::enter(t, &mut counts, &mut rows);
     conclude(
         Way::Strata,
         entry,
         &rows,
         &counts,
+        &mut ran,
         tally,
         card,
         slip,
@@ -192,13 +248,52 @@ pub fn respond_by_marks(
         ≡ outputs-after (answer-at Marks t tally (now (card .entry)) (now (slip .entry)) (rooms-of (now (renewed .entry)) (now (changes .entry)) (now (fired .entry)))) (outputs (now (renewed .entry)) (now (changes .entry)) (now (fired .entry)))) ⌝ }
 {
     let mut counts: [usize; SLOTS] = [0; SLOTS];
+    let n = t.count as usize;
+    if n <= FEW {
+        let mut rows: [[u16; NUMBERS]; FEW] = [[0; NUMBERS]; FEW];
+        let mut ran: [bool; FEW] = [false; FEW];
+        let entry = soundness::enter(t, &mut counts, &mut rows);
+        return conclude(
+            Way::Marks,
+            entry,
+            &rows,
+            &counts,
+            &mut ran,
+            tally,
+            card,
+            slip,
+            renewed,
+            changes,
+            fired,
+        );
+    }
+    if n <= SOME {
+        let mut rows: [[u16; NUMBERS]; SOME] = [[0; NUMBERS]; SOME];
+        let mut ran: [bool; SOME] = [false; SOME];
+        let entry = soundness::enter(t, &mut counts, &mut rows);
+        return conclude(
+            Way::Marks,
+            entry,
+            &rows,
+            &counts,
+            &mut ran,
+            tally,
+            card,
+            slip,
+            renewed,
+            changes,
+            fired,
+        );
+    }
     let mut rows: [[u16; NUMBERS]; RULES] = [[0; NUMBERS]; RULES];
+    let mut ran: [bool; RULES] = [false; RULES];
     let entry = soundness::enter(t, &mut counts, &mut rows);
     conclude(
         Way::Marks,
         entry,
         &rows,
         &counts,
+        &mut ran,
         tally,
         card,
         slip,

@@ -39,12 +39,20 @@ fn byte_at(fired: &[bool], count: usize, k: usize) -> u8
     x
 }
 
+// How many bytes the record has.
+pub fn record_size(count: usize) -> usize
+    requires { ⌜ count ≤ rule-limit ⌝ }
+    ensures { λ r. ⌜ r ≡ byte-count count ⌝ }
+{
+    (count + 7) / 8
+}
+
 // Writes the record to the front of the output.
 pub fn record_of(fired: &[bool], count: usize, out: &mut [u8])
     requires { ⌜ (count ≤ rule-limit) × (count ≤ length (now fired)) × (byte-count count ≤ length (now out)) ⌝ }
     ensures { λ _. ⌜ now (out .exit) ≡ flag-record (now (fired .entry)) count ++ drop (byte-count count) (now (out .entry)) ⌝ }
 {
-    let size = (count + 7) / 8;
+    let size = record_size(count);
     let mut k: usize = 0;
     while k < size {
         let x = byte_at(fired, count, k);

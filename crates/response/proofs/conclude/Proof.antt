@@ -16,7 +16,7 @@ use Rattle.response.proofs.conclude.Tie as tie
 
 -- Where the function starts.
 abbrev start : tie.Else1 → tie.Start
-start c = c .before .before .before .before .before .before .before
+start c = c .before .before .before .before .before .before .before .before
 
 -- The tally is not full.
 fresh : (c : tie.Else1) → is-full (start c .args .tally) ≡ false
@@ -43,11 +43,11 @@ right : (c : tie.Else3) (t : Table) →
 right c t w = taken-by-rows (c .before) t w ∙ not-false (c .before .strata-right .result) (c .if3 .left)
 
 -- The response by its rows, and that it passed.
-abbrev working : tie.After-slice-known6 → tie.After-work
-working c = c .before .before .before .before .before .before
+abbrev working : tie.After-slice-known8 → tie.After-work
+working c = c .before .before .before .before .before .before .before .before
 
 abbrev passing : tie.After-work → tie.Else3
-passing w = w .before .before .before .before
+passing w = w .before .before .before .before .before
 
 is-full-requires : tie.Need-is-full-requires
 is-full-requires c κs = search needs
@@ -65,7 +65,7 @@ returns-2 c t sh w =
     counted-refusal _ _ _ _ _ _ _ _ _ _ _ _ (fresh l) (ends-refused _ _ _ _ (by-table-31 (s .args .way) t _ _ _ (not-taken-form (s .args .way) t (sym (w .says) ∙ not-true (s .args .entry .passed) (c .before .if2 .taken))))) refl (c .refuse .ensures)
 
 strata-right-requires : tie.Need-strata-right-requires
-strata-right-requires c κs = let s = begun c in entered-rows (s .pre .0) _ _ _ _ (entered c) (s .pre .2)
+strata-right-requires c κs = let s = begun c in entered-rows (s .pre .0 .0) _ _ _ _ (entered c) (s .pre .0 .2)
 
 refuse-requires-2 : tie.Need-refuse-requires-2
 refuse-requires-2 c κs = fresh (c .before .before .before .before)
@@ -77,10 +77,10 @@ returns-3 c t sh w =
 
 work-requires : tie.Need-work-requires
 work-requires c κs =
-    let e = c .before .before .before in
+    let e = c .before .before .before .before in
     let f = e .before .before in
     let s = begun f in
-    entered-kept (s .args .way) (s .pre .0) _ _ _ (s .pre .1) (right e (s .pre .0) (s .pre .2)) (entered f) (s .pre .2)
+    (entered-kept (s .args .way) (s .pre .0 .0) _ _ _ (s .pre .0 .1) (right e (s .pre .0 .0) (s .pre .0 .2)) (entered f) (s .pre .0 .2), s .pre .1)
 
 enum-known-outcome : tie.Need-enum-known-outcome
 enum-known-outcome c = search needs
@@ -97,6 +97,9 @@ same-length-2 c = search needs
 same-length-3 : tie.Need-same-length-3
 same-length-3 c = search needs
 
+same-length-4 : tie.Need-same-length-4
+same-length-4 c = search needs
+
 returns-4 : tie.Need-returns-4
 returns-4 c t sh w₀ =
     let w = working (c .before .before .before .before) in
@@ -111,14 +114,17 @@ enum-known-outcome-2 c = search needs
 refuse-requires-3 : tie.Need-refuse-requires-3
 refuse-requires-3 c κs = fresh (passing (working (c .before .before .before)) .before .before .before .before)
 
-same-length-4 : tie.Need-same-length-4
-same-length-4 c = search needs
-
 same-length-5 : tie.Need-same-length-5
 same-length-5 c = search needs
 
 same-length-6 : tie.Need-same-length-6
 same-length-6 c = search needs
+
+same-length-7 : tie.Need-same-length-7
+same-length-7 c = search needs
+
+same-length-8 : tie.Need-same-length-8
+same-length-8 c = search needs
 
 returns-5 : tie.Need-returns-5
 returns-5 c t sh w₀ =
@@ -145,10 +151,12 @@ conclude-spec =
     same-length
     same-length-2
     same-length-3
+    same-length-4
     returns-4
     enum-known-outcome-2
     refuse-requires-3
-    same-length-4
     same-length-5
     same-length-6
+    same-length-7
+    same-length-8
     returns-5)

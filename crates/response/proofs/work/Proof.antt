@@ -20,24 +20,24 @@ use Rattle.response.proofs.work.Tie as tie
 
 -- Where the function starts.
 abbrev start : tie.After-read-slip → tie.Start
-start q = q .before .before .before .before .before .before .before .before .before
+start q = q .before .before .before .before .before .before .before .before .before .before
 
 -- The values and the changes that were taken.
-abbrev by-finish : tie.After-finish-arg3 → tie.After-read-slip
-by-finish c = c .before .before .before .before .before .before .before
+abbrev by-finish : tie.After-finish-arg4 → tie.After-read-slip
+by-finish c = c .before .before .before .before .before .before .before .before
 
 card-by : (q : tie.After-read-slip) →
     let s = start q in
     (S : List ℕ) × (read-card (counts-in (s .args .width) (s .args .counts .now)) (s .args .card .now) ≡ taken S) × (q .before .before .before .read-card .result .card ≡ card-of S)
 card-by q = card-taken _ _ (q .before .before .before .read-card .ensures) (q .before .enum-told .given .1)
 
-slip-by : (c : tie.After-finish-arg3) →
+slip-by : (c : tie.After-finish-arg4) →
     let s = start (by-finish c) in
     (I : List Pair) × (read-slip (counts-in (s .args .width) (s .args .counts .now)) (s .args .slip .now) ≡ taken I) × (by-finish c .read-slip .result .slip ≡ slip-of I)
-slip-by c = slip-taken _ _ (by-finish c .read-slip .ensures) (c .before .before .before .before .before .enum-told2 .given .1)
+slip-by c = slip-taken _ _ (by-finish c .read-slip .ensures) (c .before .before .before .before .before .before .enum-told2 .given .1)
 
 read-card-requires : tie.Need-read-card-requires
-read-card-requires c κs = c .before .before .before .before .before .pre .few-slots
+read-card-requires c κs = c .before .before .before .before .before .before .pre .0 .few-slots
 
 enum-known-of-card : tie.Need-enum-known-of-card
 enum-known-of-card c = search needs
@@ -50,7 +50,7 @@ enum-told : tie.Need-enum-told
 enum-told c = search needs
 
 read-slip-requires : tie.Need-read-slip-requires
-read-slip-requires c κs = c .before .before .before .before .before .before .before .before .pre .few-slots
+read-slip-requires c κs = c .before .before .before .before .before .before .before .before .before .pre .0 .few-slots
 
 enum-known-of-slip : tie.Need-enum-known-of-slip
 enum-known-of-slip c = search needs
@@ -70,7 +70,7 @@ finish-requires c κs =
     let s = start q in
     let S = card-by q in
     let I = slip-by c in
-    in-order (s .args .way) (s .args .rows .now) (s .args .n) (s .args .width) (s .args .counts .now) (s .pre) _ _ (S .0) (I .0) _ _ (S .1) (I .1) (S .2) (I .2)
+    (in-order (s .args .way) (s .args .rows .now) (s .args .n) (s .args .width) (s .args .counts .now) (s .pre .0) _ _ (S .0) (I .0) _ _ (S .1) (I .1) (S .2) (I .2), s .pre .1)
 
 same-length : tie.Need-same-length
 same-length c = search needs
@@ -81,9 +81,12 @@ same-length-2 c = search needs
 same-length-3 : tie.Need-same-length-3
 same-length-3 c = search needs
 
+same-length-4 : tie.Need-same-length-4
+same-length-4 c = search needs
+
 returns-3 : tie.Need-returns-3
 returns-3 c =
-    let f = c .before .before .before .before .before .before in
+    let f = c .before .before .before .before .before .before .before .before in
     let q = by-finish (f .before) in
     let s = start q in
     let ks = counts-in (s .args .width) (s .args .counts .now) in
@@ -93,7 +96,7 @@ returns-3 c =
     let rooms = rooms-of (s .args .renewed .now) (s .args .changes .now) (s .args .fired .now) in
     ends-same _ _ _ _ _
     (by-rules-on (s .args .way) ks rs (s .args .card .now) (s .args .slip .now) rooms (S .0) (I .0) (S .1) (I .1)
-    ∙ ap₂ (λ (w m : ℕ). if-room w m rooms (answer-by (s .args .way) ks rs (S .0) (I .0))) (counts-length (s .args .width) (s .args .counts .now)) (rules-counted (s .args .rows .now) (s .args .n) (s .pre .rows-fit))
+    ∙ ap₂ (λ (w m : ℕ). if-room w m rooms (answer-by (s .args .way) ks rs (S .0) (I .0))) (counts-length (s .args .width) (s .args .counts .now)) (rules-counted (s .args .rows .now) (s .args .n) (s .pre .0 .rows-fit))
     ∙ ap₂ (λ (vs : List ℕ) (ps : List Pair). if-room (s .args .width) (s .args .n) rooms (answer-by (s .args .way) ks rs vs ps)) (sym (ap card-values (S .2) ∙ card-of-values (S .0))) (sym (ap changes-of (I .2) ∙ slip-of-changes (I .0))))
     (f .finish .ensures)
 
@@ -113,4 +116,5 @@ work-spec =
     same-length
     same-length-2
     same-length-3
+    same-length-4
     returns-3)

@@ -1,16 +1,18 @@
 -- What is in order when the rules fire: the table, the card and the slip passed their tests, the outputs have room.
+use mathlib.Core.Bool.{Bool, false}
 use mathlib.Core.List.{List}
 use Prim.Native.Nat.{ℕ, _≤_, _<_}
 use mathlib.Core.Path.{_≡_}
 use lib.Dec.{T}
-use lib.ListN.{length, getD}
+use lib.ListN.{length, getD, replicate}
 use Rattle.laws.specs.Numbers.{Numbered}
 use Rattle.model.specs.Rules.{Pair, among}
 use Rattle.model.specs.Orders.{rule-at}
-use Rattle.model.specs.Strata.{weak, Strata, tested}
+use Rattle.model.specs.Strata.{tested}
 use Rattle.table.specs.declared.Way.{Way}
 use Rattle.table.specs.declared.Way.the-variants as ways
-use Rattle.table.specs.Link.{rules-of, stratum-at}
+use Rattle.table.specs.Link.{rules-of}
+use Rattle.leastness.specs.CarriesLeast.{carries-least}
 use Rattle.marks.specs.Marks.{declared-pairs}
 use Rattle.selecting.specs.inner.Selected.{OneValue}
 use Rattle.cards.specs.Cards.{changes-of}
@@ -26,10 +28,10 @@ use Rattle.laws.specs.Answers.{OrRefused}
 use Rattle.response.specs.declared.Outcome.{Outcome}
 use Rattle.response.specs.Ending.{Answer}
 
--- What is left of a table that passed 31: rows of its rules, which name declared pairs alone and, for the response by strata, carry strata; its number of slots, and how many values each of these has.
+-- What is left of a table that passed 31: rows of its rules, which name declared pairs alone and, for the response by strata, carry the least strata; its number of slots, and how many values each of these has.
 pub record Kept (way : Way) (rows : List (List ℕ)) (n width : ℕ) (counts : List ℕ) : Type 0 where
   pub rows-fit : RowsFit rows n
-  pub strata : way ≡ ways.Strata → Strata weak (rules-of (table-in rows n)) (stratum-at (table-in rows n))
+  pub least : way ≡ ways.Strata → T (carries-least (table-in rows n))
   pub few-slots : width ≤ slot-limit
   pub few-values : (i : ℕ) → i < width → getD counts i 0 ≤ value-limit
   pub assigned : (m : ℕ) (p : Pair) → Numbered (length (rules-of (table-in rows n))) m → T (among p (rule-at (rules-of (table-in rows n)) m .assignments)) → T (among p (declared-pairs (counts-in width counts)))
@@ -44,6 +46,10 @@ pub record InOrder (way : Way) (rows : List (List ℕ)) (n width : ℕ) (counts 
   pub slip-fits : SlipFits slip
   pub slip-declared : (p : Pair) → T (among p (changes-of slip)) → T (among p (declared-pairs (counts-in width counts)))
   pub slip-once : OneValue (changes-of slip)
+
+-- A flag for each row, of the rules that ran: none as yet.
+abbrev pub NoneRan : List (List ℕ) → List Bool → Type 0
+NoneRan rows ran = ran ≡ replicate (length rows) false
 
 -- The outputs have room for so many slots and rules.
 pub record HasRoom (width count : ℕ) (rooms : Rooms) : Type 0 where

@@ -18,7 +18,7 @@ use Rattle.response.proofs.answering.write_answer.Tie as tie
 
 -- Where the function starts, from each place.
 abbrev by-card : tie.After-write-card-arg → tie.Start
-by-card c = c .before .before .before .before .before .before .before
+by-card c = c .before .before .before .before .before .before .before .before
 
 abbrev by-slip : tie.After-write-slip-arg → tie.Start
 by-slip c = by-card (c .before .before .before .before .before)
@@ -31,7 +31,7 @@ by-size c = by-record (c .before .before .before)
 
 -- The record stands at the front of its output.
 room : tie.Need-slice-reshare-prefix-count-fired
-room c = rw (c .bytes-for .ensures) (record-there _ _ _ _ (c .before .before .before .record-of .ensures))
+room c = rw (c .record-size .ensures) (record-there _ _ _ _ (c .before .before .before .record-of .ensures))
 
 new-values-requires : tie.Need-new-values-requires
 new-values-requires c κs = search needs
@@ -39,7 +39,7 @@ new-values-requires c κs = search needs
 write-card-requires : tie.Need-write-card-requires
 write-card-requires c κs =
     let s = by-card c in
-    (rw (c .before .new-values .ensures) (next-in-order (s .args .width) (s .args .card) (s .args .ended .now) (s .pre .1) (s .pre .2) (s .pre .3)), s .pre .4 .card-room)
+    (rw (c .before .new-values .ensures) (next-in-order (s .args .width) (s .args .card) (s .args .ended .now) (s .pre .2) (s .pre .3) (s .pre .4)), s .pre .5 .card-room)
 
 slip-of-requires : tie.Need-slip-of-requires
 slip-of-requires c κs = search needs
@@ -47,22 +47,22 @@ slip-of-requires c κs = search needs
 write-slip-requires : tie.Need-write-slip-requires
 write-slip-requires c κs =
     let s = by-slip c in
-    rw (c .before .slip-of .ensures) (listed-fits _ (s .args .width) (s .pre .1), omega (arith, listed-room (set-of (s .args .ended .now)) (s .args .width) (s .pre .1), s .pre .4 .changes-there))
+    rw (c .before .slip-of .ensures) (listed-fits _ (s .args .width) (s .pre .2), omega (arith, listed-room (set-of (s .args .ended .now)) (s .args .width) (s .pre .2), s .pre .5 .changes-there))
 
 record-of-requires : tie.Need-record-of-requires
-record-of-requires c κs = let s = by-record c in (s .pre .0, s .pre .4 .fired-room)
+record-of-requires c κs = let s = by-record c in (s .pre .0, s .pre .1, s .pre .5 .fired-room)
 
-bytes-for-requires : tie.Need-bytes-for-requires
-bytes-for-requires c κs = omega (arith, by-size c .pre .0)
+record-size-requires : tie.Need-record-size-requires
+record-size-requires c κs = by-size c .pre .0
 
 slice-reshare-prefix-count-fired : tie.Need-slice-reshare-prefix-count-fired
 slice-reshare-prefix-count-fired c = room c
 
 slice-aggregate-count-fired : tie.Need-slice-aggregate-count-fired
-slice-aggregate-count-fired c = sym (length-take-le (c .before .bytes-for .result) _ (room (c .before)))
+slice-aggregate-count-fired c = sym (length-take-le (c .before .record-size .result) _ (room (c .before)))
 
 count-fired-requires : tie.Need-count-fired-requires
-count-fired-requires c κs = rw (length-take-le (c .before .bytes-for .result) _ (room (c .before))) (omega (arith, c .before .bytes-for .ensures, by-size (c .before .before) .pre .0))
+count-fired-requires c κs = rw (length-take-le (c .before .record-size .result) _ (room (c .before))) (omega (arith, c .before .record-size .ensures, by-size (c .before .before) .pre .0))
 
 same-length : tie.Need-same-length
 same-length c = search needs
@@ -85,7 +85,7 @@ returns c =
     (l .before .before .before .before .write-card .ensures .1
     ∙ ap (λ (vs : List ℕ). card-bytes (card-values (record { values = vs; count = s .args .width })) ++ drop (byte-count (card-bits (s .args .width))) (s .args .renewed .now)) (a .before .new-values .ensures))
     (l .before .slip-of .result) (l .before .slip-of .ensures) (r .before .before .before .write-slip .ensures .0) (r .before .before .before .write-slip .ensures .1) (k .before .before .record-of .ensures)
-    (c .count-fired .ensures ∙ ap (λ (n : ℕ). ones-in (take n (k .before .before .record-of .last .1 .1 .0))) (c .before .before .bytes-for .ensures))
+    (c .count-fired .ensures ∙ ap (λ (n : ℕ). ones-in (take n (k .before .before .record-of .last .1 .1 .0))) (c .before .before .record-size .ensures))
 
 pub write-answer-spec : {M : Type 1} → statement M
 write-answer-spec =
@@ -96,7 +96,7 @@ write-answer-spec =
     slip-of-requires
     write-slip-requires
     record-of-requires
-    bytes-for-requires
+    record-size-requires
     slice-reshare-prefix-count-fired
     slice-aggregate-count-fired
     count-fired-requires

@@ -21,13 +21,13 @@ abbrev μ-loop : tie.MeasureT-loop
 μ-loop fired count out₀ size k₀ out k = size - k
 
 -- The output keeps its length.
-kept : (c : tie.At-loop Inv-loop μ-loop) → length (c .loop .out) ≡ length (c .before .before .before .args .out .now)
+kept : (c : tie.At-loop Inv-loop μ-loop) → length (c .loop .out) ≡ length (c .before .before .before .before .args .out .now)
 kept c =
-    let s = c .before .before .before in
+    let s = c .before .before .before .before in
     ap length (c .loop .inv .1) ∙ front-length (byte-at (fired-bits (s .args .fired .now) (s .args .count))) (c .loop .k) (s .args .out .now) (omega (arith, c .loop .inv .0, s .pre .2))
 
-add-size : tie.Need-add-size Inv-loop μ-loop
-add-size c = search needs
+record-size-requires : tie.Need-record-size-requires Inv-loop μ-loop
+record-size-requires c κs = search needs
 
 loop-holds : tie.Need-loop-holds Inv-loop μ-loop
 loop-holds c = (search needs, front-start _ _)
@@ -39,7 +39,7 @@ slice-write-out : tie.Need-slice-write-out Inv-loop μ-loop
 slice-write-out c =
     let a = c .before .before in
     let e = kept a in
-    omega (arith, c .before .loop-test .taken, a .before .before .before .pre .2)
+    omega (arith, c .before .loop-test .taken, a .before .before .before .before .pre .2)
 
 add-k : tie.Need-add-k Inv-loop μ-loop
 add-k c = search needs
@@ -50,7 +50,7 @@ loop-less c = search needs
 loop-again : tie.Need-loop-again Inv-loop μ-loop
 loop-again c =
     let a = c .before .before in
-    let s = a .before .before .before in
+    let s = a .before .before .before .before in
     let h : a .loop .k < length (s .args .out .now) = omega (arith, c .before .loop-test .taken, s .pre .2) in
     (search needs, rw (a .loop .inv .1, c .byte-at .ensures) (front-next (byte-at (fired-bits (s .args .fired .now) (s .args .count))) (a .loop .k) (s .args .out .now) 0 h))
 
@@ -61,7 +61,7 @@ returns : tie.Need-returns Inv-loop μ-loop
 unfolding flag-record pack
 returns c =
     let a = c .before in
-    let s = a .before .before .before in
+    let s = a .before .before .before .before in
     let e : a .loop .k ≡ byte-count (s .args .count) = omega arith in
     rw (bits-size (s .args .fired .now) (s .args .count)) (rw e at (a .loop .inv .1))
 
@@ -71,7 +71,7 @@ record-of-spec =
     (tie.spec
     Inv-loop
     μ-loop
-    add-size
+    record-size-requires
     loop-holds
     byte-at-requires
     slice-write-out
