@@ -10,7 +10,7 @@ ghost use Rattle.laws.specs.Limits.{slot-limit, row, rule-limit};
 ghost use Rattle.table.specs.Link.{assignments-of};
 ghost use Rattle.table.specs.inner.Flat.{pair-places, add-pairs};
 ghost use Rattle.rows.specs.inner.Rows.{rule-in, table-in, RowFits, RowsFit};
-ghost use Rattle.firing.specs.inner.Firing.{CanFire, TableFired, Room};
+ghost use Rattle.firing.specs.inner.Firing.{CanFire, TableFired, FiringRoom};
 ghost use Rattle.testing.specs.inner.Truth.{Truth};
 ghost use Rattle.testing.specs.inner.Waiting.{Waiting, Woken};
 use rows::FEW;
@@ -73,7 +73,7 @@ fn fire_within(
     woken: &mut [u16],
 )
     requires { ⌜ RowsFit (now rows) n × CanFire (table-in (now rows) n) × ((s : ℕ) → s < slot-limit → getD (now card) s 0 < row) × (length (now changes) ≡ pair-places)
-        × (n ≤ length (now fired)) × (now fired ≡ replicate (length (now fired)) false) × Room n (now positions) (now starts) (now nexts) (now woken) ⌝ }
+        × (n ≤ length (now fired)) × (now fired ≡ replicate (length (now fired)) false) × FiringRoom n (now positions) (now starts) (now nexts) (now woken) ⌝ }
     ensures { λ _. ⌜ TableFired (table-in (now (rows .entry)) n) (now (card .entry)) (now (changes .entry)) (now (changes .exit)) (now (fired .exit)) ⌝ }
 {
     order::sort(rows, n, starts, positions);

@@ -13,6 +13,7 @@ use Rattle.laws.proofs.Truth.{le-or-lt}
 use Rattle.model.specs.Rules.{Pair}
 use Rattle.table.specs.declared.Table.{Table}
 use Rattle.table.specs.Link.{rules-of, value-counts}
+use Rattle.laws.specs.Limits.{program-text-limit, program-rule-limit}
 use Rattle.grammar.proofs.Forward.{read-long}
 use Rattle.table.specs.declared.Way.the-variants.{Strata}
 use Rattle.soundness.specs.Sound.{takes}

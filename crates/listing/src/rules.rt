@@ -48,7 +48,7 @@ pub fn put_rules(out: &mut [u8], at: usize, t: Table, bits: &[u8]) -> usize
     while i < n {
         let r = t.rules[i];
         let fired = is_fired(bits, i);
-        let stratum = table::wide(r.stratum);
+        let stratum = rows::wide(r.stratum);
         i += 1;
         k = put_rule(out, k, i, stratum, fired);
     }

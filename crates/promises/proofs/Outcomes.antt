@@ -29,7 +29,8 @@ use Rattle.reader.specs.declared.Outcome.the-variants.{Accepted, Refused}
 use Rattle.reader.specs.Tables.{reading-refusal, reading-second}
 use Rattle.reader.specs.declared.FileRead.{FileRead}
 use Rattle.rule_file.specs.Whole.{layered, answered-whole, reading, unlayered, read-by}
-use Rattle.rule_file.proofs.Answers.{reading-file, without-18-file, whole-refused, refused-range, reading-18-iff}
+use Rattle.rule_file.proofs.Answers.{reading-file, without-18-file, whole-refused, refused-range, reading-18-iff, by-library}
+use Rattle.table.specs.declared.Limits.the-variants.{Library}
 use Rattle.rule_file.proofs.Unlayered.{refused-without-18}
 use Rattle.printing.specs.Printing.{print-of, print-into}
 use Rattle.printing.proofs.Fitting.{fitted-34, fitted-33, fitted-all, refused-first, then-fitted}
@@ -67,10 +68,10 @@ text-comes way text = go (parse text) refl
   where
     go : (a : Parsed) → parse text ≡ a → Reads (read-by way text)
     go (accepted f) e = file-comes way text f e
-    go (grammar.refused k n) e = let r = refused-range text k n e in inr (k, n, (r .0, omega (arith, r .1)), sym (whole-refused way text k n e))
+    go (grammar.refused k n) e = let r = refused-range text k n e in inr (k, n, (r .0, omega (arith, r .1)), sym (whole-refused way Library text k n e ∙ by-library way text))
 
 grammar-refuses : (way : Way) (text : List ℕ) (k n : ℕ) → ((k ≡ 10) × (n ≡ 0) × (text-limit < length text)) ⊎ ((length text ≤ text-limit) × Stands-at (tokens text) k n) → read-by way text .outcome ≡ Refused k n
-grammar-refuses way text k n h = sym (ap (λ (r : FileRead). r .outcome) (whole-refused way text k n (text-refused-iff text k n .1 h)))
+grammar-refuses way text k n h = sym (ap (λ (r : FileRead). r .outcome) (whole-refused way Library text k n (text-refused-iff text k n .1 h) ∙ by-library way text))
 
 -- A refusal has its reason,
 strata-reason : (text : List ℕ) (k n : ℕ) → reading text .outcome ≡ Refused k n → FileReason text Strata k n

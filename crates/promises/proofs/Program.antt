@@ -6,6 +6,7 @@ use mathlib.Core.Path.{_≡_, refl, sym, ap, subst, _∙_}
 use mathlib.Core.Bool.{Bool, true, false, cond}
 use mathlib.Core.List.{List, [], _∷_}
 use mathlib.Core.Logic.{_⊎_, inl, inr, ⊎-elim}
+use lib.Dec.{T}
 use lib.ListN.{length}
 use Rattle.laws.specs.Limits.{slot-limit, program-rule-limit}
 use Rattle.laws.specs.Answers.{OrRefused, taken, refused}
@@ -16,7 +17,6 @@ use Rattle.table.specs.declared.Table.{Table}
 use Rattle.table.specs.declared.Way.{Way}
 use Rattle.table.specs.declared.Way.the-variants.{Strata}
 use Rattle.table.specs.Link.{rules-of, value-counts}
-use Rattle.grammar.proofs.Declared.{file-declared}
 use Rattle.soundness.specs.Sound.{sound, takes}
 use Rattle.reader.specs.declared.FileRead.{FileRead}
 use Rattle.reader.specs.declared.Outcome.{Outcome}
@@ -42,7 +42,6 @@ use Rattle.promises.specs.Program.{NoneOfCaller, OneEditor, EditorFirst}
 use Rattle.promises.proofs.Callers.{has-record-e}
 use Rattle.promises.proofs.Judged.{Judged, card-below, slip-below}
 use Rattle.promises.proofs.ResponseReasons.{table-judged}
-use Rattle.promises.proofs.Outcomes.{text-comes}
 use Rattle.promises.proofs.Engines.{only-44, comes-by-table, fresh-no-32, reading-no-31}
 
 -- Outputs that have room give no reason for 30.

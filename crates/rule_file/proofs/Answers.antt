@@ -21,6 +21,7 @@ use Rattle.table.specs.declared.Table.{Table}
 use Rattle.table.specs.declared.Way.{Way}
 use Rattle.table.specs.declared.Way.the-variants as way
 use Rattle.table.specs.declared.Limits.{Limits}
+use Rattle.table.specs.declared.Limits.the-variants.{Library}
 use Rattle.table.specs.Empty.{empty-table}
 use Rattle.table.specs.inner.Fits.{TableFits}
 use Rattle.table.specs.inner.Shape.{Shaped}
@@ -44,7 +45,7 @@ use Rattle.grammar.specs.TableFor.{table-for}
 use Rattle.reader.specs.declared.Outcome.the-variants.{Accepted, Refused}
 use Rattle.reader.specs.declared.FileRead.{FileRead}
 use Rattle.rule_file.specs.Carries.{Carries}
-use Rattle.rule_file.specs.Whole.{layered, answered-whole, reading, unlayered, answered-without-18, reading-without-18, read-within}
+use Rattle.rule_file.specs.Whole.{layered, answered-whole, reading, unlayered, answered-without-18, reading-without-18, read-within, read-by}
 use Rattle.rule_file.proofs.FileTable.{file-rules, file-counts, file-shaped, file-places, file-well-formed}
 use Rattle.rule_file.proofs.Shown.{slots-show, values-show}
 
@@ -109,6 +110,12 @@ module _ (w : Way) (l : Limits) (text : List ℕ) where
       go : (v : Way) → record { outcome = Refused k n; table = empty-table } ≡ read-within v l text
       go way.Strata = sym (ap answered-whole e)
       go way.Marks = sym (ap answered-without-18 e)
+
+-- The library's limits are those of the answers by response alone.
+pub by-library : (w : Way) (text : List ℕ) → read-within w Library text ≡ read-by w text
+unfolding reading reading-without-18
+by-library way.Strata text = refl
+by-library way.Marks text = refl
 
 -- The grammar's reading gives 10 to 17.
 pub refused-range : (text : List ℕ) (k n : ℕ) → parse text ≡ refused k n → (10 ≤ k) × (k ≤ 17)

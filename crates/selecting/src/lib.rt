@@ -1,5 +1,5 @@
 // The selection of document 02, section 3, over rows: rules are fired and pairs ruled out until nothing more applies.
-ghost use Rattle.selecting.specs.inner.Selected.{Selectable, SetAside, Selects};
+ghost use Rattle.selecting.specs.inner.Selected.{Selectable, SetAside, SelectedBy};
 use judging::counting::count_assigned;
 use judging::counting::release;
 use judging::truth::rule_truth;
@@ -37,7 +37,7 @@ fn select_with(
     woken: &mut [u16],
 ) -> u8
     requires { ⌜ Selectable (now rows) n width (now counts) (now card) (now positive) (now fired) × SetAside n (now nexts) (now dead) (now queued) (now woken) ⌝ }
-    ensures { λ r. ⌜ Selects (now (rows .entry)) n width (now (counts .entry)) (now (card .entry)) (now (positive .entry)) r (now (positive .exit)) (now (fired .exit)) ⌝ }
+    ensures { λ r. ⌜ SelectedBy (now (rows .entry)) n width (now (counts .entry)) (now (card .entry)) (now (positive .entry)) r (now (positive .exit)) (now (fired .exit)) ⌝ }
 {
     let mut live: [u16; PAIRS] = [0; PAIRS];
     let mut heads: [u16; PAIRS] = [0; PAIRS];
@@ -133,7 +133,7 @@ pub fn select(
     fired: &mut [bool],
 ) -> u8
     requires { ⌜ Selectable (now rows) n width (now counts) (now card) (now positive) (now fired) ⌝ }
-    ensures { λ r. ⌜ Selects (now (rows .entry)) n width (now (counts .entry)) (now (card .entry)) (now (positive .entry)) r (now (positive .exit)) (now (fired .exit)) ⌝ }
+    ensures { λ r. ⌜ SelectedBy (now (rows .entry)) n width (now (counts .entry)) (now (card .entry)) (now (positive .entry)) r (now (positive .exit)) (now (fired .exit)) ⌝ }
 {
     if n <= FEW {
         let mut nexts: [u16; FEW * EACH] = [0; FEW * EACH];

@@ -29,7 +29,7 @@ abbrev pub TableFired : Table → List ℕ → List Bool → List Bool → List 
 TableFired t S slip ended fired = Fired t slip (response weak (rules-of t) S (pairs-of slip)) ended fired
 
 -- What firing is lent to work with has room for n rules, and for where the strata up to n begin and the last ends; no start is entered yet, and no rule waits.
-pub record Room (n : ℕ) (positions starts nexts woken : List ℕ) : Type 0 where
+pub record FiringRoom (n : ℕ) (positions starts nexts woken : List ℕ) : Type 0 where
   pub positions-room : n ≤ length positions
   pub starts-room : n + 2 ≤ length starts
   pub no-starts : starts ≡ replicate (length starts) 0

@@ -11,7 +11,7 @@ use borrow.Author.Needs.{needs}
 use Rattle.laws.specs.Answers.{taken}
 use Rattle.table.specs.declared.Table.{Table}
 use Rattle.table.specs.declared.Way.the-variants.{Strata}
-use Rattle.laws.specs.Limits.{slot-limit, rule-limit}
+use Rattle.laws.specs.Limits.{slot-limit, program-rule-limit}
 use Rattle.tally.specs.Counting.{fresh}
 use Rattle.tally.specs.Editors.{is-editor}
 use Rattle.reader.specs.declared.Outcome.the-variants.{Accepted}
@@ -42,7 +42,7 @@ module _ (text : List ℕ) (o : program-reading text .outcome ≡ Accepted) (t :
 abbrev start : tie.After-respond → tie.Start
 start c = c .before .before .before .before .before .before .before .before
 
-within : (s : tie.Start) → (s .args .t .width ≤ slot-limit) × (s .args .t .count ≤ rule-limit)
+within : (s : tie.Start) → (s .args .t .width ≤ slot-limit) × (s .args .t .count ≤ program-rule-limit)
 within s = rw (s .pre .1) (few-slots (s .args .text .now) (s .pre .0), few-rules (s .args .text .now) (s .pre .0))
 
 -- What the response left in its outputs.
@@ -159,7 +159,7 @@ list-answer-requires c κs =
     let s = start (call q) in
     let g = s .args in
     let w = parts q .changes-whole in
-    (within s .1, rw (told q .changes-front) w, rw (listed b) (short (g .text .now) (s .pre .0) (g .t) (s .pre .1) (g .card .now) (g .slip .now) (told q .shown) (told q .is-taken) (g .editor) (s .pre .2)))
+    (omega (arith, within s .1), rw (told q .changes-front) w, rw (listed b) (short (g .text .now) (s .pre .0) (g .t) (s .pre .1) (g .card .now) (g .slip .now) (told q .shown) (told q .is-taken) (g .editor) (s .pre .2)))
 
 same-length : tie.Need-same-length
 same-length c = search needs

@@ -163,7 +163,7 @@ returns-4 c =
     let k = e .before .before in
     let z : d .find .result ≡ 0 = omega (arith, a .before .if2 .left) in
     let w : a .strata .j ≡ table-at k .count = omega (arith, a .strata .inv .1, c .strata-test .left) in
-    let u = numbering-end (table-at k) (fits e) (shape e) (places e) _ (a .strata .t) (numbers-are d z) (rw w at (a .strata .inv .2)) in
+    let u = numbering-end (table-at k) (fits e) (shape e) _ (a .strata .t) (numbers-are d z) (rw w at (a .strata .inv .2)) in
     whole-layered (way-at k) (limits-at k) (text-at k) (file-of e) (a .strata .t) (by-strata r) (ended-by e) (ap (circle-of weak) (sym (rules-are e)) ∙ sym (circle-is d) ∙ z) (u ∙ ap with-strata (halfway k .tabled))
 
 enum-known-kind :

@@ -59,7 +59,7 @@ pub record Selected (ps : List Pair) (rs : List Rule) (S : List ℕ) (I : List P
   pub same-fired : k ≡ 0 → (i : ℕ) → i < length rs → getD fired i false ≡ names (order-fired (selection ps rs S I)) (suc i)
 
 -- Whatever slots, card and slip the arrays stand for, the selection of these comes to k and to these flags.
-abbrev pub Selects : List (List ℕ) → ℕ → ℕ → List ℕ → List ℕ → List Bool → ℕ → List Bool → List Bool → Type 0
-Selects rows n width counts card slip k positive fired =
+abbrev pub SelectedBy : List (List ℕ) → ℕ → ℕ → List ℕ → List ℕ → List Bool → ℕ → List Bool → List Bool → Type 0
+SelectedBy rows n width counts card slip k positive fired =
     (ks : List ℕ) (S : List ℕ) (I : List Pair) → Counts ks width counts → CardIs S card → SlipIs I slip → OneValue I
     → Declared (declared-pairs ks) (rules-of (table-in rows n)) I → Selected (declared-pairs ks) (rules-of (table-in rows n)) S I k positive fired
