@@ -144,9 +144,9 @@ typedef struct {
     size_t fired;
 } RlResponse;
 
-/* The stack that a call takes on x86-64, in bytes, the table that the caller hands over on it counted:
-   rl_read 115,752, rl_read_unlayered 82,200, rl_print 120,488, rl_is_sound 35,848, rl_slot_name 27,240, rl_value_name 27,320,
-   rl_unpack_card 36,024, rl_unpack_slip 36,120, rl_pack_card 35,944, rl_pack_slip 36,024, rl_respond 42,920, rl_respond_by_marks 42,920.
+/* The stack that a call takes on x86-64, in bytes, the table that the caller hands over on it counted; it is the same for small files and large ones:
+   rl_read 555,288, rl_read_unlayered 521,736, rl_print 560,088, rl_is_sound 353,240, rl_slot_name 192,536, rl_value_name 192,664,
+   rl_unpack_card 362,616, rl_unpack_slip 362,664, rl_pack_card 353,304, rl_pack_slip 353,352, rl_respond 259,208, rl_respond_by_marks 259,208.
    bench/stack.c measures it. Nothing is allocated. */
 
 /* In each function a buffer is a pointer and its length; the pointer is not null, also where the length is 0, as many bytes can be read there, or read and written in an output, and an output overlaps no other buffer. The table of records is a pointer and the number of records; what is said of an output holds for it too, record for byte, and it lies where an array of RlTally may lie, at an even address (bytes of a file that are cast to records may not). A bool is 0 or 1. Nothing else is asked of any argument. */
