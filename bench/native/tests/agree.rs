@@ -6,8 +6,9 @@ use native::response::{Caller, Outputs};
 use native::table::{Assignment, Literal, Name, Rule, Slot, Table, RULES};
 use native::Refusal;
 use second::engine::{Engine as _, Second, Way};
-use second::gen::{any_file, card, rooms, slip, Rng};
+use second::gen::{any_file, card, rooms, slip, File, Rng};
 use second::gen_editors::Day;
+use second::gen_large::large_file;
 use second::gen_marks;
 use second::gen_tables::damaged;
 use second::gen_text::Sketch;
@@ -100,6 +101,15 @@ fn prints(text: &[u8], engine: &mut Native) -> [u8; 4] {
     })
 }
 
+/// The file of a round: a large one now and then.
+fn file_of(rng: &mut Rng, round: u64) -> File {
+    if round % 400 == 0 {
+        large_file(rng, round / 400)
+    } else {
+        any_file(rng)
+    }
+}
+
 /// Readings, prints and responses agree, and every number comes up.
 #[test]
 fn agrees_with_the_second_engine() {
@@ -107,7 +117,7 @@ fn agrees_with_the_second_engine() {
     let mut engine = Native::new();
     let mut seen = [0; 45];
     for round in 0..20_000 {
-        let file = any_file(&mut rng);
+        let file = file_of(&mut rng, round);
         let (why, theirs) = Second.read(&file.text);
         let ours = engine.read(&file.text);
         assert_eq!(why.map(refused), ours.err(), "{}", String::from_utf8_lossy(&file.text));
@@ -134,7 +144,7 @@ fn agrees_with_the_second_engine_by_marks() {
     let mut engine = Native::new();
     let mut seen = [0; 45];
     for round in 0..20_000 {
-        let file = if round % 2 == 0 { any_file(&mut rng) } else { gen_marks::file(&mut rng) };
+        let file = if round % 2 == 0 { file_of(&mut rng, round) } else { gen_marks::file(&mut rng) };
         let (why, theirs) = Second.read_unlayered(&file.text);
         let ours = engine.read_unlayered(&file.text);
         assert_eq!(why.map(refused), ours.err(), "{}", String::from_utf8_lossy(&file.text));
