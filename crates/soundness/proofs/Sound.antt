@@ -8,7 +8,7 @@ use lib.Dec.{T, leb, leb→le}
 use lib.ListN.{getD}
 use Rattle.laws.proofs.Truth.{and-l, and-r, and-i}
 use Rattle.laws.proofs.Equations.{from-true}
-use Rattle.model.specs.Strata.{weak, Strata}
+use Rattle.model.specs.Strata.{weak}
 use Rattle.model.specs.Least.{LeastStrata}
 use Rattle.table.specs.declared.Table.{Table}
 use Rattle.laws.specs.Limits.{slot-limit, value-limit}
@@ -30,10 +30,6 @@ pub sound-values : (t : Table) → Shaped t → sound t ≡ true → (i : ℕ) �
 sound-values t sh e i h =
     let w = well-formed-e t sh (sound-parts t (from-true (sound t) e) .0) in
     (w .some-value i h, w .few-values i h)
-
--- Its rules have strata, and it carries them.
-pub sound-strata : (t : Table) → sound t ≡ true → Strata weak (rules-of t) (stratum-at t)
-sound-strata t e = carries-iff t .0 (sound-parts t (from-true (sound t) e) .1) .strata
 
 -- A table that is otherwise in order passes exactly where it carries the least strata.
 pub sound-iff-least : (t : Table) → T (well-formed t) → T (sound t) ↔ LeastStrata weak (rules-of t) (stratum-at t)

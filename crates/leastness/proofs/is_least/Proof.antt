@@ -4,6 +4,7 @@ use mathlib.Core.Bool.{Bool, false}
 use Prim.Native.Nat.{ℕ, _*_, _≤_}
 use lib.ListN.{replicate, length-replicate}
 use borrow.Author.Tests.{not-true, not-false}
+use Rattle.laws.specs.Limits.{rule-limit}
 use Rattle.laws.proofs.Filled.{replicate-at}
 use Rattle.leastness.specs.inner.Low.{Low, Unheld, Unchained}
 use native.Mathlib.Omega.{arith}
@@ -65,7 +66,7 @@ slice-aggregate-are-held-6 c = search needs
 are-held-requires-3 : tie.Need-are-held-requires-3
 are-held-requires-3 c κs =
     let s = c .before .before .before .before .before .before in
-    (s .pre, low (c .before .before .before .before), unheld 2000 (s .args .n) (s .pre .few), unchained 18000 (s .args .n) (omega (arith, s .pre .few)))
+    (s .pre, low (c .before .before .before .before), unheld rule-limit (s .args .n) (s .pre .few), unchained 18000 (s .args .n) (omega (arith, s .pre .few)))
 
 returns-4 : tie.Need-returns-4
 returns-4 c = search needs

@@ -1,6 +1,7 @@
 -- `response::respond` meets its contract.
 -- Assumes nothing.
 use mathlib.Core.Path.{refl}
+use Rattle.laws.specs.Limits.{rule-limit}
 use Rattle.table.specs.inner.Shape.{Shaped}
 use Rattle.table.proofs.Shape.{shaped}
 use Rattle.soundness.proofs.Admitted.{cleared}
@@ -86,7 +87,7 @@ slice-aggregate-enter-3 : tie.Need-slice-aggregate-enter-3
 slice-aggregate-enter-3 c = search needs
 
 enter-requires-3 : tie.Need-enter-requires-3
-enter-requires-3 c κs = (cleared (c .before .before .before .before .before .before .before .before .before .before .args .t) 2000 (λ l. l), refl)
+enter-requires-3 c κs = (cleared (c .before .before .before .before .before .before .before .before .before .before .args .t) rule-limit (λ l. l), refl)
 
 slice-aggregate-conclude-5 : tie.Need-slice-aggregate-conclude-5
 slice-aggregate-conclude-5 c = search needs

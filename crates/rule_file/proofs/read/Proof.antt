@@ -16,7 +16,7 @@ use Rattle.rows.proofs.Laws.{zero-shaped, entered-start, entered-next}
 use Rattle.strata.specs.Layered.{with-strata}
 use Rattle.model.specs.Strata.{weak}
 use Rattle.model.specs.Circles.{circle-of}
-use Rattle.strata.proofs.Layered.{number-small, numbering-start, numbering-step, numbering-end}
+use Rattle.strata.proofs.Layered.{numbering-start, numbering-step, numbering-end}
 use Rattle.rule_file.proofs.Answers.{whole-layered, whole-circle, whole-unlayered, whole-refused}
 use Rattle.rule_file.proofs.read.Proof.Places.{Inv-rows, μ-rows, Inv-strata, μ-strata, Inv-statements, μ-statements, text-at, way-at, limits-at, most-at, most-is, table-at, halfway, answer, slot-lies, rule-lies, rule-placed, file-of, within, ended-by, fits, shape, places, rules-are, end-at, table-in-rows, by-strata, entered, rows-fit, circle-is, numbers-are}
 use Rattle.rule_file.proofs.read.Statement.{statement}

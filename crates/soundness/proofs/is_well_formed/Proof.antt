@@ -1,6 +1,7 @@
 -- `soundness::is_well_formed` meets its contract.
 -- Assumes nothing.
 use mathlib.Core.Path.{refl}
+use Rattle.laws.specs.Limits.{rule-limit}
 use Rattle.soundness.proofs.Admitted.{cleared}
 use borrow.Author.Needs.{needs}
 use Rattle.soundness.proofs.is_well_formed.Statement.{statement}
@@ -31,7 +32,7 @@ slice-aggregate-enter-3 : tie.Need-slice-aggregate-enter-3
 slice-aggregate-enter-3 c = search needs
 
 enter-requires-3 : tie.Need-enter-requires-3
-enter-requires-3 c κs = (cleared (c .before .before .before .before .before .args .t) 2000 (λ l. l), refl)
+enter-requires-3 c κs = (cleared (c .before .before .before .before .before .args .t) rule-limit (λ l. l), refl)
 
 returns-3 : tie.Need-returns-3
 returns-3 c = c .before .enter3 .ensures .says

@@ -2,6 +2,7 @@
 -- Assumes nothing.
 use mathlib.Core.Path.{refl}
 use borrow.Author.Tests.{not-false}
+use Rattle.laws.specs.Limits.{rule-limit}
 use Rattle.soundness.proofs.Admitted.{cleared}
 use borrow.Author.Needs.{needs}
 use Rattle.strata_cases.proofs.write_layering.Statement.{statement}
@@ -11,7 +12,7 @@ slice-aggregate-enter : tie.Need-slice-aggregate-enter
 slice-aggregate-enter c = search needs
 
 enter-requires : tie.Need-enter-requires
-enter-requires c κs = (cleared (c .before .before .args .t) 2000 (λ l. l), refl)
+enter-requires c κs = (cleared (c .before .before .args .t) rule-limit (λ l. l), refl)
 
 returns : tie.Need-returns
 returns c = search needs
