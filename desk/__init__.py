@@ -1,0 +1,1 @@
+"""The desk: rule files, cards and slips of a dialect dictionary for people, over the proved library."""

@@ -1,0 +1,140 @@
+"""What to do about a refused rule text, in words of its own for the mistakes that are made most."""
+import difflib
+import re
+
+from .places import END, NEW_NAME
+from .tokens import MARKS, RESERVED
+
+# What the bytes at a character without a place look like, and what to say of it.
+CHARACTERS = [
+    (rb'\xef\xbb\xbf', 'this is a byte-order mark: save the file as plain text, UTF-8 without BOM or ASCII'),
+    (rb'\xff\xfe|\xfe\xff', 'the file is in UTF-16: save it as plain text, UTF-8 without BOM or ASCII'),
+    (rb'\x00', 'the file has zero bytes, as in UTF-16: save it as plain text, UTF-8 without BOM or ASCII'),
+    (rb'#|//|/\*|--|%|<!--|!', 'rule files have no comments: keep such words in another file'),
+    (rb'\xe2\x80[\x98-\x9f]|[\x91-\x94]', 'this is a curly quote: names stand without quotes, as letters, digits and hyphens'),
+    (rb'["\'`]', 'names stand without quotes, as letters, digits and hyphens'),
+    (rb'\xc2\xa0|\xe2\x80[\x80-\x8b\xaf]|\xa0', 'this is a space of another kind: write a plain space'),
+    (rb'\xe2\x80[\x90-\x95]|\xe2\x88\x92|[\x96\x97]', 'this is a dash: the hyphen of a name is the plain -'),
+    (rb'[()\[\]]', 'there are no parentheses: a condition is its tests with AND between, each plain or under NOT'),
+    (rb'_', 'a name has letters, digits and hyphens: write - for _'),
+    (rb'-', 'a name begins with a letter or a digit'),
+    (rb'\|\|', 'there is no OR: write a rule for each case'),
+    (rb'&', 'write AND between tests'),
+    (rb'==?', 'write *= for what changes now, |= for what the card has, := in an assignment'),
+    (rb'[*|:]', 'write *=, |= and := with the = directly behind it'),
+    (rb'\.', 'a statement ends in ;'),
+    (rb'[\x80-\xff]', 'names have plain letters a to z and A to Z, digits and hyphens'),
+]
+
+# Words that other languages have and RL has not.
+ABSENT = {
+    'OR': 'there is no OR: write a rule for each case',
+    'ELSE': 'there is no ELSE: write a rule of its own, with NOT before the test',
+    'FALSE': 'there is no FALSE: TRUE is the condition that always holds',
+    'NULL': 'the word for no value is NONE',
+}
+
+
+def of_character(place):
+    """What is said of a character that has no place in rule text."""
+    rest = place.text[place.token.start:place.token.start + 8]
+    if place.text.count(0, 0, 64) > 8:
+        return CHARACTERS[1][1]
+    return next((said for pattern, said in CHARACTERS if re.match(pattern, rest)), 'take it out')
+
+
+def suggestions(place, may_stand):
+    """The names and words that may stand there and are like the token found, the most alike first."""
+    if place.is_end or not place.token.is_name():
+        return []
+    found = place.token.shown()
+    known = [part for part in may_stand if part not in (*MARKS, END, NEW_NAME)]
+    words = [part for part in known if part in RESERVED and part == found.upper()]
+    names = [part for part in known if part.lower() == found.lower()]
+    folded = {part.lower(): part for part in known}
+    close = [folded[part] for part in difflib.get_close_matches(found.lower(), folded, 3, 0.7)]
+    return list(dict.fromkeys(words + names + close))
+
+
+def of_token(place, may_stand):
+    """What is said of a token out of place, or '' where nothing of its own is."""
+    found, before = place.token.part, place.before.part if place.before else b''
+    word = place.token.shown()
+    if place.is_end:
+        begun = place.statement()
+        line = place.lines.place(begun.start)[0] if begun else place.line
+        return f'the file ends inside the statement that begins in line {line}'
+    if word.upper() in ABSENT and place.token.is_name():
+        return ABSENT[word.upper()]
+    if place.token.is_name() and word.upper() in RESERVED and word.upper() in may_stand:
+        return f'reserved words are written in capitals: {word.upper()}'
+    if found == b'SLOT' and 'WHEN' in may_stand:
+        return 'all SLOT lines stand before all rules'
+    if found in (b'|=', b':=') and may_stand == ['*=']:
+        return 'WHEN takes *=: a rule is woken by a change'
+    if found == b':=' and '*=' in may_stand:
+        return ':= assigns, behind THEN; a test is *= or |='
+    if may_stand == [':=']:
+        return 'behind THEN a slot is assigned by :='
+    if found == b'TRUE':
+        return 'TRUE opens a condition or is the whole of it, and stands nowhere else'
+    if found == b'THEN' and may_stand == ['IF']:
+        return 'IF is missing: a rule without a condition has IF TRUE'
+    if found == b'}' and before == b',':
+        return 'take the comma before } away'
+    if found == b'}' and before == b'{':
+        return 'a list has one name at least'
+    if found == b',' and may_stand == [';']:
+        return 'two or more assignments stand in braces: THEN { a := b, c := d };'
+    if ';' in may_stand and word in ('WHEN', 'SLOT'):
+        return 'the statement before it has no ; at its end'
+    if word == 'NOT' and before == b'WHEN':
+        return 'WHEN takes no NOT: put the test into the condition, behind IF'
+    if word in RESERVED and NEW_NAME in may_stand:
+        return f'{word} is a reserved word and no name'
+    return ''
+
+
+def of_name(place, file):
+    """What is said of a name that is not declared: of what else it is the name."""
+    name = place.token.shown()
+    behind = place.before is not None and place.before.part in (b'*=', b'|=', b':=')
+    owners = [file.slots[slot] for slot, values in enumerate(file.values) if name in values[1:]]
+    if behind and name in file.slots:
+        return f'{name} is a slot, not a value'
+    if owners:
+        slot = place.tokens[place.at - 2].shown() if behind else ''
+        return f"{name} is a value of {' and of '.join(owners)}, not {'of ' + slot if behind else 'a slot'}"
+    return 'declare it in a SLOT line, or correct its spelling; capitals count'
+
+
+def of_surplus(place):
+    """What is said of one too many."""
+    found, before = place.token.part, place.before.part if place.before else b''
+    if found == b'SLOT':
+        return 'a file has 32 slots at most'
+    if found == b'WHEN':
+        return 'a file has 2,000 rules at most'
+    if before == b'AND':
+        return 'a condition has 8 tests at most: split the rule'
+    begun = place.statement()
+    if begun and begun.part == b'SLOT':
+        return 'a slot has 15 values at most'
+    return 'a rule assigns 4 slots at most: split the rule'
+
+
+def advise(place, may_stand):
+    """What to do about a refusal at a place, as one line or ''."""
+    if place.number == 11:
+        return of_character(place)
+    if place.number == 12:
+        return of_token(place, may_stand)
+    if place.number == 13:
+        return f'it has {len(place.token.part)}: shorten it everywhere'
+    if place.number == 14:
+        return 'take one of the two away, or rename it'
+    if place.number == 15:
+        return of_surplus(place)
+    if place.number == 16:
+        return of_name(place, place.declared())
+    return 'keep one of the two assignments'

@@ -1,0 +1,225 @@
+"""A day's slips, one after the other: each answered or refused and counted once, its card written."""
+import csv
+import json
+import os
+import re
+import signal
+import sys
+import time
+
+from .counts import Counts
+from .entries import ROOM, word_of
+from .faults import WORDS, Unusable
+from .files import read
+from .library import Responder
+
+# A slip's file: its place in the day, the entry whose card it changes, its editor's number.
+SLIP = re.compile(r'(?P<order>\d+)\.(?P<entry>.+)\.(?P<editor>\d+)\.slip')
+CARD = '.card'
+
+# The list of the slips that are done, in their folder.
+DONE = 'done.jsonl'
+
+# How many slips are carried out at once, and how often the bar is drawn, in seconds.
+TOGETHER, DRAWN = 2000, 0.1
+
+COLUMNS = ('slip', 'entry', 'editor', 'outcome', 'number', 'second', 'words', 'changes', 'fired', 'card', 'answered', 'refused')
+
+# Refusals of a damaged card.
+DAMAGED = range(20, 24)
+
+
+class Day:
+    """The slips of a folder, the cards of another, and the rules by which they are answered."""
+
+    def __init__(self, file, cards, slips, counts):
+        """Finds the slips, and those that are done."""
+        self.file, self.cards, self.slips, self.counts = file, os.path.abspath(cards), os.path.abspath(slips), counts
+        self.done_path = os.path.join(self.slips, DONE)
+        self.earlier = earlier(self.done_path)
+        done = {outcome['slip'] for outcome in self.earlier}
+        self.misnamed, found = [], []
+        for name in names_in(self.slips):
+            match = SLIP.fullmatch(name)
+            if match:
+                found.append((int(match['order']), name, match['entry'], int(match['editor'])))
+            elif not name.startswith('.') and name != DONE:
+                self.misnamed.append(name)
+        self.left = [one for one in sorted(found) if one[1] not in done]
+        self.responder = Responder(file.library, file.table, file.by_marks)
+        self.damaged = {}
+        for outcome in self.earlier:
+            self.note(outcome)
+        self.unread = set()
+        self.shown = {}
+
+    def note(self, outcome):
+        """Keeps of each entry the card that was found damaged."""
+        if outcome.get('number') in DAMAGED:
+            self.damaged[outcome['entry']] = outcome['card']
+
+    def words(self, changes):
+        """The words of packed changes; those of changes seen before are kept."""
+        if changes not in self.shown:
+            pairs = self.file.library.unpack_slip(self.file.bare, changes)[2]
+            self.shown[changes] = ' '.join(word_of(self.file, pair) for pair in pairs)
+        return self.shown[changes]
+
+    def run(self, stop):
+        """The outcomes in the order of the slips, some at once; what was counted is on the disk before it is given."""
+        for begin in range(0, len(self.left), TOGETHER):
+            cards, outcomes = {}, []
+            for _, name, entry, editor in self.left[begin:begin + TOGETHER]:
+                if stop():
+                    break
+                outcomes.append(self.answer(name, entry, editor, cards))
+            written = {path: states for path, states in cards.items() if states[0] != states[1]}
+            lines = [json.dumps(outcome) for outcome in outcomes if counted(outcome)]
+            if lines:
+                self.counts.commit(written, self.done_path, lines)
+            yield outcomes
+            if stop():
+                return
+
+    def answer(self, name, entry, editor, cards):
+        """What one slip comes to; a card that is changed is kept until it is written. An entry whose card is damaged, or of which something could not be read, is stopped: its later slips are held until that is mended."""
+        outcome = {'slip': name, 'entry': entry, 'editor': editor}
+        path = f'{self.cards}/{entry}{CARD}'
+        if entry in self.unread:
+            return {**outcome, 'outcome': 'held', 'words': 'something of this entry could not be read'}
+        try:
+            slip = read(f'{self.slips}/{name}', ROOM)
+            if path not in cards:
+                before = read(path, ROOM).hex()
+                cards[path] = [before, before]
+        except Unusable as error:
+            self.unread.add(entry)
+            return {**outcome, 'outcome': 'unread', 'words': str(error)}
+        if self.damaged.get(entry) == cards[path][1]:
+            return {**outcome, 'outcome': 'held', 'words': 'an earlier slip found the card of this entry damaged'}
+        answer = self.responder.respond(self.counts.records, editor, bytes.fromhex(cards[path][1]), slip)
+        if 1 <= editor <= len(self.counts.records):
+            record = self.counts.records[editor - 1]
+            outcome.update(answered=record.answered, refused=record.refused)
+        if answer.number == 0:
+            cards[path][1] = answer.card.hex()
+            outcome.update(outcome='answered', number=0, second=0, changes=self.words(answer.changes), fired=' '.join(map(str, answer.rules())))
+        else:
+            outcome.update(outcome='refused', number=answer.number, second=answer.second, words=self.reason(answer))
+        outcome['card'] = cards[path][1]
+        self.note(outcome)
+        return outcome
+
+    def reason(self, answer):
+        """A refusal in words, a conflict with its slot's name."""
+        slot = f': {self.file.slots[answer.second]}' if answer.number in (22, 40) else ''
+        return WORDS[answer.number] + slot
+
+
+def names_in(folder):
+    """The names of what is in a folder."""
+    try:
+        return os.listdir(folder)
+    except OSError as error:
+        raise Unusable(f'{folder}: {error.strerror}') from error
+
+
+def earlier(path):
+    """The outcomes that a list of slips done has."""
+    if not os.path.exists(path):
+        return []
+    try:
+        return [json.loads(line) for line in read(path).splitlines()]
+    except ValueError as error:
+        raise Unusable(f'{path}: damaged') from error
+
+
+def counted(outcome):
+    """Whether an outcome is in an editor's record: an answer, or a refusal but 44 and 32."""
+    return outcome['outcome'] in ('answered', 'refused') and outcome['number'] not in (32, 44)
+
+
+class Bar:
+    """A progress bar on a terminal."""
+
+    def __init__(self, stream, whole):
+        """Draws nothing where the stream is no terminal."""
+        self.stream, self.whole = stream, whole
+        self.is_shown = stream.isatty() and whole > 0
+        self.begun = self.drawn = time.monotonic()
+
+    def draw(self, done):
+        """Draws the bar where it is time to, and at the end."""
+        now = time.monotonic()
+        if not self.is_shown or (now - self.drawn < DRAWN and done < self.whole):
+            return
+        self.drawn = now
+        speed = done / max(now - self.begun, 1e-6)
+        filled = 30 * done // self.whole
+        left = (self.whole - done) / speed if speed else 0
+        self.stream.write(f"\r[{'#' * filled}{'.' * (30 - filled)}] {done:,} of {self.whole:,}, {speed:,.0f} slips/s, {left:,.0f} s left\x1b[K")
+        self.stream.flush()
+
+    def close(self):
+        """Ends the line of the bar."""
+        if self.is_shown:
+            self.stream.write('\n')
+
+
+class Stop:
+    """The signal that asked a run to stop, or 0."""
+
+    def __init__(self):
+        """Waits for the two signals that ask for it."""
+        self.signal = 0
+        for number in (signal.SIGINT, signal.SIGTERM):
+            signal.signal(number, self.ask)
+
+    def ask(self, number, _):
+        """Notes the signal."""
+        self.signal = number
+
+    def __call__(self):
+        """Whether a signal came."""
+        return self.signal != 0
+
+
+def work(file, arguments):
+    """Answers a day's slips and prints each outcome; the exit status, 0 where all were answered, 1 where one was not."""
+    out = csv.DictWriter(sys.stdout, COLUMNS, lineterminator='\n', extrasaction='ignore')
+    is_fresh = not os.path.exists(arguments.editors)
+    stop = Stop()
+    with Counts(arguments.editors, arguments.cards, arguments.slips) as counts:
+        day = Day(file, arguments.cards, arguments.slips, counts)
+        if is_fresh:
+            print(f'{arguments.editors}: not there; begun with forty records of 0 and 0', file=sys.stderr)
+        for name in day.misnamed:
+            print(f'{name}: not the name of a slip, ORDER.ENTRY.EDITOR.slip; left alone', file=sys.stderr)
+        if day.earlier:
+            print(f'{len(day.earlier):,} slips were done before and are not counted again', file=sys.stderr)
+        if not arguments.json:
+            out.writeheader()
+        found = day.earlier if arguments.all else []
+        show(out, found, arguments.json)
+        bar, done, unanswered = Bar(sys.stderr, len(day.left)), 0, sum(outcome['outcome'] != 'answered' for outcome in found)
+        for outcomes in day.run(stop):
+            show(out, outcomes, arguments.json)
+            done += len(outcomes)
+            unanswered += sum(outcome['outcome'] != 'answered' for outcome in outcomes)
+            bar.draw(done)
+        bar.close()
+    left = len(day.left) - done
+    print(f'{done:,} slips, {done - unanswered:,} answered, {unanswered:,} not' + (f'; stopped, {left:,} left' if left else ''), file=sys.stderr)
+    if left:
+        return 128 + stop.signal
+    return 1 if unanswered or day.misnamed else 0
+
+
+def show(out, outcomes, as_json):
+    """Prints outcomes, a line each."""
+    for outcome in outcomes:
+        if as_json:
+            print(json.dumps(outcome))
+        else:
+            out.writerow(outcome)
+    sys.stdout.flush()

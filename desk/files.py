@@ -1,0 +1,99 @@
+"""Files read, and written by rename, so that a file is what it was or what it is to be and nothing between."""
+import contextlib
+import ctypes
+import os
+import sys
+
+from .faults import Unusable
+
+STANDARD = '-'
+
+LIBC = ctypes.CDLL(None, use_errno=True)
+
+
+def read(path, most=None):
+    """The bytes of a file or of standard input; of a long one as many as asked."""
+    try:
+        if path == STANDARD:
+            return sys.stdin.buffer.read(-1 if most is None else most)
+        with open(path, 'rb') as file:
+            return file.read(-1 if most is None else most)
+    except OSError as error:
+        raise Unusable(f'{path}: {error.strerror}') from error
+
+
+def replace(path, data):
+    """Writes a file by rename."""
+    replace_all({path: data}, is_durable=False)
+
+
+def replace_all(contents, is_durable=True):
+    """Writes each file under another name in its folder, with the mode that it had, and then renames them all; where that is asked they are on the disk before they are renamed, and their names afterwards."""
+    made, at = {}, None
+    try:
+        for at, data in contents.items():
+            target = os.path.realpath(at) if os.path.islink(at) else os.path.abspath(at)
+            folder, name = os.path.split(target)
+            other = f'{folder}/.{name}.new'
+            handle = os.open(other, os.O_CREAT | os.O_TRUNC | os.O_WRONLY | os.O_CLOEXEC, 0o666)
+            made[target] = other
+            try:
+                if os.path.exists(target):
+                    os.fchmod(handle, os.stat(target).st_mode & 0o777)
+                write(handle, data)
+            finally:
+                os.close(handle)
+        folders = {os.path.dirname(target) for target in made} if is_durable else ()
+        for folder in folders:
+            sync(folder, LIBC.syncfs)
+        for target in list(made):
+            at = target
+            os.replace(made[target], target)
+            del made[target]
+        for folder in folders:
+            sync(folder, LIBC.fsync)
+    except OSError as error:
+        for left in made.values():
+            with contextlib.suppress(OSError):
+                os.unlink(left)
+        raise Unusable(f'{at}: {error.strerror}') from error
+
+
+def write(handle, data):
+    """Writes all bytes."""
+    while data:
+        data = data[os.write(handle, data):]
+
+
+def sync(path, function):
+    """Has a folder, or all of its file system, written to the disk."""
+    handle = os.open(path, os.O_RDONLY)
+    try:
+        if function(handle) != 0:
+            raise OSError(ctypes.get_errno(), os.strerror(ctypes.get_errno()), path)
+    finally:
+        os.close(handle)
+
+
+def put_behind(path, size, data):
+    """Puts bytes behind the first bytes of a file, whatever stood there, and has them written to the disk."""
+    try:
+        handle = os.open(path, os.O_CREAT | os.O_WRONLY | os.O_CLOEXEC, 0o666)
+        try:
+            os.ftruncate(handle, size)
+            os.lseek(handle, size, os.SEEK_SET)
+            write(handle, data)
+            os.fsync(handle)
+        finally:
+            os.close(handle)
+    except OSError as error:
+        raise Unusable(f'{path}: {error.strerror}') from error
+
+
+def remove(path):
+    """Takes a file away, and has that written to the disk."""
+    try:
+        os.unlink(path)
+        sync(os.path.dirname(path), LIBC.fsync)
+    except OSError as error:
+        raise Unusable(f'{path}: {error.strerror}') from error

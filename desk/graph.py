@@ -1,0 +1,54 @@
+"""Which rule wakes which, by strata, as a graph for Graphviz."""
+import shutil
+import subprocess
+
+# How long Graphviz may take, in seconds.
+PATIENCE = 60
+
+
+def dot(file):
+    """The graph in the language DOT: an arrow from each rule to the rules that test by *= what it assigns, dashed where the test stands under NOT."""
+    lines = ['digraph rules {', '    rankdir=BT;', '    node [shape=box, fontname="sans-serif", fontsize=10];', '    edge [fontname="sans-serif", fontsize=8];']
+    strata = {}
+    for rule in file.rules:
+        strata.setdefault(rule.stratum, []).append(rule)
+    for stratum in sorted(strata):
+        lines += [f'    subgraph cluster_{stratum} {{', f'        label="{f"stratum {stratum}" if stratum else "without strata"}"; fontname="sans-serif"; color=gray;']
+        lines += [f'        r{rule.number} [label="{label(file, rule)}", tooltip="{file.rule(rule.number)}"];' for rule in strata[stratum]]
+        lines.append('    }')
+    for (giver, taker, under_not), pairs in sorted(arrows(file).items()):
+        shown = '\\n'.join('{} := {}'.format(*file.named(*pair)) for pair in sorted(pairs))
+        lines.append(f'    r{giver} -> r{taker} [label="{shown}"{", style=dashed" if under_not else ""}];')
+    return '\n'.join([*lines, '}', ''])
+
+
+def label(file, rule):
+    """A rule on several lines."""
+    trigger, *literals = map(file.test, rule.tests)
+    assigns = ['{} := {}'.format(*file.named(*pair)) for pair in rule.assigns]
+    return '\\l'.join([f'rule {rule.number}, line {rule.line}', f'WHEN {trigger}', *(f'IF {test}' for test in literals), *(f'THEN {one}' for one in assigns), ''])
+
+
+def arrows(file):
+    """The pairs by which a rule wakes another or, under NOT, stops it."""
+    testing = {}
+    for rule in file.rules:
+        for test in rule.tests:
+            if test.becomes:
+                testing.setdefault(test.pair(), set()).add((rule.number, test.negated))
+    found = {}
+    for rule in file.rules:
+        for pair in rule.assigns:
+            for taker, under_not in testing.get(pair, ()):
+                found.setdefault((rule.number, taker, under_not), set()).add(pair)
+    return found
+
+
+def svg(text):
+    """The graph drawn, or None where Graphviz is not installed or does not come to its end."""
+    if shutil.which('dot') is None:
+        return None
+    try:
+        return subprocess.run(['dot', '-Tsvg'], input=text.encode(), capture_output=True, check=True, timeout=PATIENCE).stdout
+    except (OSError, subprocess.SubprocessError):
+        return None

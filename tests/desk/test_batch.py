@@ -1,0 +1,246 @@
+"""`desk batch`: a day's slips, stopped at every change to a file, with a full disk at each, and on a read-only one."""
+import csv
+import errno
+import io
+import os
+import pty
+import shutil
+import signal
+import struct
+import subprocess
+import sys
+import time
+import unittest
+
+from running import TOP, DeskTest, desk, failing, program
+
+from desk import batch
+
+RULES = '''SLOT dating { before-1900, from-1900 };
+SLOT status { current, obsolete };
+SLOT label { plain, dated };
+WHEN dating *= before-1900 IF status |= current THEN status := obsolete;
+WHEN status *= obsolete IF TRUE THEN label := dated;
+WHEN dating *= from-1900 IF TRUE THEN { status := current, label := NONE };
+'''
+
+# By entry: the card.
+CARDS = {'abbey': '0C 04 40', 'barn': '0C 04 40', 'croft': '0C 88 80', 'damaged': '0C 04 4F'}
+
+# In the order of the day: the entry, the editor, the slip, and what comes of it: outcome, number, changes, fired rules.
+SLIPS = [
+    ('abbey', 1, '04 02', 'answered', 0, 'dating=before-1900 status=obsolete label=dated', '1 2'),
+    ('damaged', 2, '04 02', 'refused', 23, '', ''),
+    ('barn', 2, '08 02 22', 'answered', 0, 'dating=before-1900 status=obsolete label=dated', '1 2'),
+    ('damaged', 1, '04 02', 'held', None, '', ''),
+    ('barn', 40, '08 04 12', 'refused', 40, '', ''),
+    ('lost', 3, '04 02', 'unread', None, '', ''),
+    ('abbey', 1, '04 04', 'answered', 0, 'dating=from-1900 status=current label=NONE', '3'),
+    ('croft', 41, '04 02', 'refused', 44, '', ''),
+    ('croft', 12, '04 02', 'refused', 32, '', ''),
+    ('croft', 1, '04 42', 'answered', 0, 'label=plain', ''),
+]
+FULL = 12
+WORDS = ('batch', 'rules.txt', '--cards', 'cards', '--slips', 'slips', '--editors', 'counts.bin')
+
+
+def counts(records):
+    """The bytes of forty records, of which some are given by editor."""
+    return b''.join(struct.pack('<HH', *records.get(editor, (0, 0))) for editor in range(1, 41))
+
+
+class BatchTest(DeskTest):
+    """A day of ten slips, of which some are refused, and the state that it ends in."""
+
+    def setUp(self):
+        """Makes the day, three slips carried out at once."""
+        super().setUp()
+        self.make()
+        self.addCleanup(os.chdir, os.getcwd())
+        os.chdir(self.folder)
+        self.addCleanup(setattr, batch, 'TOGETHER', batch.TOGETHER)
+        batch.TOGETHER = 3
+        for number in (signal.SIGINT, signal.SIGTERM):
+            self.addCleanup(signal.signal, number, signal.getsignal(number))
+
+    def make(self):
+        """Writes the day's files."""
+        self.put('rules.txt', RULES)
+        self.put('counts.bin', counts({FULL: (9999, 7), 1: (5, 1)}))
+        for entry, card in CARDS.items():
+            self.put(f'cards/{entry}.card', bytes.fromhex(card))
+        for at, (entry, editor, slip, *_) in enumerate(SLIPS):
+            self.put(f'slips/{at + 8}.{entry}.{editor}.slip', bytes.fromhex(slip))
+
+    def state(self):
+        """Every file of the day but the locks, and of the list of slips done its lines."""
+        found = {}
+        for folder, _, names in os.walk(self.folder):
+            for name in names:
+                path = os.path.relpath(os.path.join(folder, name), self.folder)
+                if not name.endswith('.lock'):
+                    found[path] = self.get(path)
+        return found
+
+    def again(self):
+        """Makes the day anew, without what a run left."""
+        for name in os.listdir(self.folder):
+            path = self.path(name)
+            shutil.rmtree(path) if os.path.isdir(path) else os.unlink(path)
+        self.make()
+
+    def test_outcomes(self):
+        """Each slip comes to its outcome, by name, in order; the records and the cards are those of the slips answered."""
+        run = desk(*WORDS, '--json')
+        self.expect(run, 1)
+        for (entry, editor, _, outcome, number, changes, fired), told in zip(SLIPS, run.lines()):
+            self.assertEqual((told['entry'], told['editor'], told['outcome'], told.get('number'), told.get('changes', ''), told.get('fired', '')),
+                             (entry, editor, outcome, number, changes, fired))
+        self.assertEqual(self.get('counts.bin'), counts({1: (8, 1), 2: (1, 1), 40: (0, 1), FULL: (9999, 7)}))
+        self.assertEqual({name: self.get(f'cards/{name}.card').hex(' ').upper() for name in CARDS},
+                         {'abbey': '0C 84 00', 'barn': '0C 48 80', 'croft': '0C 88 40', 'damaged': '0C 04 4F'})
+        self.assertEqual(len(self.get('slips/done.jsonl').splitlines()), 6)
+
+    def test_csv(self):
+        """As CSV the same outcomes stand on a line each, below their names."""
+        run = desk(*WORDS)
+        rows = list(csv.DictReader(io.StringIO(run.out)))
+        self.assertEqual([(row['entry'], row['outcome']) for row in rows], [(slip[0], slip[3]) for slip in SLIPS])
+        self.assertIn('0 answered', desk('show', 'rules.txt', '--editors', 'counts.bin').out)
+        self.expect(run, 1, '10 slips, 4 answered, 6 not')
+
+    def test_all_answered(self):
+        """A day on which all is answered ends with status 0; a day without slips too."""
+        for at, (entry, editor, *_) in enumerate(SLIPS):
+            if SLIPS[at][3] != 'answered':
+                os.unlink(f'slips/{at + 8}.{entry}.{editor}.slip')
+        self.expect(desk(*WORDS), 0, '4 slips, 4 answered, 0 not')
+        self.expect(desk(*WORDS), 0, '4 slips were done before', '0 slips')
+
+    def test_twice(self):
+        """A day that is run again counts nothing twice; what was not counted is tried again, and after a card is mended its slips are answered."""
+        desk(*WORDS)
+        before = self.state()
+        self.expect(desk(*WORDS), 1, '6 slips were done before', '4 slips, 0 answered, 4 not')
+        self.assertEqual(self.state(), before)
+        self.put('cards/damaged.card', bytes.fromhex('0C 04 40'))
+        self.put('cards/lost.card', bytes.fromhex('0C 04 40'))
+        run = desk(*WORDS, '--json')
+        self.assertEqual([(told['entry'], told['outcome']) for told in run.lines()],
+                         [('damaged', 'answered'), ('lost', 'answered'), ('croft', 'refused'), ('croft', 'refused')])
+        self.assertEqual(self.get('counts.bin'), counts({1: (9, 1), 2: (1, 1), 3: (1, 0), 40: (0, 1), FULL: (9999, 7)}))
+        self.assertEqual(len(desk(*WORDS, '--json', '--all').lines()), 10)
+
+    def test_killed(self):
+        """A run that is killed at any change to a file, and started again, ends as one that was not."""
+        desk(*WORDS)
+        whole = self.state()
+        for at in range(1, 1000):
+            self.again()
+            run = failing(self.folder, at, 0, *WORDS)
+            if run.status == 1:
+                break
+            self.assertEqual(run.status, -signal.SIGKILL)
+            self.expect(desk(*WORDS), 1)
+            self.assertEqual(self.state(), whole, f'killed at change {at}')
+        self.assertGreater(at, 50)
+
+    def test_full(self):
+        """A disk that is full from any change on stops the run with status 2 and a message; with room again it ends as one that was not stopped."""
+        desk(*WORDS)
+        whole = self.state()
+        for at in range(1, 1000):
+            self.again()
+            run = failing(self.folder, at, errno.ENOSPC, *WORDS)
+            if run.status == 1:
+                break
+            self.expect(run, 2, 'No space left on device')
+            self.expect(desk(*WORDS), 1)
+            self.assertEqual(self.state(), whole, f'full from change {at} on')
+        self.assertGreater(at, 50)
+
+    def test_read_only(self):
+        """On a read-only disk nothing is begun."""
+        before = self.state()
+        self.expect(failing(self.folder, 1, errno.EROFS, *WORDS), 2, 'counts.bin.lock: Read-only file system')
+        self.assertEqual(self.state(), before)
+
+    def test_signal(self):
+        """A run that is asked to stop ends what it has begun and says how many slips are left."""
+        for at in range(400):
+            self.put(f'slips/{at + 100}.abbey.1.slip', bytes.fromhex('00'))
+        words = 'from desk import batch, cli; batch.TOGETHER = 1; import sys; sys.exit(cli.main())'
+        run = subprocess.Popen([sys.executable, '-c', words, *WORDS], env=dict(os.environ, PYTHONPATH=TOP), stdout=subprocess.PIPE, stderr=subprocess.PIPE)
+        run.stdout.readline()
+        run.stdout.readline()
+        run.send_signal(signal.SIGTERM)
+        out, err = run.communicate()
+        self.assertEqual(run.returncode, 128 + signal.SIGTERM)
+        self.assertIn(b'left', err)
+        self.expect(desk(*WORDS), 1)
+        self.assertEqual(self.get('counts.bin'), counts({1: (408, 1), 2: (1, 1), 40: (0, 1), FULL: (9999, 7)}))
+
+    def test_changed_meanwhile(self):
+        """A card that another hand changed after a run was killed is not written over."""
+        for at in range(1, 1000):
+            self.again()
+            failing(self.folder, at, 0, *WORDS)
+            if os.path.exists('counts.bin.pending'):
+                break
+        self.put('cards/abbey.card', bytes.fromhex('0C 00 00'))
+        self.expect(desk(*WORDS), 2, 'abbey.card: changed by another hand')
+        self.assertEqual(self.get('cards/abbey.card'), bytes.fromhex('0C 00 00'))
+
+    def test_one_at_a_time(self):
+        """A second run at the same records, or the same folders, is told so."""
+        from desk.counts import Counts
+        with Counts('counts.bin'):
+            self.expect(desk(*WORDS), 2, 'another run works with it now')
+        with Counts('other.bin', 'slips'):
+            self.expect(desk(*WORDS), 2, 'slips: another run works with it now')
+        self.assertNotIn('slips/done.jsonl', self.state())
+
+    def test_files(self):
+        """Files that are not in order are told with status 2; a file that is no slip is left alone."""
+        self.put('slips/notes.txt', 'words')
+        self.expect(desk(*WORDS), 1, 'notes.txt: not the name of a slip')
+        self.put('counts.bin', b'\0' * 159)
+        self.expect(desk(*WORDS), 2, 'counts.bin: not 40 records of 4 bytes')
+        os.unlink('counts.bin')
+        self.put('slips/done.jsonl', '{"slip"')
+        self.expect(desk(*WORDS), 2, 'done.jsonl: damaged')
+        shutil.rmtree('cards')
+        self.expect(desk(*WORDS), 2, 'cards: No such file or directory')
+
+    def test_fresh_records(self):
+        """Records that are not there are begun at 0 and 0, with a word on it."""
+        os.unlink('counts.bin')
+        self.expect(desk(*WORDS), 1, 'counts.bin: not there; begun with forty records')
+        self.assertEqual(self.get('counts.bin'), counts({1: (3, 0), 2: (1, 1), 12: (1, 0), 40: (0, 1)}))
+
+    def test_refused_rules(self):
+        """A rule file that is refused stops the day with its place, and nothing is counted."""
+        self.put('rules.txt', RULES.replace('THEN label', 'THEN lable'))
+        before = self.state()
+        self.expect(desk(*WORDS), 1, 'rules.txt:5:', 'did you mean label?')
+        self.assertEqual(self.state(), before)
+
+    def test_bar(self):
+        """On a terminal a bar is drawn, and in a pipe none."""
+        master, slave = pty.openpty()
+        run = subprocess.Popen([sys.executable, '-m', 'desk', *WORDS], env=dict(os.environ, PYTHONPATH=TOP), stdout=subprocess.DEVNULL, stderr=slave)
+        os.close(slave)
+        drawn = b''
+        while True:
+            try:
+                drawn += os.read(master, 4096)
+            except OSError:
+                break
+        os.close(master)
+        self.assertEqual(run.wait(), 1)
+        self.assertIn(b'[##############################] 10 of 10', drawn)
+        self.assertNotIn('[#', program(*WORDS, cwd=self.folder).err)
+
+
+if __name__ == '__main__':
+    unittest.main()
