@@ -116,7 +116,7 @@ def ordered(rows, steps):
         below.setdefault(high, []).append(low)
         above.setdefault(low, []).append(high)
     rows = [list(nodes) for nodes in rows]
-    best, fewest = rows, crossings(rows, steps)
+    best, fewest = [list(nodes) for nodes in rows], crossings(rows, steps)
     for sweep in range(12):
         ends, order = ((below, range(len(rows))), (above, range(len(rows) - 1, -1, -1)))[sweep % 2]
         for at in order:
@@ -235,7 +235,7 @@ def drawing():
         return height - SIDE - at * ROW - storeys * EDGE - (ROW - EDGE - TALL) / 2
 
     out = [f'<svg xmlns="http://www.w3.org/2000/svg" viewBox="0 0 {WIDTH} {height}" width="{WIDTH}" height="{height}" role="img" aria-labelledby="title desc">', '<title id="title">The house of the crates</title>']
-    out.append(f'<desc id="desc">{len(listed)} crates in {len(STOREYS)} storeys, from the ground up: ' + '; '.join(f'{storey}: ' + ', '.join(name for name in listed if listed[name][1] == storey) for storey in STOREYS) + '. A line leads from a crate down to one that it uses.</desc>')
+    out.append(f'<desc id="desc">{len(listed)} crates in {len(STOREYS)} storeys, from the ground up: ' + '; '.join(f'{storey}: ' + ', '.join(name for name in listed if listed[name][1] == storey) for storey in STOREYS) + '. A line leads from a crate down to one that it uses, unless another way leads there.</desc>')
     out += style()
     out.append(f'<rect class="page" width="{WIDTH}" height="{height}"/>')
     for at, storey in enumerate(STOREYS):
@@ -245,7 +245,7 @@ def drawing():
         out.append(f'<text class="storey {storey}" x="{SIDE + 14}" y="{low - tall + 28:g}">{storey}</text>')
     out.append(f'<path class="roof" d="M {SIDE / 2:g} {ROOF - 2} L {WIDTH / 2:g} 12 L {WIDTH - SIDE / 2:g} {ROOF - 2} Z"/>')
     out.append(f'<text class="told title" x="{WIDTH / 2:g}" y="{ROOF - 42}">The house of the crates</text>')
-    out.append(f'<text class="told" x="{WIDTH / 2:g}" y="{ROOF - 18}">a line leads down to what a crate uses</text>')
+    out.append(f'<text class="told" x="{WIDTH / 2:g}" y="{ROOF - 18}">a line leads down to what a crate uses, unless another way leads there</text>')
     for name in listed:
         path = []
         for low, high in steps:
