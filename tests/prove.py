@@ -2,6 +2,7 @@
 """What ./prove shows and how it ends, with a rt of its own on PATH that proves nothing and prints what rt prints."""
 import os
 import pty
+import re
 import signal
 import subprocess
 import sys
@@ -15,16 +16,15 @@ from house import crates, reached
 
 LISTED = crates()
 
-# The rt of these tests leaves in ASKED what it was asked and prints the lines of SCRIPT, but that `sleep` waits in the background, as a proof does, with the pipe WAITING open, and `exit` ends it.
+# The rt of these tests leaves in ASKED what it was asked, prints what stands in PRINTED, waits where WAITING is a pipe, in the background, as a proof does, and ends with the status STATUS.
 RT = '''#!/bin/sh
-echo "asked: $*" >"$ASKED"
-while IFS= read -r line; do
-    case $line in
-    sleep) sleep 60 >"$WAITING" & wait ;;
-    'exit '*) exit "${line#exit }" ;;
-    *) printf '%s\\n' "$line" ;;
-    esac
-done <"$SCRIPT"
+echo "$*" >"$ASKED"
+cat "$PRINTED"
+if [ -p "$WAITING" ]; then
+    sleep 60 >"$WAITING" &
+    wait
+fi
+exit "$STATUS"
 '''
 
 
@@ -44,6 +44,11 @@ def counted(names, total, took='3 s'):
     return ''.join(f'proved {at} of {total}: {name} ({took})\n' for at, name in enumerate(names, 1))
 
 
+def untimed(text):
+    """A text with 0 s wherever the time of this run stands."""
+    return re.sub(r'(?<=library \()\d+(?= s\))|(?<=\.\.\. )\d+|\d+(?= s in all)', '0', text)
+
+
 class Proving(unittest.TestCase):
     def setUp(self):
         folder = tempfile.TemporaryDirectory()
@@ -52,75 +57,72 @@ class Proving(unittest.TestCase):
         with open(os.path.join(self.folder, 'rt'), 'w', encoding='utf-8') as file:
             file.write(RT)
         os.chmod(file.name, 0o755)
-        self.env = dict(os.environ, PATH=f'{self.folder}:{os.environ["PATH"]}', **{word: os.path.join(self.folder, word) for word in ('SCRIPT', 'ASKED', 'WAITING')})
+        self.env = dict(os.environ, PATH=f'{self.folder}:{os.environ["PATH"]}', **{word: os.path.join(self.folder, word) for word in ('ASKED', 'PRINTED', 'WAITING')})
 
-    def start(self, script, *words, **more):
-        """Starts ./prove over a rt that prints a script."""
-        with open(self.env['SCRIPT'], 'w', encoding='utf-8') as file:
-            file.write(script)
-        return subprocess.Popen([os.path.join(TOP, 'prove'), *words], env=self.env, **more)
+    def start(self, words, printed, status, **more):
+        """Starts ./prove over a rt that prints something and ends with a status."""
+        with open(self.env['PRINTED'], 'w', encoding='utf-8') as file:
+            file.write(printed)
+        return subprocess.Popen([os.path.join(TOP, 'prove'), *words], env=dict(self.env, STATUS=str(status)), **more)
 
-    def run_in_pipe(self, script, *words):
+    def run_in_pipe(self, words, printed, status=0):
         """The lines that it prints into a pipe, its exit status, and what rt was asked."""
-        started = self.start(script, *words, stdout=subprocess.PIPE, stderr=subprocess.STDOUT)
-        printed = started.communicate(timeout=20)[0].decode()
+        started = self.start(words, printed, status, stdout=subprocess.PIPE, stderr=subprocess.STDOUT)
+        shown = started.communicate(timeout=20)[0].decode()
         with open(self.env['ASKED'], encoding='utf-8') as file:
-            return printed, started.returncode, file.read().strip()
+            return shown, started.returncode, file.read()
 
     def test_program(self):
         names = needed('rl')
         self.assertNotIn('library', names)
         self.assertNotIn('io', names)
         ends = "rt: rl ran as nobody, and wrote what its file 'stdout' has (0 s)\nrt: ok, %d crates proved\n" % len(names)
-        printed, status, asked = self.run_in_pipe(proved(names) + ends, 'rl')
-        self.assertEqual((printed, status, asked), (counted(names, len(names)) + ends, 0, 'asked: check rl'))
+        self.assertEqual(self.run_in_pipe(['rl'], proved(names) + ends), (counted(names, len(names)) + ends, 0, 'check rl\n'))
 
     def test_all(self):
-        printed, status, asked = self.run_in_pipe(proved(LISTED) + f'rt: ok, {len(LISTED)} crates proved\n')
-        self.assertEqual((printed, status, asked), (counted(LISTED, len(LISTED)) + f'rt: ok, {len(LISTED)} crates proved\n', 0, 'asked: check'))
+        ends = f'rt: ok, {len(LISTED)} crates proved\n'
+        self.assertEqual(self.run_in_pipe([], proved(LISTED) + ends), (counted(LISTED, len(LISTED)) + ends, 0, 'check\n'))
 
     def test_several(self):
         names = needed('cursor', 'tally')
         self.assertEqual(names, ['laws', 'tally', 'classes', 'text', 'cursor'])
-        self.assertEqual(self.run_in_pipe(proved(names), 'cursor', 'tally'), (counted(names, 5), 0, 'asked: check cursor tally'))
+        self.assertEqual(self.run_in_pipe(['cursor', 'tally'], proved(names)), (counted(names, 5), 0, 'check cursor tally\n'))
 
     def test_unchanged(self):
         names, took = needed('cursor'), 'unchanged since it was last proved'
-        script = ''.join(f'rt: {name} proved ({took})\n' for name in names)
-        self.assertEqual(self.run_in_pipe(script, 'cursor')[:2], (counted(names, 4, took), 0))
+        printed = ''.join(f'rt: {name} proved ({took})\n' for name in names)
+        self.assertEqual(self.run_in_pipe(['cursor'], printed)[:2], (counted(names, 4, took), 0))
 
     def test_static_library(self):
         names = needed('library')
         there = 'rt: target/staticlib/liblibrary.a has the functions of library that are marked #[no_mangle] pub extern "C"\n'
-        printed, status, asked = self.run_in_pipe(proved(names[:-1]) + 'fn library::one: proved\n' + there, '--staticlib', 'library')
-        self.assertEqual(printed, counted(names[:-1], len(names)) + f'proved {len(names)} of {len(names)}: library (0 s)\n' + there)
-        self.assertEqual((status, asked), (0, 'asked: staticlib library'))
+        shown, status, asked = self.run_in_pipe(['--staticlib', 'library'], proved(names[:-1]) + 'fn library::one: proved\n' + there)
+        self.assertEqual(untimed(shown), counted(names[:-1], len(names)) + f'proved {len(names)} of {len(names)}: library (0 s)\n' + there)
+        self.assertEqual((status, asked), (0, 'staticlib library\n'))
 
     def test_refused(self):
         wrong = 'src/lib.rt:3:1: error: ⌜ r ≡ 8 ⌝ is not proved\nrt: text NOT PROVED (exit 1, 4 s)\n'
         rest = 'rt: cursor NOT PROVED: its dependency text is not proved\nrt: FAILED: text cursor\n'
-        printed, status, _ = self.run_in_pipe(proved(['laws', 'classes']) + wrong + rest + 'exit 1\n', 'cursor')
-        self.assertEqual((printed, status), (counted(['laws', 'classes'], 4) + wrong + rest, 1))
+        self.assertEqual(self.run_in_pipe(['cursor'], proved(['laws', 'classes']) + wrong + rest, 1)[:2], (counted(['laws', 'classes'], 4) + wrong + rest, 1))
 
     def test_static_library_refused(self):
         names = needed('library')[:-1]
         wrong = 'src/lib.rt:3:1: error: not proved\nlogic=not-proved\n'
-        printed, status, _ = self.run_in_pipe(proved(names) + wrong + 'exit 3\n', '--staticlib', 'library')
-        self.assertEqual((printed, status), (counted(names, 1 + len(names)) + wrong, 3))
+        self.assertEqual(self.run_in_pipe(['--staticlib', 'library'], proved(names) + wrong, 3)[:2], (counted(names, 1 + len(names)) + wrong, 3))
 
     def test_not_listed(self):
         said = 'rt: crates.txt: curser is not listed\n'
-        self.assertEqual(self.run_in_pipe(said + 'exit 2\n', 'curser')[:2], (said, 2))
+        self.assertEqual(self.run_in_pipe(['curser'], said, 2)[:2], (said, 2))
 
     def test_run_failed(self):
         names = needed('rl')
         ends = "target/log/rl.stdout its file 'stdout' differ: byte 1, line 1\nrt: rl: what the program wrote is not what its file 'stdout' has\nrt: rl proved, and its run FAILED (0 s)\nrt: FAILED: rl\n"
-        self.assertEqual(self.run_in_pipe(proved(names) + ends + 'exit 1\n', 'rl')[:2], (counted(names, len(names)) + ends, 1))
+        self.assertEqual(self.run_in_pipe(['rl'], proved(names) + ends, 1)[:2], (counted(names, len(names)) + ends, 1))
 
-    def on_terminal(self, script, *words):
+    def on_terminal(self, words, printed, status=0):
         """What it writes to a terminal, and its exit status."""
         ours, theirs = pty.openpty()
-        started = self.start(script, *words, stdout=theirs, stderr=theirs)
+        started = self.start(words, printed, status, stdout=theirs, stderr=theirs)
         os.close(theirs)
         written = b''
         while True:
@@ -129,11 +131,11 @@ class Proving(unittest.TestCase):
             except OSError:
                 break
         os.close(ours)
-        return written.decode(), started.wait(timeout=20)
+        return untimed(written.decode()), started.wait(timeout=20)
 
     def test_terminal(self):
         names = needed('cursor')
-        written, status = self.on_terminal(proved(names) + 'rt: ok, 4 crates proved\n', 'cursor')
+        written, status = self.on_terminal(['cursor'], proved(names) + 'rt: ok, 4 crates proved\n')
         lines = [line.split('\r\033[K')[-1] for line in written.split('\r\n')]
         self.assertEqual((lines, status), (['rt: ok, 4 crates proved', 'proved 4 of 4: cursor (3 s), 0 s in all', ''], 0))
         shown = written.split('\r\033[K')
@@ -142,7 +144,7 @@ class Proving(unittest.TestCase):
 
     def test_terminal_refused(self):
         wrong = 'error: not proved\nrt: text NOT PROVED (exit 1, 4 s)\n'
-        written, status = self.on_terminal(proved(['laws', 'classes']) + wrong + 'rt: FAILED: text\nexit 1\n', 'cursor')
+        written, status = self.on_terminal(['cursor'], proved(['laws', 'classes']) + wrong + 'rt: FAILED: text\n', 1)
         lines = [line.split('\r\033[K')[-1] for line in written.split('\r\n')]
         self.assertEqual(lines, [*wrong.splitlines(), 'rt: FAILED: text', 'proved 2 of 4: classes (3 s), 0 s in all', ''])
         self.assertEqual(status, 1)
@@ -151,7 +153,7 @@ class Proving(unittest.TestCase):
         os.mkfifo(self.env['WAITING'])
         for number in (signal.SIGINT, signal.SIGTERM):
             with self.subTest(signal=number):
-                started = self.start(proved(['laws']) + 'sleep\n', 'cursor', stdout=subprocess.PIPE)
+                started = self.start(['cursor'], proved(['laws']), 0, stdout=subprocess.PIPE)
                 self.assertEqual(started.stdout.readline(), b'proved 1 of 4: laws (3 s)\n')
                 with open(self.env['WAITING'], 'rb') as waiting:
                     started.send_signal(number)
