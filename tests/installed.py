@@ -63,11 +63,11 @@ def flags(kind):
     return value.split()
 
 
-def compiled(compiler, name, source, shared=False, warnings=WARNINGS):
-    """A program built with the flags of rl.pc, the library in it or beside it."""
+def compiled(compiler, name, source, warnings=WARNINGS):
+    """A program built with the flags of rl.pc and the library in it; its object stays beside it."""
     out = os.path.join(ROOM.name, name)
-    libraries = flags('libs') if shared else ['-Wl,-Bstatic', *flags('libs'), '-Wl,-Bdynamic']
-    run(*compiler, *warnings, *flags('cflags'), os.path.join(TOP, source), '-x', 'none', '-o', out, *libraries, '-lpthread')
+    run(*compiler, *warnings, *flags('cflags'), '-c', os.path.join(TOP, source), '-o', out + '.o')
+    run(compiler[0], '-Wl,-z,now', out + '.o', '-o', out, '-Wl,-Bstatic', *flags('libs'), '-Wl,-Bdynamic', '-lpthread')
     return out
 
 
@@ -215,10 +215,10 @@ class Programs(unittest.TestCase):
             ('c', ['cc', '-std=c11'], 'examples/c/desk.c'),
             ('cpp', ['c++', '-std=c++17'], 'examples/cpp/desk.cpp'),
         ):
-            alone = compiled(compiler, f'{name}-static', source)
+            alone, beside = compiled(compiler, f'{name}-static', source), os.path.join(ROOM.name, f'{name}-shared')
             self.assertNotIn('librl', str(needed(alone)))
             self.expect_desk(alone)
-            beside = compiled(compiler, f'{name}-shared', source, shared=True)
+            run(compiler[0], alone + '.o', '-o', beside, *flags('libs'))
             self.assertIn(f'librl.so.{version().split(".")[0]}', needed(beside))
             self.expect_desk(beside, LD_LIBRARY_PATH=os.path.join(PREFIX, 'lib'))
 
@@ -243,7 +243,7 @@ class Programs(unittest.TestCase):
 
     def test_stack(self):
         """The stack that bench/stack.c measures here is what rl.h says of each function: never more, and not 512 bytes less, by which compilers of callers may differ."""
-        lines = run(compiled(['cc', '-O2', '-Wl,-z,now'], 'stack', 'bench/stack.c', warnings=[])).splitlines()
+        lines = run(compiled(['cc'], 'stack', 'bench/stack.c', warnings=['-O2'])).splitlines()
         most = {}
         for name, *figures in re.findall(r'^\| (rl_\w+).*?\| +(\d+) \| +(\d+) \|$', '\n'.join(lines), re.M):
             most[name] = max(most.get(name, 0), *map(int, figures))
@@ -340,12 +340,13 @@ class Desk(unittest.TestCase):
         self.expect_check(sys.executable, '-m', 'desk', PYTHONPATH=folder)
 
     def test_pip(self):
-        """pip installs the command into an environment of its own without a network, from the repository."""
+        """pip installs the command into an environment of its own, from the repository and without a network."""
         place = os.path.join(ROOM.name, 'venv')
-        made = subprocess.run([sys.executable, '-m', 'venv', place], stdout=subprocess.PIPE, stderr=subprocess.STDOUT, text=True)
-        if made.returncode != 0:
-            self.skipTest('python3 -m venv has no pip here: ' + made.stdout.strip().splitlines()[0])
-        run(os.path.join(place, 'bin/python'), '-m', 'pip', 'install', '--quiet', '--no-index', '--disable-pip-version-check', TOP)
+        pip = [sys.executable, '-m', 'pip', '--python', os.path.join(place, 'bin/python'), '--disable-pip-version-check']
+        run(sys.executable, '-m', 'venv', '--without-pip', place)
+        if subprocess.run([*pip, '--version'], stdout=subprocess.DEVNULL, stderr=subprocess.DEVNULL).returncode != 0:
+            self.skipTest('python3 has no pip here, or one before 22.3; of the wheel only the files were tried')
+        run(*pip, 'install', '--quiet', '--no-index', TOP)
         self.expect_check(os.path.join(place, 'bin/desk'))
 
 
