@@ -9,6 +9,10 @@ TOP = os.path.dirname(os.path.dirname(os.path.abspath(__file__)))
 TAG = 'py3-none-linux_x86_64'
 
 
+class UnsupportedOperation(Exception):
+    """What pip knows as a thing that a backend does not make."""
+
+
 def read(path):
     """The bytes of a file of the repository."""
     with open(os.path.join(TOP, path), 'rb') as file:
@@ -75,4 +79,4 @@ def build_editable(wheel_directory, config_settings=None, metadata_directory=Non
 
 def build_sdist(sdist_directory, config_settings=None):
     """There is no archive of sources: the library is proved in the repository."""
-    raise SystemExit('desk_wheel: a wheel is made from the repository, and no archive of sources')
+    raise UnsupportedOperation('a wheel is made from the repository, and no archive of sources')

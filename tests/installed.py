@@ -15,9 +15,12 @@ import tempfile
 import unittest
 import zipfile
 
+TOP = os.path.dirname(os.path.dirname(os.path.abspath(__file__)))
+sys.path.append(os.path.join(TOP, 'packaging'))
+
+import desk_wheel
 from entry_points import ENTRY_POINTS
 
-TOP = os.path.dirname(os.path.dirname(os.path.abspath(__file__)))
 DIALECT = os.path.join(TOP, 'examples/dialect')
 WARNINGS = ['-O2', '-Wall', '-Wextra', '-Wpedantic', '-Werror']
 
@@ -184,10 +187,11 @@ class Files(unittest.TestCase):
         """--uninstall leaves nothing of ours and all that is not ours."""
         dest = os.path.join(ROOM.name, 'bare')
         os.mkdir(dest)
-        for words in ['PREFIX=/usr'], ['PREFIX=/a place/of its own']:
-            install(f'DESTDIR={dest}', *words)
-            install(f'DESTDIR={dest}', *words)
-            install(f'DESTDIR={dest}', *words, '--uninstall')
+        for prefix in '/usr', '/a place/of its own':
+            install(f'DESTDIR={dest}', f'PREFIX={prefix}')
+            install(f'DESTDIR={dest}', f'PREFIX={prefix}')
+            run(dest + prefix + '/bin/desk', 'check', os.path.join(DIALECT, 'rules.txt'))
+            install(f'DESTDIR={dest}', f'PREFIX={prefix}', '--uninstall')
             self.assertEqual(os.listdir(dest), [])
         os.makedirs(os.path.join(dest, 'usr/lib'))
         other = os.path.join(dest, 'usr/share/other')
@@ -307,8 +311,6 @@ class Desk(unittest.TestCase):
 
     def wheel(self):
         """The wheel as pip's backend makes it."""
-        sys.path.insert(0, os.path.join(TOP, 'packaging'))
-        import desk_wheel
         name = desk_wheel.build_wheel(ROOM.name)
         self.assertEqual(name, f'rl_desk-{version()}-py3-none-linux_x86_64.whl')
         return os.path.join(ROOM.name, name)
