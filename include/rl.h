@@ -17,6 +17,16 @@ extern "C" {
 #define RL_VERSION_PATCH 0
 #define RL_VERSION "1.0.0"
 
+/* Memory and threads: a function allocates nothing, keeps nothing from one call to the next and shares nothing, so that any number of threads may call it at once. A rule table goes by value; texts, cards and slips are only read, and threads may share them so long as none writes them. The outputs and the table of records are lent for the call alone: while it runs, no other thread may read or write any record of that table, not even another editor's. So take one lock for each table, or a table for each thread: what is promised of a call is promised for a table that nobody else touches meanwhile. */
+
+/* Stack: over each function stands how many bytes of it a call takes on x86-64, the table that goes by value counted, whether it is handed over or given back; it is the same for small files and large ones. bench/stack.c measures it, with gcc -O2. A function with `_at` takes up to 240 bytes more by gcc, and up to 96,512 by clang, which copies the table once more. */
+
+/* The order of bits in cards, slips and fired records: each field with its most significant bit first, one after the other from the most significant bit of the first byte on, and zero in what is left of the last byte. A fired record has a bit for each rule, rule 1 first: rule n fired where `fired[(n - 1) / 8] >> (7 - (n - 1) % 8) & 1` is 1, which `rl_has_fired` says. */
+
+/* Buffers: a buffer is a pointer and its length. As many bytes can be read there, or read and written in an output, and an output overlaps no other buffer. The table of records is a pointer and the number of records; what is said of an output holds for it too, record for byte, and it lies where an array of RlTally may lie, at an even address (bytes of a file that are cast to records may not). A bool is 0 or 1. Nothing else is asked of any argument. */
+
+/* Null: the twelve functions ask for pointers that are not null, also where the length is 0. The functions with `_at` further down take null with length 0 for an empty buffer, which gives: of a text, a table without slots and rules; of a card 20 and of a slip 24; of an output 30, or 33 of a print's, where room in it is asked for; of a table of records 44. Null with another length, and a null table or reading, is the caller's fault. */
+
 /* The limits of a rule file. */
 #define RL_SLOTS 32
 #define RL_VALUES 15
@@ -226,16 +236,6 @@ typedef struct {
     size_t length;
     size_t fired;
 } RlResponse;
-
-/* Memory and threads: a function allocates nothing, keeps nothing from one call to the next and shares nothing, so that any number of threads may call it at once. A rule table goes by value; texts, cards and slips are only read, and threads may share them so long as none writes them. The outputs and the table of records are lent for the call alone: while it runs, no other thread may read or write any record of that table, not even another editor's. So take one lock for each table, or a table for each thread: what is promised of a call is promised for a table that nobody else touches meanwhile. */
-
-/* Stack: over each function stands how many bytes of it a call takes on x86-64, the table that goes by value counted, whether it is handed over or given back; it is the same for small files and large ones. bench/stack.c measures it, with gcc -O2. A function with `_at` takes up to 240 bytes more by gcc, and up to 96,512 by clang, which copies the table once more. */
-
-/* The order of bits in cards, slips and fired records: each field with its most significant bit first, one after the other from the most significant bit of the first byte on, and zero in what is left of the last byte. A fired record has a bit for each rule, rule 1 first: rule n fired where `fired[(n - 1) / 8] >> (7 - (n - 1) % 8) & 1` is 1, which `rl_has_fired` says. */
-
-/* Buffers: a buffer is a pointer and its length. As many bytes can be read there, or read and written in an output, and an output overlaps no other buffer. The table of records is a pointer and the number of records; what is said of an output holds for it too, record for byte, and it lies where an array of RlTally may lie, at an even address (bytes of a file that are cast to records may not). A bool is 0 or 1. Nothing else is asked of any argument. */
-
-/* Null: the twelve functions ask for pointers that are not null, also where the length is 0. The functions with `_at` further down take null with length 0 for an empty buffer, which gives: of a text, a table without slots and rules; of a card 20 and of a slip 24; of an output 30, or 33 of a print's, where room in it is asked for; of a table of records 44. Null with another length, and a null table or reading, is the caller's fault. */
 
 /* Reads a rule text into a table with the least strata, or refuses it with 10 to 18; 18 is for rules in a circle of tests by `*=` that passes through a NOT, with the lowest rule on such a circle. Stack: 555,288 bytes. */
 RlRead rl_read(const uint8_t *text, size_t text_length);
