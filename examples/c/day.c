@@ -36,7 +36,7 @@ int main(int count, char **words) {
     size_t text_length = load(folder, "rules.txt", text);
     size_t card_length = load(folder, "card.bin", card);
     static RlRead rules;
-    rules = rl_read(text, text_length);
+    rl_read_at(&rules, text, text_length);
     stop_at(rules.number, rules.second);
 
     RlTally records[RL_EDITORS] = {0};
@@ -47,8 +47,8 @@ int main(int count, char **words) {
         const Call *call = &calls[i];
         uint8_t new_card[RL_CARD_BYTES], changes[RL_SLIP_BYTES], fired[RL_FIRED_BYTES];
         RlResponse response =
-            rl_respond(rules.table, records, RL_EDITORS, call->editor, card, card_length, call->slip, call->length,
-                       new_card, sizeof new_card, changes, sizeof changes, fired, sizeof fired);
+            rl_respond_at(&rules.table, records, RL_EDITORS, call->editor, card, card_length, call->slip, call->length,
+                          new_card, sizeof new_card, changes, sizeof changes, fired, sizeof fired);
         if (response.number == 0) {
             printf("editor %zu rules fired %zu\n", call->editor, response.fired);
             memcpy(card, new_card, card_length);

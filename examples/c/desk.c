@@ -7,14 +7,14 @@
 /* Prints a slot's name and a value's name, each a part of the rule text; value 0 has no name there and is printed as a word: a card's 0 is no value, a change's NONE. */
 static void print_pair(const char *what, const char *none, const uint8_t *text, size_t length, const RlTable *table,
                        size_t slot, size_t value) {
-    RlName s = rl_slot_name(text, length, *table, slot);
+    RlName s = rl_slot_name_at(text, length, table, slot);
     stop_at(s.number, 0);
     printf("%s %.*s", what, (int)s.size, (const char *)text + s.start);
     if (value == 0) {
         printf(" %s\n", none);
         return;
     }
-    RlName v = rl_value_name(text, length, *table, slot, value);
+    RlName v = rl_value_name_at(text, length, table, slot, value);
     stop_at(v.number, 0);
     printf(" %.*s\n", (int)v.size, (const char *)text + v.start);
 }
@@ -30,7 +30,7 @@ int main(int count, char **words) {
     size_t editor = load(folder, "editor.bin", number) == 1 ? number[0] : 0;
 
     static RlRead rules;
-    rules = by_marks ? rl_read_unlayered(text, text_length) : rl_read(text, text_length);
+    (by_marks ? rl_read_unlayered_at : rl_read_at)(&rules, text, text_length);
     stop_at(rules.number, rules.second);
     const RlTable *table = &rules.table;
 
@@ -39,7 +39,7 @@ int main(int count, char **words) {
     slots = *table;
     slots.count = 0;
 
-    RlCard before = rl_unpack_card(slots, card, card_length);
+    RlCard before = rl_unpack_card_at(&slots, card, card_length);
     stop_at(before.number, before.second);
     for (size_t i = 0; i < before.card.count; i++) {
         print_pair("has", "-", text, text_length, table, i, before.card.values[i]);
@@ -47,20 +47,20 @@ int main(int count, char **words) {
 
     RlTally records[RL_EDITORS] = {0};
     uint8_t new_card[RL_CARD_BYTES], changes[RL_SLIP_BYTES], fired[RL_FIRED_BYTES];
-    RlResponse response = (by_marks ? rl_respond_by_marks : rl_respond)(
-        *table, records, RL_EDITORS, editor, card, card_length, slip, slip_length, new_card, sizeof new_card, changes,
+    RlResponse response = (by_marks ? rl_respond_by_marks_at : rl_respond_at)(
+        table, records, RL_EDITORS, editor, card, card_length, slip, slip_length, new_card, sizeof new_card, changes,
         sizeof changes, fired, sizeof fired);
     stop_at(response.number, response.second);
 
-    RlSlip changed = rl_unpack_slip(slots, changes, response.length);
+    RlSlip changed = rl_unpack_slip_at(&slots, changes, response.length);
     stop_at(changed.number, changed.second);
     for (size_t i = 0; i < changed.slip.count; i++) {
         RlChange change = changed.slip.changes[i];
         print_pair("change", "NONE", text, text_length, table, change.slot, change.value);
     }
-    for (size_t i = 0; i < table->count; i++) {
-        if (fired[i / 8] >> (7 - i % 8) & 1) {
-            printf("fired %zu\n", i + 1);
+    for (size_t rule = 1; rule <= table->count; rule++) {
+        if (rl_has_fired(fired, rule)) {
+            printf("fired %zu\n", rule);
         }
     }
     printf("rules fired %zu\n", response.fired);

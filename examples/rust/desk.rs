@@ -43,8 +43,8 @@ fn run(by_marks: bool, text: &[u8], card: &[u8], slip: &[u8], editor: usize) -> 
     for change in &changed.changes[..changed.count] {
         print_pair("change", "NONE", text, &table, change.slot.into(), change.value.into())?;
     }
-    for rule in (0..table.count as usize).filter(|rule| fired[rule / 8] >> (7 - rule % 8) & 1 == 1) {
-        println!("fired {}", rule + 1);
+    for rule in (1..=table.count as usize).filter(|rule| rl::has_fired(&fired, *rule)) {
+        println!("fired {rule}");
     }
     println!("rules fired {}", answer.fired);
     let own = records[editor - 1];

@@ -1,4 +1,6 @@
-//! The interface of the static library as C has it, and its functions over slices; include/rl.h says of each struct and function what it is.
+//! The interface of the library as C has it, and its functions over slices; rl.h says of each struct and function what it is.
+
+use std::fmt;
 
 /// The limits of a rule file.
 pub const SLOTS: usize = 32;
@@ -59,7 +61,7 @@ pub struct Assignment {
     pub value: u8,
 }
 
-/// A rule: its trigger `slot *= value`, in which value 0 is NONE too, its literals and assignments with the numbers used, its stratum (`include/rl.h` says which).
+/// A rule: its trigger `slot *= value`, in which value 0 is NONE too, its literals and assignments with the numbers used, its stratum (rl.h says which).
 #[repr(C)]
 #[derive(Clone, Copy, PartialEq, Eq, Debug, Default)]
 pub struct Rule {
@@ -82,10 +84,17 @@ pub struct Table {
     pub count: u16,
 }
 
-impl Table {
+impl Default for Table {
     /// The table without slots or rules.
+    fn default() -> Table {
+        Table { slots: [Slot::default(); SLOTS], width: 0, rules: [Rule::default(); RULES], count: 0 }
+    }
+}
+
+impl Table {
+    /// The table without slots or rules, off the stack.
     pub fn empty() -> Box<Table> {
-        Box::new(Table { slots: [Slot::default(); SLOTS], width: 0, rules: [Rule::default(); RULES], count: 0 })
+        Box::default()
     }
 }
 
@@ -95,7 +104,7 @@ const _: () = assert!(std::mem::size_of::<Table>() == 96_228 && std::mem::size_o
 
 /// An unpacked card: a value for each slot, 0 for no value, and how many slots it counts.
 #[repr(C)]
-#[derive(Clone, Copy)]
+#[derive(Clone, Copy, PartialEq, Eq, Debug, Default)]
 pub struct Card {
     pub values: [u8; SLOTS],
     pub count: usize,
@@ -103,7 +112,7 @@ pub struct Card {
 
 /// A change of a slot to a value; value 0 is NONE, a withdrawal.
 #[repr(C)]
-#[derive(Clone, Copy)]
+#[derive(Clone, Copy, PartialEq, Eq, Debug, Default)]
 pub struct Change {
     pub slot: u8,
     pub value: u8,
@@ -111,7 +120,7 @@ pub struct Change {
 
 /// An unpacked slip: its changes, and how many it counts.
 #[repr(C)]
-#[derive(Clone, Copy)]
+#[derive(Clone, Copy, PartialEq, Eq, Debug, Default)]
 pub struct Slip {
     pub changes: [Change; SLOTS],
     pub count: usize,
@@ -132,6 +141,51 @@ pub struct Refusal {
     pub second: usize,
 }
 
+impl Refusal {
+    /// What the number says, in plain words.
+    pub fn words(&self) -> &'static str {
+        match self.number {
+            10 => "the text has more than 262,144 bytes",
+            11 => "a byte that can begin no token, or `*`, `|` or `:` without `=`",
+            12 => "a token out of place, or the text ends inside a statement",
+            13 => "a name over 24 bytes",
+            14 => "a slot declared twice, or a value twice in one slot",
+            15 => "one slot, value, rule, literal or assignment too many",
+            16 => "a slot, or a value of this slot, that is not declared",
+            17 => "a slot assigned twice in one rule",
+            18 => "no strata exist: the rule is on a circle of dependence that passes through a NOT",
+            20 => "the card is empty, or not of its own count's length",
+            21 => "the card's count is not the number of slots in the rule file",
+            22 => "the card has a value above the slot's last",
+            23 => "a padding bit of the card is not zero",
+            24 => "the slip is empty, or not of its own count's length",
+            25 => "a change's slot is not below the slot count",
+            26 => "a change's slot is not above that of the change before it",
+            27 => "a change's value is above the slot's last",
+            28 => "a padding bit of the slip is not zero",
+            30 => "an output is too short",
+            31 => "the table is not in order, or lacks the name asked for",
+            32 => "a count in the editor's own record is 9,999 or above",
+            33 => "the output is shorter than the print",
+            34 => "the print would have more than 262,144 bytes",
+            40 => "a slot has two or more values among the changes",
+            41 => "a value of a slot would be both positive and negative",
+            42 => "a value of a slot stays unknown",
+            44 => "the editor number is not from 1 to 40, or there are not forty records",
+            _ => "no refusal of the library has this number",
+        }
+    }
+}
+
+impl fmt::Display for Refusal {
+    /// The two numbers as the program prints them, and what the first says.
+    fn fmt(&self, to: &mut fmt::Formatter<'_>) -> fmt::Result {
+        write!(to, "refused {} {}: {}", self.number, self.second, self.words())
+    }
+}
+
+impl std::error::Error for Refusal {}
+
 /// What the two numbers of a result say: what is given where the first is 0, else the refusal.
 pub fn given<A>(number: u8, second: usize, given: A) -> Result<A, Refusal> {
     if number == 0 {
@@ -143,6 +197,7 @@ pub fn given<A>(number: u8, second: usize, given: A) -> Result<A, Refusal> {
 
 /// The result of a reading.
 #[repr(C)]
+#[derive(Debug)]
 pub struct RlRead {
     pub number: u8,
     pub second: usize,
@@ -151,6 +206,7 @@ pub struct RlRead {
 
 /// The result of printing.
 #[repr(C)]
+#[derive(Debug)]
 pub struct RlPrinted {
     pub number: u8,
     pub second: usize,
@@ -159,6 +215,7 @@ pub struct RlPrinted {
 
 /// Where a name stands, or 31.
 #[repr(C)]
+#[derive(Debug)]
 pub struct RlName {
     pub number: u8,
     pub start: usize,
@@ -167,6 +224,7 @@ pub struct RlName {
 
 /// The result of unpacking a card.
 #[repr(C)]
+#[derive(Debug)]
 pub struct RlCard {
     pub number: u8,
     pub second: usize,
@@ -175,6 +233,7 @@ pub struct RlCard {
 
 /// The result of unpacking a slip.
 #[repr(C)]
+#[derive(Debug)]
 pub struct RlSlip {
     pub number: u8,
     pub second: usize,
@@ -183,6 +242,7 @@ pub struct RlSlip {
 
 /// The result of packing.
 #[repr(C)]
+#[derive(Debug)]
 pub struct RlPacked {
     pub number: u8,
     pub second: usize,
@@ -191,6 +251,7 @@ pub struct RlPacked {
 
 /// The result of a response.
 #[repr(C)]
+#[derive(Debug)]
 pub struct RlResponse {
     pub number: u8,
     pub second: usize,

@@ -1,19 +1,20 @@
-//! The functions of the static library for programs in Rust; include/rl.h says of each what it does. A table of records is lent for a call by `&mut`, so no other thread can touch it meanwhile. A program copies this file and raw.rs.
+//! The functions of the library for programs in Rust; rl.h says of each what it does. A table of records is lent for a call by `&mut`, so no other thread can touch it meanwhile. It is the crate `rl` where the library is installed; a program may also copy this file and raw.rs.
 #![allow(dead_code, unused_imports)]
 
 #[path = "raw.rs"]
 mod raw;
 
 pub use raw::{is_sound, Assignment, Card, Change, Literal, Name, Refusal, Rule, Slip, Slot, Table, Tally};
-pub use raw::{CARD_BYTES, EDITORS, FIRED_BYTES, PRINT_BYTES, SLIP_BYTES};
+pub use raw::{ASSIGNMENTS, CARD_BYTES, EDITORS, FIRED_BYTES, LITERALS, PRINT_BYTES, RULES, SLIP_BYTES, SLOTS, VALUES};
 
 use raw::{given, RlName, RlRead, RlResponse};
 
 // Links the library whose functions raw.rs declares.
-#[link(name = "library", kind = "static")]
+#[link(name = "rl", kind = "static")]
 extern "C" {}
 
 /// What a response answers: the length of the changes, and how many rules fired.
+#[derive(Clone, Copy, PartialEq, Eq, Debug)]
 pub struct Answer {
     pub length: usize,
     pub fired: usize,
@@ -111,4 +112,9 @@ pub fn respond_by_marks(
     fired: &mut [u8],
 ) -> Result<Answer, Refusal> {
     told(raw::respond_by_marks(table, records, editor, card, slip, new_card, changes, fired))
+}
+
+/// Whether a rule, counted from 1, has its bit in a fired record.
+pub fn has_fired(fired: &[u8], rule: usize) -> bool {
+    fired[(rule - 1) / 8] >> (7 - (rule - 1) % 8) & 1 == 1
 }
