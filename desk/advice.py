@@ -8,8 +8,7 @@ from .tokens import MARKS, RESERVED
 # What the bytes at a character without a place look like, and what to say of it.
 CHARACTERS = [
     (rb'\xef\xbb\xbf', 'this is a byte-order mark: save the file as plain text, UTF-8 without BOM or ASCII'),
-    (rb'\xff\xfe|\xfe\xff', 'the file is in UTF-16: save it as plain text, UTF-8 without BOM or ASCII'),
-    (rb'\x00', 'the file has zero bytes, as in UTF-16: save it as plain text, UTF-8 without BOM or ASCII'),
+    (rb'\x00', 'the file has zero bytes and is no plain text'),
     (rb'#|//|/\*|--|%|<!--|!', 'rule files have no comments: keep such words in another file'),
     (rb'\xe2\x80[\x98-\x9f]|[\x91-\x94]', 'this is a curly quote: names stand without quotes, as letters, digits and hyphens'),
     (rb'["\'`]', 'names stand without quotes, as letters, digits and hyphens'),
@@ -26,6 +25,8 @@ CHARACTERS = [
     (rb'[\x80-\xff]', 'names have plain letters a to z and A to Z, digits and hyphens'),
 ]
 
+UTF_16 = 'the file is in UTF-16: save it as plain text, UTF-8 without BOM or ASCII'
+
 # Words that other languages have and RL has not.
 ABSENT = {
     'OR': 'there is no OR: write a rule for each case',
@@ -38,8 +39,6 @@ ABSENT = {
 def of_character(place):
     """What is said of a character that has no place in rule text."""
     rest = place.text[place.token.start:place.token.start + 8]
-    if place.text.count(0, 0, 64) > 8:
-        return CHARACTERS[1][1]
     return next((said for pattern, said in CHARACTERS if re.match(pattern, rest)), 'take it out')
 
 
@@ -123,8 +122,15 @@ def of_surplus(place):
     return 'a rule assigns 4 slots at most: split the rule'
 
 
+def is_utf_16(text):
+    """Whether a text looks like UTF-16: it has the mark of it, or a zero byte in every other place at its beginning."""
+    return text[:2] in (b'\xff\xfe', b'\xfe\xff') or (len(text) > 3 and not any(text[:64][1::2])) or (len(text) > 3 and not any(text[:64][::2]))
+
+
 def advise(place, may_stand):
     """What to do about a refusal at a place, as one line or ''."""
+    if is_utf_16(place.text):
+        return UTF_16
     if place.number == 11:
         return of_character(place)
     if place.number == 12:

@@ -272,10 +272,21 @@ def parser():
     return whole
 
 
+def parsed(words):
+    """The arguments; words slot=value may stand before and behind options."""
+    whole = parser()
+    arguments, left = whole.parse_known_args(words)
+    if left and not (hasattr(arguments, 'words') and all('=' in word and not word.startswith('-') for word in left)):
+        whole.error(f"unrecognized arguments: {' '.join(left)}")
+    if left:
+        arguments.words += left
+    return arguments
+
+
 def main(words=None):
     """Runs the command; its exit status."""
     try:
-        arguments = parser().parse_args(words)
+        arguments = parsed(words)
     except SystemExit as ended:
         return ended.code
     try:

@@ -47,7 +47,7 @@ def desk(*words):
 def program(*words, **more):
     """Runs the command as a program of its own."""
     ran = subprocess.run([sys.executable, '-m', 'desk', *map(str, words)], env=dict(os.environ, PYTHONPATH=TOP), capture_output=True, check=False, **more)
-    return Run(ran.returncode, ran.stdout and ran.stdout.decode(), ran.stderr and ran.stderr.decode())
+    return Run(ran.returncode, ran.stdout.decode(), ran.stderr.decode())
 
 
 class Failing:
