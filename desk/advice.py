@@ -94,10 +94,29 @@ def of_token(place, may_stand):
     return ''
 
 
+def is_value(place):
+    """Whether the place is that of a value in a rule."""
+    return place.before is not None and place.before.part in (b'*=', b'|=', b':=')
+
+
+def stated(place):
+    """What is refused at a place, in words for this case alone; None where the number's own words say it."""
+    name = place.token.shown()
+    if place.number == 12:
+        return 'the file ends inside a statement' if place.is_end else 'a word or mark stands where it cannot'
+    if place.number == 14:
+        return f"the {'slot' if place.before.part == b'SLOT' else 'value'} {name} is declared twice"
+    if place.number == 16:
+        return f'{place.tokens[place.at - 2].shown()} has no value {name}' if is_value(place) else f'there is no slot {name}'
+    if place.number == 17:
+        return f'the rule assigns {name} twice'
+    return None
+
+
 def of_name(place, file):
     """What is said of a name that is not declared: of what else it is the name."""
     name = place.token.shown()
-    behind = place.before is not None and place.before.part in (b'*=', b'|=', b':=')
+    behind = is_value(place)
     owners = [file.slots[slot] for slot, values in enumerate(file.values) if name in values[1:]]
     if behind and name in file.slots:
         return f'{name} is a slot, not a value'
@@ -138,7 +157,8 @@ def advise(place, may_stand):
     if place.number == 13:
         return f'it has {len(place.token.part)}: shorten it everywhere'
     if place.number == 14:
-        return 'take one of the two away, or rename it'
+        first = next(token for token in place.tokens[place.tokens.index(place.statement()) if place.before.part != b'SLOT' else 0:] if token.part == place.token.part)
+        return f'it is declared in line {place.lines.place(first.start)[0]} before: take one of the two away, or rename it'
     if place.number == 15:
         return of_surplus(place)
     if place.number == 16:

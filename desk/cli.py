@@ -13,7 +13,7 @@ from . import batch, entries, graph
 from .causes import behind, explain
 from .counts import Counts, load as load_records
 from .diagnosis import load
-from .faults import WORDS, Refused, Unusable
+from .faults import Refused, Unusable
 from .files import STANDARD, read, replace
 from .library import PROGRAM_RULES, PROGRAM_TEXT_BYTES, TEXT_BYTES, Library, Records, Responder
 
@@ -211,7 +211,7 @@ def complain(arguments, refused, more=None):
     """Tells a refusal: for programs as a line of JSON on standard output, for people on standard error."""
     if arguments.json:
         print(json.dumps({**(more or {'answered': False}), 'number': refused.number, 'second': refused.second,
-                          'words': WORDS[refused.number], 'place': None, **refused.told}))
+                          'words': refused.words, 'place': None, **refused.told}))
     else:
         print('\n'.join([str(refused), *(f'  {line}' for line in refused.detail)]), file=sys.stderr)
 

@@ -1,5 +1,5 @@
 """A rule file read for people: the file, or its refusal in words with the place, what may stand there and what to do."""
-from .advice import advise, suggestions
+from .advice import advise, stated, suggestions
 from .circles import circle
 from .faults import Refused
 from .places import END, NEW_NAME, Place
@@ -38,7 +38,7 @@ def placed(library, subject, text, number, second):
                   'token': None if place.is_end else place.token.shown()},
         'may_stand': may_stand, 'did_you_mean': like, 'advice': advice,
     }
-    return Refused(f'{subject}:{place.line}:{place.column}', number, second, detail, told)
+    return Refused(f'{subject}:{place.line}:{place.column}', number, second, detail, told, stated(place))
 
 
 def found(place):
@@ -61,10 +61,12 @@ def listed(parts):
 
 
 def marked(place):
-    """The line of the place with carets under the token; of a long line the part around it."""
-    line = place.lines.line(place.line)
-    begin = max(0, place.column - 1 - WIDTH // 2) if len(line) > WIDTH else 0
-    white = ''.join('\t' if byte == 9 else ' ' for byte in line[begin:place.column - 1])
+    """The line of the place with carets under the token, of a long line the part around it; of the end the line of the last token."""
+    at = place.before.end if place.is_end and place.before else place.token.start
+    number, column = place.lines.place(at)
+    line = place.lines.line(number)
+    begin = max(0, column - 1 - WIDTH // 2) if len(line) > WIDTH else 0
+    white = ''.join('\t' if byte == 9 else ' ' for byte in line[begin:column - 1])
     left, right = '..' if begin else '', '..' if begin + WIDTH < len(line) else ''
     return [f'    {left}{displayed(line[begin:begin + WIDTH])}{right}', f"    {' ' * len(left)}{white}{'^' * max(1, len(place.token.part))}"]
 

@@ -8,10 +8,10 @@ class Unusable(Exception):
 class Refused(Exception):
     """A refusal: its two numbers, in words, with what else is told of it for people and for programs; exit status 1."""
 
-    def __init__(self, subject, number, second, detail=(), told=None):
-        """Keeps the numbers, the file or thing that is refused, the lines that explain it, and the same for programs."""
-        super().__init__(f'{subject}: refused {number} {second}: {WORDS[number]}')
-        self.subject, self.number, self.second = subject, number, second
+    def __init__(self, subject, number, second, detail=(), told=None, words=None):
+        """Keeps what is refused, the numbers, the lines that explain it, the same for programs, and words for this case alone."""
+        self.number, self.second, self.words = number, second, words or WORDS[number]
+        super().__init__(f'{subject}: refused {number} {second}: {self.words}')
         self.detail, self.told = list(detail), dict(told or {})
 
 

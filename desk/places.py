@@ -53,14 +53,19 @@ class Place:
         return self.library.read(text if len(text) <= TEXT_BYTES else shortened(text), by_marks=True).number
 
     def may_stand(self):
-        """What may stand in the place of the faulty token: words and marks, a new name, names that are declared, the end."""
+        """What may stand in the place of the faulty token: words and marks, a new name or those that are declared, the end."""
         before = self.cut(self.at)
         used = {token.part for token in self.tokens}
         new = next(name for name in (f'n{number}' for number in range(len(used) + 1)) if name.encode() not in used)
-        names = [new, *self.declared_names()] if self.read(before + b' ' + LONG) == 13 else []
-        found = [part for part in (*RESERVED, *MARKS, *names) if self.read(before + b' ' + part.encode() + FAULTY) == 11]
+        found = [part for part in (*RESERVED, *MARKS, new) if self.may_follow(before, part)]
+        if new not in found and self.read(before + b' ' + LONG) == 13:
+            found += [name for name in self.declared_names() if self.may_follow(before, name)]
         ends = [END] if self.read(before) == 0 else []
         return [NEW_NAME if part == new else part for part in found] + ends
+
+    def may_follow(self, before, part):
+        """Whether a token may stand behind a text without a fault."""
+        return self.read(before + b' ' + part.encode() + FAULTY) == 11
 
     def declared(self):
         """The rule file of the statements that are complete before the faulty token."""

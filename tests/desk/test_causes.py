@@ -49,11 +49,11 @@ class Causes(DeskTest):
         self.assertEqual(set(self.library.unpack_slip(file.bare, answer.changes)[2]), changes)
         self.assertEqual(set(answer.rules()), fired)
 
-    def caused(self, file, values, changes, slip, fired):
+    def caused(self, file, values, slot, slip, fired):
         """Sees that each value that meets another has its causes, all of them and no other."""
         for one in values:
-            value = file.values[changes].index(one['value'])
-            by = ['slip'] * ((changes, value) in slip) + [rule.number for rule in file.rules if rule.number in fired and (changes, value) in rule.assigns]
+            value = file.values[slot].index(one['value'])
+            by = ['slip'] * ((slot, value) in slip) + [rule.number for rule in file.rules if rule.number in fired and (slot, value) in rule.assigns]
             self.assertEqual(one['by'], by)
             self.assertTrue(by)
 

@@ -54,7 +54,7 @@ class Check(DeskTest):
         """A refusal has line and column, the line with a caret, the token found and what may stand there."""
         run = desk('check', self.put('rules.txt', RULES + 'WHEN dating *= before-1900 THEN status := obsolete;\n'))
         self.expect(run, 1)
-        self.assertEqual(run.err.replace(self.folder, ''), '''/rules.txt:3:28: refused 12 0: a word or mark stands where it cannot, or the file ends inside a statement
+        self.assertEqual(run.err.replace(self.folder, ''), '''/rules.txt:3:28: refused 12 0: a word or mark stands where it cannot
       WHEN dating *= before-1900 THEN status := obsolete;
                                  ^^^^
   found THEN
