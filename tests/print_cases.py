@@ -146,7 +146,7 @@ def two_bytes(more):
 def respaced(chance, text):
     """A text with other white space, NOTs in pairs before some literals, and what cancels as it was."""
     spaced, last = b'', b''
-    for _, part in tokens(text):
+    for _, part, _ in tokens(text):
         if last in (b'IF', b'AND') and part != b'TRUE' and not chance.randrange(3):
             spaced += b' NOT' * chance.choice([2, 4]) + b' '
         needed = last[:1].isalnum() and part[:1].isalnum()

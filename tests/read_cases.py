@@ -17,11 +17,11 @@ RESERVED = {b'SLOT', b'WHEN', b'IF', b'THEN', b'AND', b'NOT', b'TRUE', b'NONE'}
 
 
 class Refused(Exception):
-    """A refusal by its number."""
+    """A refusal by its number, and the offset and the bytes of its token."""
 
 
 def tokens(text):
-    """Each token as (kind, bytes): a word or mark is its own kind; at last the end."""
+    """Each token as (kind, bytes, offset): a word or mark is its own kind; at last the end."""
     at = 0
     while at < len(text):
         if text[at] in b'\t\n\r ':
@@ -29,15 +29,16 @@ def tokens(text):
             continue
         found = TOKEN.match(text, at)
         if not found:
-            yield 'bad', b''
+            yield 'bad', text[at:at + 1], at
             at += 1
             continue
-        part, at = found.group(), found.end()
+        part = found.group()
         if part in RESERVED or not part[:1].isalnum():
-            yield part.decode(), part
+            yield part.decode(), part, at
         else:
-            yield ('name' if len(part) <= 24 else 'long'), part
-    yield 'end', b''
+            yield ('name' if len(part) <= 24 else 'long'), part, at
+        at = found.end()
+    yield 'end', b'', at
 
 
 class File:
@@ -51,18 +52,12 @@ class File:
     def kind(self):
         return self.all[self.at][0]
 
-    def take(self, *kinds, also=None):
+    def take(self, *kinds, also=lambda part: []):
         """The next token, which must be of one of these kinds; `also` gives the refusals 14 to 17 of a name in their order."""
-        kind, part = self.all[self.at]
-        if kind == 'bad':
-            raise Refused(11)
-        if kind == 'long' and 'name' in kinds:
-            raise Refused(13)
-        if kind not in kinds:
-            raise Refused(12)
-        for number, wrong in (also(part) if also else []):
+        kind, part, offset = self.all[self.at]
+        for number, wrong in [(11, kind == 'bad'), (13, kind == 'long' and 'name' in kinds), (12, kind not in kinds), *also(part)]:
             if wrong:
-                raise Refused(number)
+                raise Refused(number, offset, part)
         self.at += 1
         return kind, part
 
@@ -146,18 +141,31 @@ class File:
             self.rule()
 
 
-def reading(text):
-    """The lines owed for a text; of equal neighbours among its rules one, after how many they are."""
+def read(text):
+    """The file of a text, the steps of dependence of its rules, and its refusal as `place` tells it."""
     if len(text) > 262144:
-        return [b'refused 10 0']
+        return None, [], (10, 0, None, b'')
     file = File(text)
     try:
         file.read()
     except Refused as refusal:
-        return [b'refused %d %d' % (refusal.args[0], len(file.rules))]
+        number, offset, part = refusal.args
+        return file, [], (number, len(file.rules), offset, part)
     edges = dependences([((slot, value), literals, assignments) for slot, value, literals, assignments in file.rules])
-    if circle(edges):
-        return [b'refused 18 %d' % circle(edges)]
+    low = circle(edges)
+    return file, edges, (18, low, None, b'') if low else None
+
+
+def place(text):
+    """Where a text is refused, as (number, second number, offset of the token, its bytes): no offset and no bytes for 10 and 18, no bytes at the end; None where it is accepted."""
+    return read(text)[2]
+
+
+def reading(text):
+    """The lines owed for a text; of equal neighbours among its rules one, after how many they are."""
+    file, edges, refusal = read(text)
+    if refusal:
+        return [b'refused %d %d' % refusal[:2]]
     lines = [b'accepted %d %d' % (len(file.slots), len(file.rules))]
     lines += [b' '.join([b'slot', name] + values) for name, values in file.slots]
     rules = [b'rule %d %d %d' % (stratum, slot, value) + b''.join(b' : %d %d %d %d' % l for l in literals) + b''.join(b' = %d %d' % a for a in assignments) for stratum, (slot, value, literals, assignments) in zip(strata(edges), file.rules)]
