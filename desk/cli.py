@@ -30,6 +30,11 @@ def unlayered(library, path):
     return rule_file(library, path, by_marks=True)
 
 
+def counted(number, one, several):
+    """A number with the word for it."""
+    return f'{number:,} {one if number == 1 else several}'
+
+
 def say(arguments, told, lines):
     """Prints a result, for programs as one line of JSON or for people as lines."""
     print(json.dumps(told) if arguments.json else '\n'.join(lines))
@@ -48,8 +53,9 @@ def check(library, arguments):
         is_small = len(file.text) <= PROGRAM_TEXT_BYTES and len(file.rules) <= PROGRAM_RULES
         told = {'file': path, 'accepted': True, 'bytes': len(file.text), 'slots': len(file.slots), 'rules': len(file.rules),
                 'strata': file.strata(), 'for_rl': is_small}
-        strata = [f'{file.strata()} strata'] if not arguments.marks else []
-        say(arguments, told, [f'{path}: ' + ', '.join([f'{len(file.slots)} slots', f'{len(file.rules)} rules', *strata])])
+        parts = [counted(len(file.slots), 'slot', 'slots'), counted(len(file.rules), 'rule', 'rules')]
+        parts += [] if arguments.marks else [counted(file.strata(), 'stratum', 'strata')]
+        say(arguments, told, [f"{path}: {', '.join(parts)}"])
         if not is_small and not arguments.json:
             print(f'{path}: the program rl takes {PROGRAM_RULES} rules and {PROGRAM_TEXT_BYTES:,} bytes at most; this file is for programs over the library', file=sys.stderr)
     return status

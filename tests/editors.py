@@ -1,8 +1,9 @@
 #!/usr/bin/env python3
-"""The examples of the editors' guide, run by the program, or by the desk in C where they are for the response by marks: each must get the refusal in whose row it stands; every refusal must have its row, the rules that withdraw a dating, those that wake each other and those that 18 refuses do as the guide says, the guide's listings be those of examples/dialect, examples/withdrawn and examples/marks, its card and slip that withdraw a dating those of examples/withdrawn, and its file in the house style the print of the file before it.
+"""The examples of the editors' guide, run by the program, or by the desk in C where they are for the response by marks: each must get the refusal in whose row it stands; every refusal must have its row, the commands of the desk print what they are said to, the rules that withdraw a dating, those that wake each other and those that 18 refuses do as the guide says, the guide's listings be those of examples/dialect, examples/withdrawn and examples/marks, its card and slip that withdraw a dating those of examples/withdrawn, and its file in the house style the print of the file before it.
 
-  tests/editors.py   needs target/bin/rl and target/examples/desk-c, which examples/run makes; exit status 1 where an example comes to something else
+  tests/editors.py   needs target/bin/rl, target/lib/librl.so.1, which ./build makes, and target/examples/desk-c, which examples/run makes; exit status 1 where an example comes to something else
 """
+import json
 import os
 import re
 import subprocess
@@ -89,6 +90,47 @@ def by_marks(guide):
         yield files, ends
 
 
+def fired(rules, words):
+    """The rules that fire by the command desk, on the card and the slip of these words."""
+    with tempfile.TemporaryDirectory() as folder:
+        put(folder, 'rules.txt', rules)
+        for kind, word in words.items():
+            desk(folder, kind, 'rules.txt', word, '-o', f'{kind}.bin')
+        return [one['rule'] for one in json.loads(desk(folder, 'respond', '--json', 'rules.txt', 'card.bin', 'slip.bin'))['fired']]
+
+
+def put(folder, name, text):
+    """Writes a file of a folder."""
+    with open(os.path.join(folder, name), 'w', encoding='ascii') as file:
+        file.write(text)
+
+
+def desk(folder, *words):
+    """What the command desk prints in a folder, messages too."""
+    ran = subprocess.run([sys.executable, '-m', 'desk', *words], cwd=folder, env=dict(os.environ, PYTHONPATH=TOP), stdout=subprocess.PIPE, stderr=subprocess.STDOUT, check=False)
+    return ran.stdout.decode()
+
+
+def run_and_seen(guide):
+    """Of the section on what to run: what the guide says that each command prints, and what it prints."""
+    rules, *sessions = section(guide, 'What to run, and what you see')
+    rules = '\n'.join(rules) + '\n'
+    with tempfile.TemporaryDirectory() as folder:
+        put(folder, 'rules.txt', rules)
+        put(folder, 'faulty.txt', rules.replace('IF status |= current ', ''))
+        for part in re.split(r'^\$ desk ', '\n'.join(line for session in sessions for line in session) + '\n', flags=re.M)[1:]:
+            command, _, said = part.partition('\n')
+            yield command, said, desk(folder, *command.split())
+
+
+def in_vain(guide):
+    """Of the section on what |= asks: the rules that fire by the file as it is and as it was meant, and those that should."""
+    wrong, meant = section(guide, '`|=` asks the card before the slip')
+    words = {'card': 'status=current', 'slip': 'dating=before-1900'}
+    yield fired('\n'.join(wrong), words), [1]
+    yield fired('\n'.join(wrong[:-1] + meant), words), [1, 2]
+
+
 def blocks(part):
     """The blocks of indented lines."""
     return [[line[4:] for line in block.split('\n')] for block in part.split('\n\n') if block.startswith('    ')]
@@ -117,6 +159,14 @@ def main():
     for files, begins in waking(guide):
         if not printed(files).startswith(begins):
             print(f'rules that wake each other come to {printed(files)!r}')
+            wrong = 1
+    for command, said, shown in run_and_seen(guide):
+        if said != shown:
+            print(f'desk {command} prints {shown!r}')
+            wrong = 1
+    for shown, owed in in_vain(guide):
+        if shown != owed:
+            print(f'of the rules on what |= asks {shown} fire')
             wrong = 1
     for files, listing in withdrawing(guide):
         if printed(files) != listing:

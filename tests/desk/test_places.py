@@ -2,22 +2,18 @@
 
   python3 -m unittest discover -s tests/desk   from the root of the repository
 """
-import contextlib
 import glob
-import io
-import json
 import os
 import random
 import re
 import sys
-import tempfile
 import unittest
 
-TOP = os.path.dirname(os.path.dirname(os.path.dirname(os.path.abspath(__file__))))
-sys.path[:0] = [TOP, os.path.join(TOP, 'tests')]
-
-from desk import cli
 from faulty import END, FAULTY, NAME
+from running import TOP, DeskTest, desk
+
+sys.path.insert(0, os.path.join(TOP, 'tests'))
+
 from read_cases import RESERVED, place, read, texts, tokens
 from stored import whole
 from strata_cases import tests
@@ -113,23 +109,13 @@ def generated(seed, count):
         yield harm(chance, chance.choice(examples) if not chance.randrange(4) else written(chance))
 
 
-class Places(unittest.TestCase):
-    """Each test runs `desk check --json` on its files in this process."""
-
-    def setUp(self):
-        """Makes the folder of the file that is checked."""
-        self.folder = tempfile.TemporaryDirectory()
-        self.addCleanup(self.folder.cleanup)
+class Places(DeskTest):
+    """Each test runs `desk check --json` on its files."""
 
     def checked(self, text):
         """The exit status of a check of this text, and its answer."""
-        path = os.path.join(self.folder.name, 'rules.txt')
-        with open(path, 'wb') as file:
-            file.write(text)
-        with contextlib.redirect_stdout(io.TextIOWrapper(io.BytesIO(), 'utf-8')) as out:
-            status = cli.main(['check', '--json', path])
-        out.flush()
-        return status, json.loads(out.buffer.getvalue())
+        run = desk('check', '--json', self.put('rules.txt', text))
+        return run.status, run.json()
 
     def held(self, text, refusal):
         """Holds the answer for a text to its refusal as `place` tells it: the token's bytes only where they can be shown as they are."""
@@ -199,16 +185,16 @@ class Places(unittest.TestCase):
 
     def test_damaged(self):
         """Files damaged at random."""
-        self.each(generated(2026, 1500))
+        self.each(generated(2026, 800))
 
     def test_circles(self):
         """Files of generated rules, many of them with a circle."""
         chance = random.Random(18)
-        self.each(written(chance) for _ in range(150))
+        self.each(written(chance) for _ in range(100))
 
     def test_may_stand(self):
         """What may stand at the faults of files damaged at random is what the reader takes there, and nothing else."""
-        for number, text in enumerate(generated(11, 220), 1):
+        for number, text in enumerate(generated(11, 150), 1):
             refusal = place(text)
             if refusal and refusal[2] is not None:
                 with self.subTest(number=number):
