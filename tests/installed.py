@@ -246,7 +246,7 @@ class Programs(unittest.TestCase):
         self.assertEqual(run(compiled(['cc', '-std=c11'], 'threads', 'tests/embed/threads.c')), '')
 
     def test_stack(self):
-        """The stack that bench/stack.c measures here is what rl.h says of each function: never more, and not 512 bytes less, by which compilers of callers may differ."""
+        """The stack that bench/stack.c measures here is what rl.h says of each function, within 64 bytes, by which the compilers of callers differ."""
         lines = run(compiled(['cc'], 'stack', 'bench/stack.c', warnings=['-O2'])).splitlines()
         most = {}
         for name, *figures in re.findall(r'^\| (rl_\w+).*?\| +(\d+) \| +(\d+) \|$', '\n'.join(lines), re.M):
@@ -254,7 +254,7 @@ class Programs(unittest.TestCase):
         said = re.findall(r'Stack: ([\d,]+) bytes\. \*/\n\w+ (rl_\w+)\(', text(PREFIX, 'include/rl.h'))
         self.assertEqual([name for _, name in said], ENTRY_POINTS['library'])
         for figure, name in said:
-            self.assertTrue(0 <= int(figure.replace(',', '')) - most[name] < 512, f'{name}: rl.h has {figure}, measured {most[name]}')
+            self.assertLessEqual(abs(int(figure.replace(',', '')) - most[name]), 64, f'{name}: rl.h has {figure}, measured {most[name]}')
 
     def test_rust(self):
         """The desk in Rust over the installed crate, by rustc and by cargo."""
