@@ -9,7 +9,7 @@ import json
 import os
 import sys
 
-from . import batch, entries, graph
+from . import VERSION, batch, entries, graph
 from .causes import behind, explain
 from .counts import Counts, load as load_records
 from .diagnosis import load
@@ -226,6 +226,7 @@ def parser():
     """The words of the command line."""
     whole = argparse.ArgumentParser(prog='desk', description='Rule files, cards and slips of a dialect dictionary, over the proved library.',
                                     epilog='Exit status: 0 done, 1 refused, 2 usage or files. - names standard input or output.')
+    whole.add_argument('--version', action='version', version=f'desk {VERSION}')
     commands = whole.add_subparsers(dest='command', required=True, metavar='COMMAND')
 
     def command(name, function, told, *, marks=False):

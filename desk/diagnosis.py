@@ -23,7 +23,7 @@ def load(library, subject, text, by_marks=False):
 
 def placed(library, subject, text, number, second):
     """A refusal of 11 to 17 with its place."""
-    place = Place(library, text, number, second)
+    place = Place(library, text, number)
     may_stand = place.may_stand()
     like = suggestions(place, may_stand)
     advice = advise(place, may_stand)

@@ -18,9 +18,9 @@ NEW_NAME = 'a new name'
 class Place:
     """The place of a refusal: its token, the one before it, and where they stand."""
 
-    def __init__(self, library, text, number, second):
+    def __init__(self, library, text, number):
         """Finds the place of a refusal of 11 to 17 in a text."""
-        self.library, self.text, self.number, self.second = library, text, number, second
+        self.library, self.text, self.number = library, text, number
         self.lines, self.tokens = Lines(text), tokens(text)
         self.at = self.first_faulty()
         self.is_end = self.at == len(self.tokens)
@@ -80,7 +80,7 @@ class Place:
         return list(dict.fromkeys(names))
 
     def statement(self):
-        """The first token of the statement in which the place is, and what kind of statement it is; None where none is begun."""
+        """The first token of the statement in which the place is, SLOT or WHEN; None where none is begun."""
         for at in range(self.at - 1, -1, -1):
             part = self.tokens[at].part
             if part == b';':

@@ -147,6 +147,7 @@ class Files(unittest.TestCase):
         self.assertIn(f'#define RL_VERSION "{version()}"\n', header)
         self.assertEqual(flags('modversion') if shutil.which('pkg-config') else flags('version'), [version()])
         self.assertIn(f'\nversion = "{version()}"\n', text(PREFIX, 'share/rl/rust/Cargo.toml'))
+        self.assertEqual(run(os.path.join(PREFIX, 'bin/desk'), '--version'), f'desk {version()}\n')
         self.assertIn(f'[librl.so.{major}]', run('readelf', '-d', os.path.join(PREFIX, f'lib/librl.so.{version()}')))
 
     def test_shared(self):
