@@ -5,21 +5,21 @@ use native.Mathlib.Omega.{arith}
 use native.Mathlib.Nat.{eq-or-lt-of-le}
 use mathlib.Core.Path.{_≡_, refl, sym, ap, ap₂, subst, _∙_}
 use mathlib.Core.Bool.{Bool, true, false, cond}
-use mathlib.Core.List.{List, [], _∷_, _++_}
+use mathlib.Core.List.{List, [], _∷_, _++_, append-assoc}
 use mathlib.Core.Logic.{_↔_, _⊎_, inl, inr, ⊎-elim}
 use lib.Dec.{leb}
 use lib.ListN.{length}
 use borrow.Author.Tests.{leb-true, leb-false}
 use Rattle.laws.proofs.Lists.{two-cuts}
 use Rattle.laws.proofs.Truth.{le-or-lt}
-use Rattle.text.specs.Tokens.{Token, tokens}
+use Rattle.text.specs.Tokens.{Token, bad, tokens}
 use Rattle.laws.specs.Limits.{rule-limit, text-limit}
 use Rattle.grammar.specs.Reading.{refused, read-tokens, parse, parse-within}
-use Rattle.grammar.specs.Refusals.{Fault, Faultless, Completed, Stands-at, Decided, Stuck-first}
+use Rattle.grammar.specs.Refusals.{Fault, no-token, Faultless, Completed, Stands-at, Decided, Found-by-cutting, Stuck-first}
 use Rattle.grammar.proofs.Forward.{read-short, read-long}
 use Rattle.grammar.proofs.Halting.{refused-same}
 use Rattle.grammar.proofs.Counted.{one-count}
-use Rattle.grammar.proofs.Faults.{fault-later, stuck-of, stuck-fault, stuck-first, by-least}
+use Rattle.grammar.proofs.Faults.{fault-range, fault-later, stuck-of, stuck-fault, stuck-first, end-of, by-least}
 use Rattle.grammar.proofs.Placed.{Placed, placed, same-rest, refused-there, clean-faultless, faultless-clean}
 
 -- A refusal of tokens stands at one of them, or at their end.
@@ -92,6 +92,33 @@ whatever-follows ts k n a = go (a .after) (a .fault) (a .smallest)
       smallest = λ j l g. least j l (fault-later j (a .before) t later rest g);
       completed = a .completed;
     })
+
+-- What begins tokens without a fault has none.
+faultless-front : (front rest : List Token) → Faultless (front ++ rest) → Faultless front
+faultless-front front rest h before t later w k f =
+    h before t (later ++ rest) (ap (λ (l : List Token). l ++ rest) w ∙ append-assoc before (t ∷ later) rest) k (fault-later k before t later (later ++ rest) f)
+
+-- Tokens without a fault, and a bad one behind them, are refused with 11.
+bad-behind : (front later : List Token) → Faultless front → (m : ℕ) × (read-tokens rule-limit (front ++ bad ∷ later) ≡ refused 11 m)
+bad-behind front later h =
+    let x = faultless-clean front h in
+    (x .1 .0, refused-there front (bad ∷ later) 11 (x .1 .0) (x .0) (x .1 .1) no-token (λ j l f. let r = fault-range j front (bad ∷ later) f in omega (arith, l, r .0)))
+
+-- Tokens without a fault are not refused with 11.
+no-eleven : (front : List Token) (m : ℕ) → Faultless front → ¬ (read-tokens rule-limit front ≡ refused 11 m)
+no-eleven front m h e = let s = tokens-stand front 11 m e in at s (s .after) refl
+  where
+    at : (s : Stands-at front 11 m) (after : List Token) → s .after ≡ after → ⊥
+    at s [] q = let z = end-of 11 (s .before) (subst (Fault 11 (s .before)) q (s .fault)) in omega (arith, z)
+    at s (t ∷ later) q = h (s .before) t later (s .whole ∙ ap (λ (l : List Token). s .before ++ l) q) 11 (subst (Fault 11 (s .before)) q (s .fault))
+
+-- The place of a refusal is found by cutting.
+pub found-by-cutting : (ts : List Token) (k n : ℕ) (a : Stands-at ts k n) → Found-by-cutting k n (a .before) (a .after)
+found-by-cutting ts k n a = record {
+  cut-before = λ front rest later e. bad-behind front later (faultless-front front rest (subst Faultless e (a .faultless)));
+  cut-alone = λ front rest m e. no-eleven front m (faultless-front front rest (subst Faultless e (a .faultless)));
+  cut-behind = whatever-follows ts k n a;
+}
 
 -- A text is refused with 10 for its length, or its refusal stands at one of its tokens or at its end.
 pub refusal-stands : (text : List ℕ) (k n : ℕ) → parse text ≡ refused k n

@@ -63,6 +63,12 @@ abbrev pub Decided : ℕ → ℕ → List Token → List Token → Type 0
 Decided k n before [] = Unit
 Decided k n before (t ∷ rest) = (later : List Token) → read-tokens rule-limit (before ++ t ∷ later) ≡ refused k n
 
+-- What a search by cutting goes by: cut before the faulty token, and with a bad token behind the cut, the tokens are refused with 11; cut there with nothing behind it, with anything but 11; cut behind the faulty token, whatever follows, as the whole.
+pub record Found-by-cutting (k n : ℕ) (before after : List Token) : Type 0 where
+  pub cut-before : (front rest later : List Token) → before ≡ front ++ rest → (m : ℕ) × (read-tokens rule-limit (front ++ bad ∷ later) ≡ refused 11 m)
+  pub cut-alone : (front rest : List Token) (m : ℕ) → before ≡ front ++ rest → ¬ (read-tokens rule-limit front ≡ refused 11 m)
+  pub cut-behind : Decided k n before after
+
 -- No derivation goes on with the first of `after`, or, where there is none, none is whole.
 abbrev pub Stuck : List Token → List Token → Type 0
 Stuck before [] = Underived before
