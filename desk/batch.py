@@ -34,7 +34,7 @@ class Day:
 
     def __init__(self, file, cards, slips, counts):
         """Finds the slips, and those that are done."""
-        self.file, self.cards, self.slips, self.counts = file, os.path.abspath(cards), os.path.abspath(slips), counts
+        self.file, self.cards, self.slips, self.counts = file, os.path.realpath(cards), os.path.realpath(slips), counts
         self.done_path = os.path.join(self.slips, DONE)
         self.earlier = earlier(self.done_path)
         done = {outcome['slip'] for outcome in self.earlier}

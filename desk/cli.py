@@ -7,6 +7,7 @@ import contextlib
 import difflib
 import json
 import os
+import signal
 import sys
 
 from . import batch, entries, graph
@@ -134,6 +135,10 @@ def show(library, arguments):
 
 def respond(library, arguments):
     """Responds to a slip on a card, by name."""
+    if arguments.output == STANDARD:
+        raise Unusable('standard output has the answer: name a file for the new card')
+    if [arguments.rules, arguments.card, arguments.slip].count(STANDARD) > 1:
+        raise Unusable('standard input can be one of the files alone')
     file = rule_file(library, arguments.rules, arguments.marks)
     data, slip_data = read(arguments.card, entries.ROOM), read(arguments.slip, entries.ROOM)
     responder = Responder(library, file.table, arguments.marks)
@@ -285,24 +290,47 @@ def parsed(words):
 
 def main(words=None):
     """Runs the command; its exit status."""
+    open_streams()
     try:
         arguments = parsed(words)
     except SystemExit as ended:
         return ended.code
     try:
-        status = arguments.function(Library(), arguments)
+        status = run(arguments)
         sys.stdout.flush()
         return status
-    except Refused as refused:
-        complain(arguments, refused)
-        return REFUSED
     except Unusable as error:
         print(f'desk: {error}', file=sys.stderr)
         return UNUSABLE
+    except BrokenPipeError:
+        drop_output()
+        return 128 + signal.SIGPIPE
     except OSError as error:
         print(f'desk: {error.filename or "standard output"}: {error.strerror}', file=sys.stderr)
         drop_output()
         return UNUSABLE
+    except KeyboardInterrupt:
+        print('desk: stopped', file=sys.stderr)
+        drop_output()
+        return 128 + signal.SIGINT
+
+
+def run(arguments):
+    """Runs a command of the words; its exit status."""
+    try:
+        return arguments.function(Library(), arguments)
+    except Refused as refused:
+        complain(arguments, refused)
+        return REFUSED
+
+
+def open_streams():
+    """Puts the null device in the place of standard streams that are closed, and lets a name that standard output cannot show stand in escapes."""
+    for name, mode in (('stdin', 'r'), ('stdout', 'w'), ('stderr', 'w')):
+        if getattr(sys, name) is None:
+            setattr(sys, name, open(os.devnull, mode, encoding='utf-8'))
+    if hasattr(sys.stdout, 'reconfigure'):
+        sys.stdout.reconfigure(errors='backslashreplace')
 
 
 def drop_output():
