@@ -190,11 +190,10 @@ class Stop:
 def work(file, arguments):
     """Answers a day's slips and prints each outcome; the exit status, 0 where all were answered, 1 where one was not."""
     out = csv.DictWriter(sys.stdout, COLUMNS, lineterminator='\n', extrasaction='ignore')
-    is_fresh = not os.path.exists(arguments.editors)
     stop = Stop()
     with Counts(arguments.editors, arguments.cards, arguments.slips) as counts:
         day = Day(file, arguments.cards, arguments.slips, counts)
-        if is_fresh:
+        if not os.path.exists(arguments.editors):
             print(f'{arguments.editors}: not there; begun with forty records of 0 and 0', file=sys.stderr)
         for name in day.misnamed:
             print(f'{name}: not the name of a slip, ORDER.ENTRY.EDITOR.slip; left alone', file=sys.stderr)

@@ -326,9 +326,9 @@ def run(arguments):
 
 def open_streams():
     """Puts the null device in the place of standard streams that are closed, and lets a name that standard output cannot show stand in escapes."""
-    for name, mode in (('stdin', 'r'), ('stdout', 'w'), ('stderr', 'w')):
+    for name in ('stdout', 'stderr'):
         if getattr(sys, name) is None:
-            setattr(sys, name, open(os.devnull, mode, encoding='utf-8'))
+            setattr(sys, name, open(os.devnull, 'w', encoding='utf-8'))
     if hasattr(sys.stdout, 'reconfigure'):
         sys.stdout.reconfigure(errors='backslashreplace')
 

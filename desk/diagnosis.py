@@ -46,7 +46,7 @@ def found(place):
     if place.is_end:
         return END
     if place.token.part.isascii() and place.token.shown().isprintable():
-        return place.token.shown()
+        return place.token.shown()[:WIDTH] + ('..' if len(place.token.part) > WIDTH else '')
     character = place.text[place.token.start:place.token.start + 4].decode('utf-8', 'ignore')[:1]
     code = f'byte {place.token.part[0]:02X}'
     return f'{character} ({code})' if character.isprintable() and character else code
@@ -66,9 +66,10 @@ def marked(place):
     number, column = place.lines.place(at)
     line = place.lines.line(number)
     begin = max(0, column - 1 - WIDTH // 2) if len(line) > WIDTH else 0
+    carets = max(1, min(len(place.token.part), begin + WIDTH - column + 1))
     white = ''.join('\t' if byte == 9 else ' ' for byte in line[begin:column - 1])
     left, right = '..' if begin else '', '..' if begin + WIDTH < len(line) else ''
-    return [f'    {left}{displayed(line[begin:begin + WIDTH])}{right}', f"    {' ' * len(left)}{white}{'^' * max(1, len(place.token.part))}"]
+    return [f'    {left}{displayed(line[begin:begin + WIDTH])}{right}', f"    {' ' * len(left)}{white}{'^' * carets}"]
 
 
 def displayed(line):

@@ -16,6 +16,8 @@ LIBC = ctypes.CDLL(None, use_errno=True)
 def read(path, most=None):
     """The bytes of a file or of standard input; of a long one as many as asked."""
     try:
+        if path == STANDARD and sys.stdin is None:
+            raise Unusable('standard input is closed')
         if path == STANDARD:
             return sys.stdin.buffer.read(-1 if most is None else most)
         with open(path, 'rb') as file:
