@@ -201,9 +201,9 @@ def day(library, arguments):
 def draw(library, arguments):
     """Draws which rule wakes which."""
     text = graph.dot(rule_file(library, arguments.rules, arguments.marks))
-    drawn = None if arguments.dot else graph.svg(text)
-    if drawn is None and not arguments.dot:
-        print('Graphviz did not draw it: this is DOT text, which the command dot of Debian\'s package graphviz draws', file=sys.stderr)
+    drawn, reason = (None, '') if arguments.dot else graph.svg(text)
+    if reason:
+        print(f"Graphviz did not draw it, since {reason}: this is DOT text, which the command dot of Debian's package graphviz draws", file=sys.stderr)
     data = text.encode() if drawn is None else drawn
     if arguments.output and arguments.output != STANDARD:
         replace(arguments.output, data)
