@@ -215,7 +215,7 @@ def draw(library, arguments):
 def complain(arguments, refused, more=None):
     """Tells a refusal: for programs as a line of JSON on standard output, for people on standard error."""
     if arguments.json:
-        print(json.dumps({**(more or {'answered': False}), 'number': refused.number, 'second': refused.second,
+        print(json.dumps({**(more or {'answered' if arguments.command == 'respond' else 'accepted': False}), 'number': refused.number, 'second': refused.second,
                           'words': refused.words, 'place': None, **refused.told}))
     else:
         print('\n'.join([str(refused), *(f'  {line}' for line in refused.detail)]), file=sys.stderr)
