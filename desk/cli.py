@@ -44,7 +44,11 @@ def check(library, arguments):
             file = rule_file(library, path, arguments.marks)
         except Refused as refused:
             complain(arguments, refused, {'file': path, 'accepted': False})
-            status = REFUSED
+            status = max(status, REFUSED)
+            continue
+        except Unusable as error:
+            print(f'desk: {error}', file=sys.stderr)
+            status = UNUSABLE
             continue
         is_small = len(file.text) <= PROGRAM_TEXT_BYTES and len(file.rules) <= PROGRAM_RULES
         told = {'file': path, 'accepted': True, 'bytes': len(file.text), 'slots': len(file.slots), 'rules': len(file.rules),
