@@ -1,6 +1,7 @@
 """What to do about a refused rule text, in words of its own for the mistakes that are made most."""
 import difflib
 import re
+import unicodedata
 
 from .places import END, NEW_NAME
 from .tokens import MARKS, RESERVED
@@ -9,7 +10,10 @@ from .tokens import MARKS, RESERVED
 CHARACTERS = [
     (rb'\xef\xbb\xbf', 'this is a byte-order mark: save the file as plain text, UTF-8 without BOM or ASCII'),
     (rb'\x00', 'the file has zero bytes and is no plain text'),
+    (rb'!=|<>', 'there is no such sign: write NOT before the test, as in NOT slot |= value'),
+    (rb'->|=>', 'write THEN before what is assigned'),
     (rb'#|//|/\*|--|%|<!--|!', 'rule files have no comments: keep such words in another file'),
+    (rb'[<>]', 'values have no order: test for each value, in a rule of its own'),
     (rb'\xe2\x80[\x98-\x9f]|[\x91-\x94]', 'this is a curly quote: names stand without quotes, as letters, digits and hyphens'),
     (rb'["\'`]', 'names stand without quotes, as letters, digits and hyphens'),
     (rb'\xc2\xa0|\xe2\x80[\x80-\x8b\xaf]|\xa0', 'this is a space of another kind: write a plain space'),
@@ -25,6 +29,11 @@ CHARACTERS = [
     (rb'[\x80-\xff]', 'names have plain letters a to z and A to Z, digits and hyphens'),
 ]
 
+BRACES = 'the values of a slot stand in braces, with commas between: SLOT name { value, value };'
+COMMAS = 'a list has commas between, and ends in }'
+BEGINS = 'every statement begins with SLOT or WHEN, in capitals, and a rule has no label'
+ONE_WORD = 'a name is one word: write - for a space'
+
 UTF_16 = 'the file is in UTF-16: save it as plain text, UTF-8 without BOM or ASCII'
 
 # Words that other languages have and RL has not.
@@ -36,9 +45,29 @@ ABSENT = {
 }
 
 
-def of_character(place):
+def is_inside_name(place):
+    """Whether letters or digits stand directly before and behind the token."""
+    around = place.text[place.token.start - 1:place.token.start], place.text[place.token.end:place.token.end + 1]
+    return all(byte.isalnum() and byte.isascii() for byte in around)
+
+
+def is_list(may_stand):
+    """Whether a list in braces goes on or ends here."""
+    return set(may_stand) == {',', '}'}
+
+
+def of_character(place, may_stand):
     """What is said of a character that has no place in rule text."""
     rest = place.text[place.token.start:place.token.start + 8]
+    plain = unicodedata.normalize('NFKC', rest.decode('utf-8', 'ignore')[:1])
+    if rest[0] > 127 and plain.isascii() and plain.isprintable() and plain.strip() and not plain.isalnum():
+        return f'this only looks like {plain}: write the plain {plain}'
+    if re.match(rb'[.:/]', rest) and is_inside_name(place):
+        return f'a name has letters, digits and hyphens: write - for {rest[:1].decode()}'
+    if re.match(rb'-[^-]|<[^!]|>', rest) and 'WHEN' in may_stand:
+        return BEGINS
+    if re.match(rb'[:=|(\[<./+]', rest) and (may_stand == ['{'] or is_list(may_stand)):
+        return BRACES if may_stand == ['{'] else COMMAS
     return next((said for pattern, said in CHARACTERS if re.match(pattern, rest)), 'take it out')
 
 
@@ -75,6 +104,8 @@ def of_token(place, may_stand):
         return ':= assigns, behind THEN; a test is *= or |='
     if may_stand == [':=']:
         return 'behind THEN a slot is assigned by :='
+    if word in RESERVED and NEW_NAME in may_stand:
+        return f'{word} is a reserved word and no name'
     if found == b'TRUE':
         return 'TRUE opens a condition or is the whole of it, and stands nowhere else'
     if found == b'THEN' and may_stand == ['IF']:
@@ -83,14 +114,27 @@ def of_token(place, may_stand):
         return 'take the comma before } away'
     if found == b'}' and before == b'{':
         return 'a list has one name at least'
-    if found == b',' and may_stand == [';']:
+    if found in (b',', b'AND') and may_stand == [';']:
         return 'two or more assignments stand in braces: THEN { a := b, c := d };'
     if ';' in may_stand and word in ('WHEN', 'SLOT'):
         return 'the statement before it has no ; at its end'
     if word == 'NOT' and before == b'WHEN':
         return 'WHEN takes no NOT: put the test into the condition, behind IF'
-    if word in RESERVED and NEW_NAME in may_stand:
-        return f'{word} is a reserved word and no name'
+    if 'WHEN' in may_stand:
+        return {b';': 'one ; ends a statement: take this one away', b'IF': 'a rule begins with the change that wakes it: WHEN slot *= value IF ..'}.get(
+            found, BEGINS)
+    if may_stand == ['{']:
+        return f'{ONE_WORD}; {BRACES}' if place.token.is_name() else BRACES
+    if is_list(may_stand):
+        return f'{ONE_WORD}; {COMMAS}' if place.token.is_name() else COMMAS
+    if found == b',' and 'AND' in may_stand:
+        return 'write AND between tests'
+    if found == b'AND' and may_stand == ['IF']:
+        return 'WHEN takes one change: put the other tests into the condition, behind IF'
+    if found == b'THEN' and before == b'IF':
+        return 'a rule without a condition has IF TRUE'
+    if place.token.is_name() and '|=' in may_stand:
+        return 'a test is slot *= value, where it changes to that now, or slot |= value, where the card has it'
     return ''
 
 
@@ -120,6 +164,8 @@ def of_name(place, file):
     owners = [file.slots[slot] for slot, values in enumerate(file.values) if name in values[1:]]
     if behind and name in file.slots:
         return f'{name} is a slot, not a value'
+    if name.upper() in ABSENT:
+        return ABSENT[name.upper()]
     if owners:
         slot = place.tokens[place.at - 2].shown() if behind else ''
         return f"{name} is a value of {' and of '.join(owners)}, not {'of ' + slot if behind else 'a slot'}"
@@ -141,6 +187,14 @@ def of_surplus(place):
     return 'a rule assigns 4 slots at most: split the rule'
 
 
+def declared_first(place):
+    """The token at which a name that is declared twice is declared first: behind SLOT, or among the values of the same slot."""
+    if place.before.part == b'SLOT':
+        return next(token for before, token in zip(place.tokens, place.tokens[1:]) if before.part == b'SLOT' and token.part == place.token.part)
+    values = place.tokens[place.tokens.index(place.statement()) + 2:]
+    return next(token for token in values if token.part == place.token.part)
+
+
 def is_utf_16(text):
     """Whether a text looks like UTF-16: it has the mark of it, or a zero byte in every other place at its beginning."""
     return text[:2] in (b'\xff\xfe', b'\xfe\xff') or (len(text) > 3 and not any(text[:64][1::2])) or (len(text) > 3 and not any(text[:64][::2]))
@@ -151,14 +205,13 @@ def advise(place, may_stand):
     if is_utf_16(place.text):
         return UTF_16
     if place.number == 11:
-        return of_character(place)
+        return of_character(place, may_stand)
     if place.number == 12:
         return of_token(place, may_stand)
     if place.number == 13:
         return f'it has {len(place.token.part)}: shorten it everywhere'
     if place.number == 14:
-        first = next(token for token in place.tokens[place.tokens.index(place.statement()) if place.before.part != b'SLOT' else 0:] if token.part == place.token.part)
-        return f'it is declared in line {place.lines.place(first.start)[0]} before: take one of the two away, or rename it'
+        return f'it is declared in line {place.lines.place(declared_first(place).start)[0]} before: take one of the two away, or rename it'
     if place.number == 15:
         return of_surplus(place)
     if place.number == 16:

@@ -10,11 +10,11 @@ import time
 from .counts import Counts
 from .entries import ROOM, word_of
 from .faults import WORDS, Unusable
-from .files import read
+from .files import read, read_file
 from .library import Responder
 
 # A slip's file: its place in the day, the entry whose card it changes, its editor's number.
-SLIP = re.compile(r'(?P<order>\d+)\.(?P<entry>.+)\.(?P<editor>\d+)\.slip')
+SLIP = re.compile(r'(?P<order>[0-9]+)\.(?P<entry>.+)\.(?P<editor>[0-9]+)\.slip')
 CARD = '.card'
 
 # The list of the slips that are done, in their folder.
@@ -34,7 +34,7 @@ class Day:
 
     def __init__(self, file, cards, slips, counts):
         """Finds the slips, and those that are done."""
-        self.file, self.cards, self.slips, self.counts = file, os.path.abspath(cards), os.path.abspath(slips), counts
+        self.file, self.cards, self.slips, self.counts = file, os.path.realpath(cards), os.path.realpath(slips), counts
         self.done_path = os.path.join(self.slips, DONE)
         self.earlier = earlier(self.done_path)
         done = {outcome['slip'] for outcome in self.earlier}
@@ -47,16 +47,16 @@ class Day:
                 self.misnamed.append(name)
         self.left = [one for one in sorted(found) if one[1] not in done]
         self.responder = Responder(file.library, file.table, file.by_marks)
-        self.damaged = {}
+        self.damaged = set()
         for outcome in self.earlier:
             self.note(outcome)
         self.unread = set()
         self.shown = {}
 
     def note(self, outcome):
-        """Keeps of each entry the card that was found damaged."""
+        """Keeps the entries whose card was found damaged."""
         if outcome.get('number') in DAMAGED:
-            self.damaged[outcome['entry']] = outcome['card']
+            self.damaged.add(outcome['entry'])
 
     def words(self, changes):
         """The words of packed changes; those of changes seen before are kept."""
@@ -84,18 +84,18 @@ class Day:
     def answer(self, name, entry, editor, cards):
         """What one slip comes to; a card that is changed is kept until it is written. An entry whose card is damaged, or of which something could not be read, is stopped: its later slips are held until that is mended."""
         outcome = {'slip': name, 'entry': entry, 'editor': editor}
-        path = f'{self.cards}/{entry}{CARD}'
+        path = os.path.realpath(f'{self.cards}/{entry}{CARD}')
         if entry in self.unread:
             return {**outcome, 'outcome': 'held', 'words': 'something of this entry could not be read'}
         try:
-            slip = read(f'{self.slips}/{name}', ROOM)
+            slip = read_file(f'{self.slips}/{name}', ROOM)
             if path not in cards:
-                before = read(path, ROOM).hex()
+                before = read_file(path, ROOM).hex()
                 cards[path] = [before, before]
         except Unusable as error:
             self.unread.add(entry)
             return {**outcome, 'outcome': 'unread', 'words': str(error)}
-        if self.damaged.get(entry) == cards[path][1]:
+        if entry in self.damaged and self.file.library.unpack_card(self.file.bare, bytes.fromhex(cards[path][1]))[0]:
             return {**outcome, 'outcome': 'held', 'words': 'an earlier slip found the card of this entry damaged'}
         answer = self.responder.respond(self.counts.records, editor, bytes.fromhex(cards[path][1]), slip)
         if 1 <= editor <= len(self.counts.records):
@@ -129,7 +129,10 @@ def earlier(path):
     if not os.path.exists(path):
         return []
     try:
-        return [json.loads(line) for line in read(path).splitlines()]
+        outcomes = [json.loads(line) for line in read(path).splitlines()]
+        if all(isinstance(outcome, dict) and {'slip', 'entry', 'outcome', 'number'} <= outcome.keys() for outcome in outcomes):
+            return outcomes
+        raise ValueError
     except ValueError as error:
         raise Unusable(f'{path}: damaged') from error
 
@@ -187,11 +190,10 @@ class Stop:
 def work(file, arguments):
     """Answers a day's slips and prints each outcome; the exit status, 0 where all were answered, 1 where one was not."""
     out = csv.DictWriter(sys.stdout, COLUMNS, lineterminator='\n', extrasaction='ignore')
-    is_fresh = not os.path.exists(arguments.editors)
     stop = Stop()
     with Counts(arguments.editors, arguments.cards, arguments.slips) as counts:
         day = Day(file, arguments.cards, arguments.slips, counts)
-        if is_fresh:
+        if not os.path.exists(arguments.editors):
             print(f'{arguments.editors}: not there; begun with forty records of 0 and 0', file=sys.stderr)
         for name in day.misnamed:
             print(f'{name}: not the name of a slip, ORDER.ENTRY.EDITOR.slip; left alone', file=sys.stderr)
@@ -201,7 +203,7 @@ def work(file, arguments):
             out.writeheader()
         found = day.earlier if arguments.all else []
         show(out, found, arguments.json)
-        bar, done, unanswered = Bar(sys.stderr, len(day.left)), 0, sum(outcome['outcome'] != 'answered' for outcome in found)
+        bar, done, unanswered = Bar(sys.stderr, len(day.left)), 0, 0
         for outcomes in day.run(stop):
             show(out, outcomes, arguments.json)
             done += len(outcomes)
@@ -212,7 +214,7 @@ def work(file, arguments):
     print(f'{done:,} slips, {done - unanswered:,} answered, {unanswered:,} not' + (f'; stopped, {left:,} left' if left else ''), file=sys.stderr)
     if left:
         return 128 + stop.signal
-    return 1 if unanswered or day.misnamed else 0
+    return 1 if unanswered or day.misnamed or any(outcome['outcome'] != 'answered' for outcome in found) else 0
 
 
 def show(out, outcomes, as_json):

@@ -82,15 +82,18 @@ class Selection:
         return min(truth(test, self.card, self.positive, self.negative) for test in rule.tests)
 
     def move(self):
-        """Fires the first rule that can be fired, or else rules out all pairs that can be; whether something moved."""
-        truths = {rule.number: self.truth(rule) for rule in self.file.rules}
+        """Fires the rules that can be fired, one after the other, or else rules out all pairs that can be; whether something moved."""
+        before = len(self.fired)
         for rule in self.file.rules:
-            if truths[rule.number] == TRUE and rule.number not in self.fired:
+            if rule.number not in self.fired and self.truth(rule) == TRUE:
                 self.fired.add(rule.number)
                 for pair in rule.assigns:
                     self.mark(pair)
-                return True
-        open_pairs = {pair for rule in self.file.rules if truths[rule.number] != FALSE for pair in rule.assigns}
+                if self.clashes():
+                    return True
+        if len(self.fired) > before:
+            return True
+        open_pairs = {pair for rule in self.file.rules if self.truth(rule) != FALSE for pair in rule.assigns}
         out = {pair for pair in self.unknown() if pair not in open_pairs}
         self.negative |= out
         return bool(out)

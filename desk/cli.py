@@ -7,6 +7,7 @@ import contextlib
 import difflib
 import json
 import os
+import signal
 import sys
 
 from . import VERSION, batch, entries, graph
@@ -48,7 +49,11 @@ def check(library, arguments):
             file = rule_file(library, path, arguments.marks)
         except Refused as refused:
             complain(arguments, refused, {'file': path, 'accepted': False})
-            status = REFUSED
+            status = max(status, REFUSED)
+            continue
+        except Unusable as error:
+            print(f'desk: {error}', file=sys.stderr)
+            status = UNUSABLE
             continue
         is_small = len(file.text) <= PROGRAM_TEXT_BYTES and len(file.rules) <= PROGRAM_RULES
         told = {'file': path, 'accepted': True, 'bytes': len(file.text), 'slots': len(file.slots), 'rules': len(file.rules),
@@ -140,6 +145,10 @@ def show(library, arguments):
 
 def respond(library, arguments):
     """Responds to a slip on a card, by name."""
+    if arguments.output == STANDARD:
+        raise Unusable('standard output has the answer: name a file for the new card')
+    if [arguments.rules, arguments.card, arguments.slip].count(STANDARD) > 1:
+        raise Unusable('standard input can be one of the files alone')
     file = rule_file(library, arguments.rules, arguments.marks)
     data, slip_data = read(arguments.card, entries.ROOM), read(arguments.slip, entries.ROOM)
     responder = Responder(library, file.table, arguments.marks)
@@ -202,9 +211,9 @@ def day(library, arguments):
 def draw(library, arguments):
     """Draws which rule wakes which."""
     text = graph.dot(rule_file(library, arguments.rules, arguments.marks))
-    drawn = None if arguments.dot else graph.svg(text)
-    if drawn is None and not arguments.dot:
-        print('Graphviz did not draw it: this is DOT text, which the command dot of Debian\'s package graphviz draws', file=sys.stderr)
+    drawn, reason = (None, '') if arguments.dot else graph.svg(text)
+    if reason:
+        print(f"Graphviz did not draw it, since {reason}: this is DOT text, which the command dot of Debian's package graphviz draws", file=sys.stderr)
     data = text.encode() if drawn is None else drawn
     if arguments.output and arguments.output != STANDARD:
         replace(arguments.output, data)
@@ -216,7 +225,7 @@ def draw(library, arguments):
 def complain(arguments, refused, more=None):
     """Tells a refusal: for programs as a line of JSON on standard output, for people on standard error."""
     if arguments.json:
-        print(json.dumps({**(more or {'answered': False}), 'number': refused.number, 'second': refused.second,
+        print(json.dumps({**(more or {'answered' if arguments.command == 'respond' else 'accepted': False}), 'number': refused.number, 'second': refused.second,
                           'words': refused.words, 'place': None, **refused.told}))
     else:
         print('\n'.join([str(refused), *(f'  {line}' for line in refused.detail)]), file=sys.stderr)
@@ -292,24 +301,47 @@ def parsed(words):
 
 def main(words=None):
     """Runs the command; its exit status."""
+    open_streams()
     try:
         arguments = parsed(words)
     except SystemExit as ended:
         return ended.code
     try:
-        status = arguments.function(Library(), arguments)
+        status = run(arguments)
         sys.stdout.flush()
         return status
-    except Refused as refused:
-        complain(arguments, refused)
-        return REFUSED
     except Unusable as error:
         print(f'desk: {error}', file=sys.stderr)
         return UNUSABLE
+    except BrokenPipeError:
+        drop_output()
+        return 128 + signal.SIGPIPE
     except OSError as error:
         print(f'desk: {error.filename or "standard output"}: {error.strerror}', file=sys.stderr)
         drop_output()
         return UNUSABLE
+    except KeyboardInterrupt:
+        print('desk: stopped', file=sys.stderr)
+        drop_output()
+        return 128 + signal.SIGINT
+
+
+def run(arguments):
+    """Runs a command of the words; its exit status."""
+    try:
+        return arguments.function(Library(), arguments)
+    except Refused as refused:
+        complain(arguments, refused)
+        return REFUSED
+
+
+def open_streams():
+    """Puts the null device in the place of standard streams that are closed, and lets a name that standard output cannot show stand in escapes."""
+    for name in ('stdout', 'stderr'):
+        if getattr(sys, name) is None:
+            setattr(sys, name, open(os.devnull, 'w', encoding='utf-8'))
+    if hasattr(sys.stdout, 'reconfigure'):
+        sys.stdout.reconfigure(errors='backslashreplace')
 
 
 def drop_output():

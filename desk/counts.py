@@ -14,6 +14,9 @@ from .library import EDITORS, Records
 
 SIZE = ctypes.sizeof(Records)
 
+# What is behind the name of the records for their pending work, and the file of a folder that names the records.
+PENDING, CLAIM = '.pending', '.counts'
+
 
 def load(path):
     """The records of a file, fresh ones where there is none."""
@@ -44,8 +47,8 @@ class Counts:
 
     def __init__(self, path, *folders):
         """Names the files."""
-        self.path, self.folders = os.path.abspath(path), folders
-        self.pending = self.path + '.pending'
+        self.path, self.folders = os.path.realpath(path), folders
+        self.pending = self.path + PENDING
         self.held, self.records = contextlib.ExitStack(), None
 
     def __enter__(self):
@@ -54,6 +57,7 @@ class Counts:
             self.held.callback(os.close, hold(self.path + '.lock', os.O_CREAT | os.O_RDWR))
             for folder in dict.fromkeys(map(os.path.realpath, self.folders)):
                 self.held.callback(os.close, hold(folder))
+                self.claim(folder)
             self.recover()
             self.records = load(self.path)
             self.held = self.held.pop_all()
@@ -63,13 +67,20 @@ class Counts:
         """Gives them back."""
         self.held.close()
 
+    def claim(self, folder):
+        """Notes in a folder which records its work is counted in, unless work of other records is still pending there."""
+        path = os.path.join(folder, CLAIM)
+        other = os.fsdecode(read(path)) if os.path.exists(path) else ''
+        if other == self.path:
+            return
+        if other and any(os.path.dirname(name) == folder for name in touched(other + PENDING)):
+            raise Unusable(f'{folder}: a run that counts in {other} was stopped here; run that one again first')
+        replace_all({path: os.fsencode(self.path)})
+
     def recover(self):
         """Carries out pending work."""
         if os.path.exists(self.pending):
-            try:
-                work = json.loads(read(self.pending))
-            except ValueError as error:
-                raise Unusable(f'{self.pending}: damaged') from error
+            work = pending_work(self.pending)
             unmoved(work['cards'])
             self.carry_out(work)
 
@@ -88,10 +99,30 @@ class Counts:
         remove(self.pending)
 
 
+def pending_work(path):
+    """What pending work has."""
+    try:
+        work = json.loads(read(path))
+        if isinstance(work, dict) and {'records', 'cards', 'done', 'size', 'lines'} <= work.keys():
+            return work
+        raise ValueError
+    except ValueError as error:
+        raise Unusable(f'{path}: damaged') from error
+
+
+def touched(path):
+    """The files that pending work would write; none where there is no such work."""
+    if not os.path.exists(path):
+        return []
+    work = pending_work(path)
+    return [*work['cards'], *([work['done']] if work['done'] else [])]
+
+
 def unmoved(cards):
-    """Sees that the cards of pending work are what they were, or what they are to be."""
+    """Sees that the cards of pending work are what they were, or what they are to be; one that was not there has no bytes."""
     for path, (before, after) in cards.items():
-        if read(path, 128).hex() not in (before, after):
+        found = read(path, 128).hex() if os.path.exists(path) else ''
+        if found not in (before, after):
             raise Unusable(f'{path}: changed by another hand since a run was stopped; it was {before} and is to be {after}: put one of the two back')
 
 

@@ -1,4 +1,6 @@
 """A rule file read for people: the file, or its refusal in words with the place, what may stand there and what to do."""
+import contextlib
+
 from .advice import advise, stated, suggestions
 from .circles import circle
 from .faults import Refused
@@ -35,7 +37,7 @@ def placed(library, subject, text, number, second):
     detail += [advice] if advice else []
     told = {
         'place': {'offset': place.token.start, 'line': place.line, 'column': place.column,
-                  'token': None if place.is_end else place.token.shown()},
+                  'token': None if place.is_end else place.token.shown() if place.token.part.isascii() else character(place)},
         'may_stand': may_stand, 'did_you_mean': like, 'advice': advice,
     }
     return Refused(f'{subject}:{place.line}:{place.column}', number, second, detail, told, stated(place))
@@ -46,10 +48,17 @@ def found(place):
     if place.is_end:
         return END
     if place.token.part.isascii() and place.token.shown().isprintable():
-        return place.token.shown()
-    character = place.text[place.token.start:place.token.start + 4].decode('utf-8', 'ignore')[:1]
-    code = f'byte {place.token.part[0]:02X}'
-    return f'{character} ({code})' if character.isprintable() and character else code
+        return place.token.shown()[:WIDTH] + ('..' if len(place.token.part) > WIDTH else '')
+    shown, code = character(place), f'byte {place.token.part[0]:02X}'
+    return f'{shown} ({code})' if shown.isprintable() and shown else code
+
+
+def character(place):
+    """The character of UTF-8 that begins at the place, or '' where none does."""
+    for size in range(1, 5):
+        with contextlib.suppress(UnicodeDecodeError):
+            return place.text[place.token.start:place.token.start + size].decode()
+    return ''
 
 
 def listed(parts):
@@ -66,9 +75,10 @@ def marked(place):
     number, column = place.lines.place(at)
     line = place.lines.line(number)
     begin = max(0, column - 1 - WIDTH // 2) if len(line) > WIDTH else 0
+    carets = max(1, min(len(place.token.part), begin + WIDTH - column + 1))
     white = ''.join('\t' if byte == 9 else ' ' for byte in line[begin:column - 1])
     left, right = '..' if begin else '', '..' if begin + WIDTH < len(line) else ''
-    return [f'    {left}{displayed(line[begin:begin + WIDTH])}{right}', f"    {' ' * len(left)}{white}{'^' * max(1, len(place.token.part))}"]
+    return [f'    {left}{displayed(line[begin:begin + WIDTH])}{right}', f"    {' ' * len(left)}{white}{'^' * carets}"]
 
 
 def displayed(line):

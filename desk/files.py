@@ -1,7 +1,9 @@
 """Files read, and written by rename, so that a file is what it was or what it is to be and nothing between."""
 import contextlib
 import ctypes
+import hashlib
 import os
+import stat
 import sys
 
 from .faults import Unusable
@@ -14,6 +16,8 @@ LIBC = ctypes.CDLL(None, use_errno=True)
 def read(path, most=None):
     """The bytes of a file or of standard input; of a long one as many as asked."""
     try:
+        if path == STANDARD and sys.stdin is None:
+            raise Unusable('standard input is closed')
         if path == STANDARD:
             return sys.stdin.buffer.read(-1 if most is None else most)
         with open(path, 'rb') as file:
@@ -22,9 +26,35 @@ def read(path, most=None):
         raise Unusable(f'{path}: {error.strerror}') from error
 
 
+def read_file(path, most):
+    """The first bytes of a file proper; a pipe, which may never have any, and a device are not read."""
+    try:
+        handle = os.open(path, os.O_RDONLY | os.O_NONBLOCK | os.O_CLOEXEC)
+        with open(handle, 'rb') as file:
+            if not stat.S_ISREG(os.fstat(handle).st_mode):
+                raise Unusable(f'{path}: not a file')
+            return file.read(most)
+    except OSError as error:
+        raise Unusable(f'{path}: {error.strerror}') from error
+
+
 def replace(path, data):
-    """Writes a file by rename."""
-    replace_all({path: data}, is_durable=False)
+    """Writes a file by rename; a device or a pipe, which has no place for another file, is written to."""
+    if os.path.exists(path) and not os.path.isfile(path) and not os.path.isdir(path):
+        try:
+            with open(path, 'wb') as file:
+                file.write(data)
+        except OSError as error:
+            raise Unusable(f'{path}: {error.strerror}') from error
+    else:
+        replace_all({path: data}, is_durable=False)
+
+
+def beside(target):
+    """The other name in its folder under which a file is written; a name may have 255 bytes."""
+    folder, name = os.path.split(target)
+    short = name if len(os.fsencode(name)) <= 250 else hashlib.sha256(os.fsencode(name)).hexdigest()
+    return f'{folder}/.{short}.new'
 
 
 def replace_all(contents, is_durable=True):
@@ -33,9 +63,10 @@ def replace_all(contents, is_durable=True):
     try:
         for at, data in contents.items():
             target = os.path.realpath(at) if os.path.islink(at) else os.path.abspath(at)
-            folder, name = os.path.split(target)
-            other = f'{folder}/.{name}.new'
-            handle = os.open(other, os.O_CREAT | os.O_TRUNC | os.O_WRONLY | os.O_CLOEXEC, 0o666)
+            other = beside(target)
+            with contextlib.suppress(FileNotFoundError):
+                os.unlink(other)
+            handle = os.open(other, os.O_CREAT | os.O_EXCL | os.O_WRONLY | os.O_CLOEXEC, 0o666)
             made[target] = other
             try:
                 if os.path.exists(target):

@@ -2,21 +2,23 @@
 import shutil
 import subprocess
 
-# How long Graphviz may take, in seconds.
-PATIENCE = 60
+# How long Graphviz may take, in seconds, and how many arrows it draws with all its care; with more it is told to take less.
+PATIENCE, CAREFUL = 60, 500
+HASTE = '    splines=line; nslimit=0.5; nslimit1=0.5; mclimit=0.05; searchsize=5;'
 
 
 def dot(file):
     """The graph in the language DOT: an arrow from each rule to the rules that test by *= what it assigns, dashed where the test stands under NOT."""
     lines = ['digraph rules {', '    rankdir=BT;', '    node [shape=box, fontname="sans-serif", fontsize=10];', '    edge [fontname="sans-serif", fontsize=8];']
-    strata = {}
+    drawn, strata = arrows(file), {}
+    lines += [HASTE] if len(drawn) > CAREFUL else []
     for rule in file.rules:
         strata.setdefault(rule.stratum, []).append(rule)
     for stratum in sorted(strata):
         lines += [f'    subgraph cluster_{stratum} {{', f'        label="{f"stratum {stratum}" if stratum else "without strata"}"; fontname="sans-serif"; color=gray;']
         lines += [f'        r{rule.number} [label="{label(file, rule)}", tooltip="{file.rule(rule.number)}"];' for rule in strata[stratum]]
         lines.append('    }')
-    for (giver, taker, under_not), pairs in sorted(arrows(file).items()):
+    for (giver, taker, under_not), pairs in sorted(drawn.items()):
         shown = '\\n'.join('{} := {}'.format(*file.named(*pair)) for pair in sorted(pairs))
         lines.append(f'    r{giver} -> r{taker} [label="{shown}"{", style=dashed" if under_not else ""}];')
     return '\n'.join([*lines, '}', ''])
@@ -45,10 +47,12 @@ def arrows(file):
 
 
 def svg(text):
-    """The graph drawn, or None where Graphviz is not installed or does not come to its end."""
+    """The graph drawn and no words, or None and why Graphviz did not draw it."""
     if shutil.which('dot') is None:
-        return None
+        return None, 'it is not installed'
     try:
-        return subprocess.run(['dot', '-Tsvg'], input=text.encode(), capture_output=True, check=True, timeout=PATIENCE).stdout
-    except (OSError, subprocess.SubprocessError):
-        return None
+        return subprocess.run(['dot', '-Tsvg'], input=text.encode(), capture_output=True, check=True, timeout=PATIENCE).stdout, ''
+    except subprocess.TimeoutExpired:
+        return None, f'it took more than {PATIENCE} seconds'
+    except (OSError, subprocess.SubprocessError) as error:
+        return None, str(error)

@@ -103,11 +103,11 @@ FUNCTIONS = {
 
 
 def candidates():
-    """The files that may be the library: the one that is named, then beside the package, of the installation, of the clone, of the system."""
+    """The files that may be the library: the one that is named, then beside the package, of the clone, of the installation, of the system."""
     package = os.path.dirname(os.path.abspath(__file__))
     if VARIABLE in os.environ:
         return [os.environ[VARIABLE]]
-    places = [[package, 'librl.so'], [package, '../../../lib', NAME], [package, '../target/lib', NAME]]
+    places = [[package, 'librl.so'], [package, '../target/lib', NAME], [package, '../../../lib', NAME]]
     return [path for path in (os.path.join(*place) for place in places) if os.path.exists(path)] + [NAME]
 
 
@@ -198,6 +198,8 @@ class Responder:
 
     def respond(self, records, editor, card, slip):
         """The answer to an editor's packed card and packed slip, counted in the records."""
+        if not 0 <= editor <= EDITORS:
+            editor = 0  # ctypes would take a number modulo 2 to the 64
         given = self.function(self.table, records, len(records), editor, card, len(card), slip, len(slip), self.card, CARD_BYTES,
                               self.changes, SLIP_BYTES, self.fired, FIRED_BYTES)
         if given.number:

@@ -91,5 +91,19 @@ class Place:
 
 
 def shortened(text):
-    """A text that is over the limit by what was put behind it, without what no later token's place depends on: white of more than one byte, and its first rule."""
-    return re.sub(rb'\bWHEN\b[^;]*;', b'', re.sub(rb'[\t\n\r ]+', b' ', text), count=1)
+    """A text that is over the limit by what was put behind it, without what no later token depends on: white, and of each complete rule all but its trigger and its first assignment. Every such text is within the limit."""
+    parts, statement = [], []
+    for token in tokens(text):
+        statement.append(token.part)
+        if token.part == b';':
+            parts += least(statement)
+            statement = []
+    return re.sub(rb' ?([{},;]|[*|:]=) ?', rb'\1', b' '.join(parts + statement))
+
+
+def least(statement):
+    """The shortest rule with the trigger and the first assignment of a rule; another statement as it is."""
+    if statement[0] != b'WHEN' or b'THEN' not in statement:
+        return statement
+    assigned = [part for part in statement[statement.index(b'THEN') + 1:] if part != b'{'][:3]
+    return [*statement[:4], b'IF', b'TRUE', b'THEN', *assigned, b';']

@@ -241,6 +241,64 @@ class BatchTest(DeskTest):
         self.assertIn(b'[##############################] 10 of 10', drawn)
         self.assertNotIn('[#', program(*WORDS, cwd=self.folder).err)
 
+    def test_other_rules(self):
+        """An entry that rules of other slots stopped goes on by the right ones."""
+        self.put('wrong.txt', 'SLOT dating { before-1900 };')
+        desk('batch', 'wrong.txt', *WORDS[2:])
+        outcomes = {told['slip']: told['outcome'] for told in desk(*WORDS, '--json').lines()}
+        self.assertEqual(outcomes['14.abbey.1.slip'], 'answered')
+
+    def test_one_card_of_two_names(self):
+        """Slips of two entries whose cards are one file are answered one after the other."""
+        shutil.rmtree('slips')
+        os.symlink('abbey.card', 'cards/alias.card')
+        self.put('slips/1.abbey.1.slip', bytes.fromhex('04 04'))
+        self.put('slips/2.alias.1.slip', bytes.fromhex('04 42'))
+        self.expect(desk(*WORDS), 0)
+        self.assertEqual(self.get('cards/abbey.card').hex(' ').upper(), '0C 84 40')
+        self.assertTrue(os.path.islink('cards/alias.card'))
+
+    def test_pipe_and_long_name(self):
+        """A pipe in the place of a card stops its entry alone; a name may be as long as names are."""
+        shutil.rmtree('slips')
+        os.mkfifo('cards/pipe.card')
+        name = 'e' * 246
+        self.put(f'cards/{name}.card', bytes.fromhex(CARDS['abbey']))
+        self.put('slips/1.pipe.1.slip', bytes.fromhex('04 02'))
+        self.put(f'slips/2.{name}.1.slip', bytes.fromhex('04 02'))
+        self.expect(desk(*WORDS), 1, 'pipe.card: not a file', '2 slips, 1 answered, 1 not')
+
+    def test_odd_numbers(self):
+        """An editor's number is not cut to 64 bits, and its digits are those of ASCII."""
+        shutil.rmtree('slips')
+        self.put(f'slips/1.abbey.{2 ** 64 + 1}.slip', bytes.fromhex('04 02'))
+        self.put('slips/\u0661.abbey.\u0661.slip', bytes.fromhex('04 02'))
+        self.expect(desk(*WORDS), 1, 'refused,44', 'not the name of a slip')
+        self.assertEqual(desk('respond', 'rules.txt', 'cards/abbey.card', f'slips/1.abbey.{2 ** 64 + 1}.slip', '--editor', 2 ** 64 + 1).status, 1)
+
+    def test_records_by_a_link(self):
+        """Records that are named by a link are held like those that it names."""
+        from desk.counts import Counts
+        os.symlink('counts.bin', 'link.bin')
+        with Counts('counts.bin'):
+            self.expect(desk(*WORDS[:-1], 'link.bin'), 2, 'another run works with it now')
+
+    def test_other_records(self):
+        """Slips at which a run was stopped are not taken by a run that counts elsewhere."""
+        for at in range(1, 1000):
+            self.again()
+            failing(self.folder, at, 0, *WORDS)
+            if os.path.exists('counts.bin.pending'):
+                break
+        self.expect(desk(*WORDS[:-1], 'other.bin'), 2, 'counts.bin was stopped here')
+        self.expect(desk(*WORDS), 1)
+        self.expect(desk(*WORDS[:-1], 'other.bin'), 1, '6 slips were done before')
+
+    def test_earlier_refused(self):
+        """With the outcomes of earlier runs the last line still counts those of this run."""
+        desk(*WORDS)
+        self.expect(desk(*WORDS, '--all'), 1, '4 slips, 0 answered, 4 not')
+
 
 if __name__ == '__main__':
     unittest.main()

@@ -4,9 +4,11 @@ import difflib
 import errno
 import os
 import re
+import signal
 import stat
 import subprocess
 import sys
+import time
 import unittest
 
 from running import TOP, DeskTest, desk, example, failing, program
@@ -40,6 +42,20 @@ class Check(DeskTest):
         told = desk('check', '--json', example('dialect', 'rules.txt')).json()
         self.assertEqual([told[name] for name in ('accepted', 'slots', 'rules', 'strata', 'for_rl')], [True, 12, 9, 3, True])
         self.assertEqual(desk('check', '--marks', example('marks', 'rules.txt')).out, f"{example('marks', 'rules.txt')}: 4 slots, 4 rules\n")
+
+    def test_beginners(self):
+        """What is said of mistakes that beginners make is about them."""
+        slots, rule = 'SLOT x {0,1};\nSLOT y {0,1};\n', 'WHEN x *= 1 IF y |= 0 THEN y := 1;'
+        for text, said in ((slots + rule.replace('|=', '!='), 'write NOT before the test'), ('SLOT x: 0, 1;', 'stand in braces'), ('SLOT x {0 | 1};', 'commas between'),
+                           ('SLOT part of speech {noun};', 'a name is one word'), ('SLOT x {1.5};', 'write - for .'), ('SLOT x {TRUE};', 'reserved word and no name'),
+                           (slots + rule.replace(':= 1', ':= NULL'), 'the word for no value is NONE'), (slots + rule.replace('y |= 0', 'FALSE'), 'there is no FALSE'),
+                           (slots + rule.replace('THEN', '->'), 'write THEN'), ('SLOT x {0}\u037e', 'only looks like ;'), (slots + rule + ';', 'take this one away'),
+                           ('SLOT a {b};\nSLOT b {c};\nSLOT b {d};', 'declared in line 2'), ('SLOT x\n{a,\nx,\nb,\nx};', 'declared in line 3')):
+            self.refused(text, said)
+
+    def test_long_name(self):
+        """Of a name of any length a line's width is shown."""
+        self.assertLess(len(desk('check', self.put('rules.txt', f"SLOT {'a' * 100000} {{ b }};")).err), 600)
 
     def test_several(self):
         """Several files are checked one after the other, and one that is refused stops none."""
@@ -362,6 +378,65 @@ class Usage(DeskTest):
             with open('/dev/full', 'wb') as full:
                 ran = subprocess.run([sys.executable, '-m', 'desk', *words], env=dict(os.environ, PYTHONPATH=TOP), stdout=full, stderr=subprocess.PIPE, check=False)
             self.assertEqual((ran.returncode, ran.stderr), (2, b'desk: standard output: No space left on device\n'))
+
+    def test_closed_streams(self):
+        """Closed streams show no trace of the program, and messages never go to standard output."""
+        rules = self.put('rules.txt', RULES)
+        for words, status in ((f'check {rules} >&-', 0), ('check /none 2>&-', 2), ('check - <&-', 2), (f'check {rules} >&- 2>&-', 0)):
+            ran = subprocess.run(['bash', '-c', f'{sys.executable} -m desk {words}'], env=dict(os.environ, PYTHONPATH=TOP), capture_output=True, check=False)
+            self.assertEqual((ran.returncode, ran.stdout, b'Traceback' in ran.stderr), (status, b'', False), words)
+
+    def test_refusals_on_a_full_disk(self):
+        """A refusal for programs that standard output does not take is told with status 2."""
+        with open('/dev/full', 'wb') as full:
+            ran = subprocess.run([sys.executable, '-m', 'desk', 'graph', '--json', self.put('rules.txt', 'SLOT')], env=dict(os.environ, PYTHONPATH=TOP), stdout=full, stderr=subprocess.PIPE, check=False)
+        self.assertEqual((ran.returncode, ran.stderr), (2, b'desk: standard output: No space left on device\n'))
+
+    def test_names_of_any_bytes(self):
+        """A file's name that standard output cannot show stands in escapes."""
+        for name, encoding in ((b'\xff.txt', 'utf-8'), ('\u00e9.txt'.encode(), 'ascii')):
+            path = os.path.join(os.fsencode(self.folder), name)
+            with open(path, 'wb') as file:
+                file.write(RULES.encode())
+            ran = subprocess.run([sys.executable, '-m', 'desk', 'check', path], env=dict(os.environ, PYTHONPATH=TOP, PYTHONIOENCODING=encoding), capture_output=True, check=False)
+            self.assertEqual((ran.returncode, ran.stderr), (0, b''))
+
+    def test_interrupted(self):
+        """Ctrl-C shows no trace of the program."""
+        os.mkfifo(self.path('pipe'))
+        run = subprocess.Popen([sys.executable, '-m', 'desk', 'check', self.path('pipe')], env=dict(os.environ, PYTHONPATH=TOP), stderr=subprocess.PIPE)
+        time.sleep(1)
+        run.send_signal(signal.SIGINT)
+        self.assertEqual((run.communicate()[1], run.returncode), (b'desk: stopped\n', 128 + signal.SIGINT))
+
+    def test_written_places(self):
+        """A pipe is written to and stays one; what lies at the other name of a file is not written through."""
+        rules = self.put('rules.txt', RULES)
+        os.mkfifo(self.path('pipe'))
+        handle = os.open(self.path('pipe'), os.O_RDWR)
+        self.expect(desk('card', rules, '-o', self.path('pipe')), 0)
+        self.assertTrue(os.read(handle, 100))
+        os.close(handle)
+        self.assertTrue(stat.S_ISFIFO(os.stat(self.path('pipe')).st_mode))
+        self.put('other', 'words')
+        os.symlink('other', self.path('.card.bin.new'))
+        self.expect(desk('card', rules, '-o', self.path('card.bin')), 0)
+        self.assertEqual((self.get('other'), os.path.islink(self.path('card.bin'))), (b'words', False))
+
+    def test_standard_streams_once(self):
+        """Standard input is one file alone, and standard output has the answer."""
+        rules, card = example('case-c', 'rules.txt'), example('case-c', 'card.bin')
+        self.expect(desk('respond', rules, '-', '-'), 2, 'one of the files alone')
+        self.expect(desk('respond', rules, card, card, '-o', '-'), 2, 'name a file for the new card')
+
+    def test_new_card_of_a_killed_run(self):
+        """A response that is killed before it wrote a card that was not there is carried out by the next one."""
+        words = ('respond', example('case-c', 'rules.txt'), example('case-c', 'card.bin'), example('case-c', 'slip.bin'), '--editors', self.path('counts.bin'))
+        for at in range(1, 100):
+            if failing(self.folder, at, 0, *words, '-o', self.path(f'{at}.card')).status == 0:
+                break
+            self.expect(desk(*words), 0)
+        self.assertGreater(at, 10)
 
     def test_library(self):
         """A library that is not there, or is none, is told with status 2."""
