@@ -2,6 +2,8 @@
 import shutil
 import subprocess
 
+CAPTION = 'an arrow leads from a rule to one that waits for what it assigns; dashed, to one that asks for it under NOT'
+
 # How long Graphviz may take, in seconds, and how many arrows it draws with all its care; with more it is told to take less.
 PATIENCE, CAREFUL = 60, 500
 HASTE = '    splines=line; nslimit=0.5; nslimit1=0.5; mclimit=0.05; searchsize=5;'
@@ -9,7 +11,7 @@ HASTE = '    splines=line; nslimit=0.5; nslimit1=0.5; mclimit=0.05; searchsize=5
 
 def dot(file):
     """The graph in the language DOT: an arrow from each rule to the rules that test by *= what it assigns, dashed where the test stands under NOT."""
-    lines = ['digraph rules {', '    rankdir=BT;', '    node [shape=box, fontname="sans-serif", fontsize=10];', '    edge [fontname="sans-serif", fontsize=8];']
+    lines = ['digraph rules {', f'    rankdir=BT; label="{CAPTION}"; fontname="sans-serif"; fontsize=10;', '    node [shape=box, fontname="sans-serif", fontsize=10];', '    edge [fontname="sans-serif", fontsize=8];']
     drawn, strata = arrows(file), {}
     lines += [HASTE] if len(drawn) > CAREFUL else []
     for rule in file.rules:
@@ -28,7 +30,8 @@ def label(file, rule):
     """A rule on several lines."""
     trigger, *literals = map(file.test, rule.tests)
     assigns = ['{} := {}'.format(*file.named(*pair)) for pair in rule.assigns]
-    return '\\l'.join([f'rule {rule.number}, line {rule.line}', f'WHEN {trigger}', *(f'IF {test}' for test in literals), *(f'THEN {one}' for one in assigns), ''])
+    tests = [f"{'AND' if at else 'IF'} {test}" for at, test in enumerate(literals)]
+    return '\\l'.join([f'rule {rule.number}, line {rule.line}', f'WHEN {trigger}', *tests, *(f'THEN {one}' for one in assigns), ''])
 
 
 def arrows(file):
