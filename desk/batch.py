@@ -8,7 +8,7 @@ import sys
 import time
 
 from .counts import Counts
-from .entries import ROOM, word_of
+from .entries import ROOM
 from .faults import WORDS, Unusable
 from .files import read, read_file
 from .library import Responder
@@ -18,12 +18,12 @@ SLIP = re.compile(r'(?P<order>[0-9]+)\.(?P<entry>.+)\.(?P<editor>[0-9]+)\.slip')
 CARD = '.card'
 
 # The list of the slips that are done, in their folder.
-DONE = 'done.jsonl'
+LIST = 'done.jsonl'
 
 # How many slips are carried out at once, and how often the bar is drawn, in seconds.
 TOGETHER, DRAWN = 2000, 0.1
 
-COLUMNS = ('slip', 'entry', 'editor', 'outcome', 'number', 'second', 'words', 'changes', 'fired', 'card', 'answered', 'refused')
+COLUMNS = ('slip', 'entry', 'editor', 'outcome', 'number', 'second', 'words', 'changes', 'fired', 'packed_card', 'answered', 'refused')
 
 # Refusals of a damaged card.
 DAMAGED = range(20, 24)
@@ -35,7 +35,7 @@ class Day:
     def __init__(self, file, cards, slips, counts):
         """Finds the slips, and those that are done."""
         self.file, self.cards, self.slips, self.counts = file, os.path.realpath(cards), os.path.realpath(slips), counts
-        self.done_path = os.path.join(self.slips, DONE)
+        self.done_path = os.path.join(self.slips, LIST)
         self.earlier = earlier(self.done_path)
         done = {outcome['slip'] for outcome in self.earlier}
         self.misnamed, found = [], []
@@ -43,7 +43,7 @@ class Day:
             match = SLIP.fullmatch(name)
             if match:
                 found.append((int(match['order']), name, match['entry'], int(match['editor'])))
-            elif not name.startswith('.') and name != DONE:
+            elif name.endswith('.slip'):
                 self.misnamed.append(name)
         self.left = [one for one in sorted(found) if one[1] not in done]
         self.responder = Responder(file.library, file.table, file.by_marks)
@@ -58,23 +58,24 @@ class Day:
         if outcome.get('number') in DAMAGED:
             self.damaged.add(outcome['entry'])
 
-    def words(self, changes):
-        """The words of packed changes; those of changes seen before are kept."""
+    def named(self, changes):
+        """Packed changes by name; those of changes seen before are kept."""
         if changes not in self.shown:
             pairs = self.file.library.unpack_slip(self.file.bare, changes)[2]
-            self.shown[changes] = ' '.join(word_of(self.file, pair) for pair in pairs)
+            self.shown[changes] = [dict(zip(('slot', 'value'), self.file.named(*pair))) for pair in pairs]
         return self.shown[changes]
 
-    def run(self, stop):
-        """The outcomes in the order of the slips, some at once; what was counted is on the disk before it is given."""
+    def run(self, stop, bar):
+        """The outcomes in the order of the slips, some at once; what is done is on the disk before it is given."""
         for begin in range(0, len(self.left), TOGETHER):
             cards, outcomes = {}, []
             for _, name, entry, editor in self.left[begin:begin + TOGETHER]:
                 if stop():
                     break
                 outcomes.append(self.answer(name, entry, editor, cards))
+                bar.draw(begin + len(outcomes))
             written = {path: states for path, states in cards.items() if states[0] != states[1]}
-            lines = [json.dumps(outcome) for outcome in outcomes if counted(outcome)]
+            lines = [json.dumps(outcome) for outcome in outcomes if is_done(outcome)]
             if lines:
                 self.counts.commit(written, self.done_path, lines)
             yield outcomes
@@ -95,18 +96,20 @@ class Day:
         except Unusable as error:
             self.unread.add(entry)
             return {**outcome, 'outcome': 'unread', 'words': str(error)}
-        if entry in self.damaged and self.file.library.unpack_card(self.file.bare, bytes.fromhex(cards[path][1]))[0]:
+        card = bytes.fromhex(cards[path][1])
+        if entry in self.damaged and self.file.library.unpack_card(self.file.bare, card)[0]:
             return {**outcome, 'outcome': 'held', 'words': 'an earlier slip found the card of this entry damaged'}
-        answer = self.responder.respond(self.counts.records, editor, bytes.fromhex(cards[path][1]), slip)
-        if 1 <= editor <= len(self.counts.records):
-            record = self.counts.records[editor - 1]
-            outcome.update(answered=record.answered, refused=record.refused)
+        answer = self.responder.respond(self.counts.records, editor, card, slip)
         if answer.number == 0:
-            cards[path][1] = answer.card.hex()
-            outcome.update(outcome='answered', number=0, second=0, changes=self.words(answer.changes), fired=' '.join(map(str, answer.rules())))
+            card = answer.card
+            cards[path][1] = card.hex()
+            outcome.update(outcome='answered', number=0, second=0, changes=self.named(answer.changes), fired=answer.rules())
         else:
             outcome.update(outcome='refused', number=answer.number, second=answer.second, words=self.reason(answer))
-        outcome['card'] = cards[path][1]
+        outcome['packed_card'] = card.hex(' ').upper()
+        if 1 <= editor <= len(self.counts.records):
+            record = self.counts.records[editor - 1]
+            outcome['record'] = {'answered': record.answered, 'refused': record.refused}
         self.note(outcome)
         return outcome
 
@@ -137,9 +140,14 @@ def earlier(path):
         raise Unusable(f'{path}: damaged') from error
 
 
-def counted(outcome):
-    """Whether an outcome is in an editor's record: an answer, or a refusal but 44 and 32."""
-    return outcome['outcome'] in ('answered', 'refused') and outcome['number'] not in (32, 44)
+def is_done(outcome):
+    """Whether a slip has its outcome for good: it was answered or refused, and not held or unread."""
+    return outcome['outcome'] in ('answered', 'refused')
+
+
+def is_answered(outcome):
+    """Whether a slip was answered."""
+    return outcome['outcome'] == 'answered'
 
 
 class Bar:
@@ -189,8 +197,7 @@ class Stop:
 
 def work(file, arguments):
     """Answers a day's slips and prints each outcome; the exit status, 0 where all were answered, 1 where one was not."""
-    out = csv.DictWriter(sys.stdout, COLUMNS, lineterminator='\n', extrasaction='ignore')
-    stop = Stop()
+    stop, outcomes = Stop(), []
     with Counts(arguments.editors, arguments.cards, arguments.slips) as counts:
         day = Day(file, arguments.cards, arguments.slips, counts)
         if not os.path.exists(arguments.editors):
@@ -199,29 +206,41 @@ def work(file, arguments):
             print(f'{name}: not the name of a slip, ORDER.ENTRY.EDITOR.slip; left alone', file=sys.stderr)
         if day.earlier:
             print(f'{len(day.earlier):,} slips were done before and are not counted again', file=sys.stderr)
-        if not arguments.json:
-            out.writeheader()
-        found = day.earlier if arguments.all else []
-        show(out, found, arguments.json)
-        bar, done, unanswered = Bar(sys.stderr, len(day.left)), 0, 0
-        for outcomes in day.run(stop):
-            show(out, outcomes, arguments.json)
-            done += len(outcomes)
-            unanswered += sum(outcome['outcome'] != 'answered' for outcome in outcomes)
-            bar.draw(done)
+        printer, bar = Printer(arguments.json), Bar(sys.stderr, len(day.left))
+        earlier_shown = day.earlier if arguments.all else []
+        printer.print(earlier_shown)
+        for some in day.run(stop, bar):
+            printer.print(some)
+            outcomes += map(is_answered, some)
         bar.close()
-    left = len(day.left) - done
-    print(f'{done:,} slips, {done - unanswered:,} answered, {unanswered:,} not' + (f'; stopped, {left:,} left' if left else ''), file=sys.stderr)
+    left, answered = len(day.left) - len(outcomes), sum(outcomes)
+    rest = f'; stopped, {left:,} left' if left else ''
+    print(f'{len(outcomes):,} slips, {answered:,} answered, {len(outcomes) - answered:,} not{rest}', file=sys.stderr)
     if left:
         return 128 + stop.signal
-    return 1 if unanswered or day.misnamed or any(outcome['outcome'] != 'answered' for outcome in found) else 0
+    return 0 if all(outcomes) and all(map(is_answered, earlier_shown)) and not day.misnamed else 1
 
 
-def show(out, outcomes, as_json):
-    """Prints outcomes, a line each."""
-    for outcome in outcomes:
-        if as_json:
-            print(json.dumps(outcome))
-        else:
-            out.writerow(outcome)
-    sys.stdout.flush()
+class Printer:
+    """Outcomes on standard output, a line each, as JSON or as CSV below the names of its columns."""
+
+    def __init__(self, is_json):
+        """Prints the names of the columns of CSV."""
+        self.rows = None if is_json else csv.DictWriter(sys.stdout, COLUMNS, lineterminator='\n', extrasaction='ignore')
+        if self.rows:
+            self.rows.writeheader()
+
+    def print(self, outcomes):
+        """Prints some outcomes."""
+        for outcome in outcomes:
+            if self.rows:
+                self.rows.writerow(row(outcome))
+            else:
+                print(json.dumps(outcome))
+        sys.stdout.flush()
+
+
+def row(outcome):
+    """An outcome as a row of CSV: changes and rules as words with spaces between."""
+    changes = ' '.join(f"{change['slot']}={change['value']}" for change in outcome.get('changes', ()))
+    return {**outcome, **outcome.get('record', {}), 'changes': changes, 'fired': ' '.join(map(str, outcome.get('fired', ())))}

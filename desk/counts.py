@@ -8,6 +8,7 @@ import fcntl
 import json
 import os
 
+from .entries import ROOM
 from .faults import Unusable
 from .files import put_behind, read, remove, replace_all
 from .library import EDITORS, Records
@@ -18,7 +19,7 @@ SIZE = ctypes.sizeof(Records)
 PENDING, CLAIM = '.pending', '.counts'
 
 
-def load(path):
+def load_records(path):
     """The records of a file, fresh ones where there is none."""
     if not os.path.exists(path):
         return Records()
@@ -59,7 +60,7 @@ class Counts:
                 self.held.callback(os.close, hold(folder))
                 self.claim(folder)
             self.recover()
-            self.records = load(self.path)
+            self.records = load_records(self.path)
             self.held = self.held.pop_all()
         return self
 
@@ -121,7 +122,7 @@ def touched(path):
 def unmoved(cards):
     """Sees that the cards of pending work are what they were, or what they are to be; one that was not there has no bytes."""
     for path, (before, after) in cards.items():
-        found = read(path, 128).hex() if os.path.exists(path) else ''
+        found = read(path, ROOM).hex() if os.path.exists(path) else ''
         if found not in (before, after):
             raise Unusable(f'{path}: changed by another hand since a run was stopped; it was {before} and is to be {after}: put one of the two back')
 

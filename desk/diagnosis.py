@@ -40,7 +40,7 @@ def placed(library, subject, text, number, second):
                   'token': None if place.is_end else place.token.shown() if place.token.part.isascii() else character(place)},
         'may_stand': may_stand, 'did_you_mean': like, 'advice': advice,
     }
-    return Refused(f'{subject}:{place.line}:{place.column}', number, second, detail, told, stated(place))
+    return Refused(subject, number, second, detail, told, stated(place), f':{place.line}:{place.column}')
 
 
 def found(place):

@@ -65,15 +65,13 @@ def make_slip(file, words):
 
 
 def load_card(file, path):
-    """The bytes and the values of the card in a file."""
-    data = read(path, ROOM)
-    return data, unrefused(path, file, *file.library.unpack_card(file.bare, data))
+    """The values of the card in a file."""
+    return unrefused(path, file, *file.library.unpack_card(file.bare, read(path, ROOM)))
 
 
 def load_slip(file, path):
-    """The bytes and the changes of the slip in a file."""
-    data = read(path, ROOM)
-    return data, unrefused(path, file, *file.library.unpack_slip(file.bare, data))
+    """The changes of the slip in a file."""
+    return unrefused(path, file, *file.library.unpack_slip(file.bare, read(path, ROOM)))
 
 
 def unrefused(subject, file, number, second, given):
@@ -84,7 +82,7 @@ def unrefused(subject, file, number, second, given):
 
 
 def detail(file, number, second):
-    """What a second number of 22 or 25 to 27 says, in words."""
+    """What a refusal of 21, 22 or 25 to 27 says here, in words."""
     if number == 22:
         return [f'slot {second} is {file.slots[second]}, which has {len(file.values[second]) - 1} values']
     if number == 21:
@@ -92,8 +90,3 @@ def detail(file, number, second):
     if 25 <= number <= 27:
         return [f'it is change {second}, counted from 0']
     return []
-
-
-def card_words(file, values):
-    """The words of a card, a slot each."""
-    return [word_of(file, pair) for pair in enumerate(values)]

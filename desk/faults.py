@@ -8,10 +8,10 @@ class Unusable(Exception):
 class Refused(Exception):
     """A refusal: its two numbers, in words, with what else is told of it for people and for programs; exit status 1."""
 
-    def __init__(self, subject, number, second, detail=(), told=None, words=None):
-        """Keeps what is refused, the numbers, the lines that explain it, the same for programs, and words for this case alone."""
-        self.number, self.second, self.words = number, second, words or WORDS[number]
-        super().__init__(f'{subject}: refused {number} {second}: {self.words}')
+    def __init__(self, file, number, second, detail=(), told=None, words=None, at=''):
+        """Keeps what is refused, the numbers, the lines that explain it, the same for programs, words for this case alone, and the place in the file."""
+        self.file, self.number, self.second, self.words = file, number, second, words or WORDS[number]
+        super().__init__(f'{file}{at}: refused {number} {second}: {self.words}')
         self.detail, self.told = list(detail), dict(told or {})
 
 

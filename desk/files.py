@@ -40,6 +40,8 @@ def read_file(path, most):
 
 def replace(path, data):
     """Writes a file by rename; a device or a pipe, which has no place for another file, is written to."""
+    if path.endswith('/'):
+        raise Unusable(f'{path}: a folder')
     if os.path.exists(path) and not os.path.isfile(path) and not os.path.isdir(path):
         try:
             with open(path, 'wb') as file:
@@ -47,7 +49,7 @@ def replace(path, data):
         except OSError as error:
             raise Unusable(f'{path}: {error.strerror}') from error
     else:
-        replace_all({path: data}, is_durable=False)
+        replace_all({path: data})
 
 
 def beside(target):
@@ -57,8 +59,8 @@ def beside(target):
     return f'{folder}/.{short}.new'
 
 
-def replace_all(contents, is_durable=True):
-    """Writes each file under another name in its folder, with the mode that it had, and then renames them all; where that is asked they are on the disk before they are renamed, and their names afterwards."""
+def replace_all(contents):
+    """Writes each file under another name in its folder, with the mode that it had, and then renames them all; they are on the disk before they are renamed, and their names afterwards."""
     made, at = {}, None
     try:
         for at, data in contents.items():
@@ -72,10 +74,12 @@ def replace_all(contents, is_durable=True):
                 if os.path.exists(target):
                     os.fchmod(handle, os.stat(target).st_mode & 0o777)
                 write(handle, data)
+                if len(contents) == 1:
+                    os.fsync(handle)
             finally:
                 os.close(handle)
-        folders = {os.path.dirname(target) for target in made} if is_durable else ()
-        for folder in folders:
+        folders = {os.path.dirname(target) for target in made}
+        for folder in folders if len(contents) > 1 else ():
             sync(folder, LIBC.syncfs)
         for target in list(made):
             at = target

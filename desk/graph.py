@@ -49,13 +49,25 @@ def arrows(file):
     return found
 
 
-def svg(text):
-    """The graph drawn and no words, or None and why Graphviz did not draw it."""
+def told(file):
+    """The same for programs: the rules, and the arrows with the pairs behind each."""
+    pairs = {arrow: [dict(zip(('slot', 'value'), file.named(*pair))) for pair in sorted(found)] for arrow, found in arrows(file).items()}
+    return {
+        'rules': [{'rule': rule.number, 'line': rule.line, 'stratum': rule.stratum, 'text': file.rule(rule.number)} for rule in file.rules],
+        'arrows': [{'from': giver, 'to': taker, 'under_not': under_not, 'pairs': found} for (giver, taker, under_not), found in sorted(pairs.items())],
+    }
+
+
+def drawn(file, as_dot):
+    """The graph as SVG, or as DOT text where that is asked for or Graphviz does not draw it, and then why."""
+    text = dot(file)
+    if as_dot:
+        return text.encode(), ''
     if shutil.which('dot') is None:
-        return None, 'it is not installed'
+        return text.encode(), 'it is not installed'
     try:
         return subprocess.run(['dot', '-Tsvg'], input=text.encode(), capture_output=True, check=True, timeout=PATIENCE).stdout, ''
     except subprocess.TimeoutExpired:
-        return None, f'it took more than {PATIENCE} seconds'
+        return text.encode(), f'it took more than {PATIENCE} seconds'
     except (OSError, subprocess.SubprocessError) as error:
-        return None, str(error)
+        return text.encode(), str(error)

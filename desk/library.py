@@ -16,14 +16,14 @@ CARD_BYTES, SLIP_BYTES, FIRED_BYTES, EDITORS = 17, 37, 250, 40
 NAME, VARIABLE = 'librl.so.1', 'DESK_LIBRARY'
 
 
-class Place(Structure):
+class Stretch(Structure):
     """Where a name stands in the rule text."""
     _fields_ = [('start', c_uint32), ('size', c_uint32)]
 
 
-class Slot(Structure):
+class TableSlot(Structure):
     """A slot: its name and its values' names with the number used."""
-    _fields_ = [('name', Place), ('values', Place * VALUES), ('count', c_uint16)]
+    _fields_ = [('name', Stretch), ('values', Stretch * VALUES), ('count', c_uint16)]
 
 
 class Literal(Structure):
@@ -36,7 +36,7 @@ class Pair(Structure):
     _fields_ = [('slot', c_uint8), ('value', c_uint8)]
 
 
-class Rule(Structure):
+class TableRule(Structure):
     """A rule: its trigger, its literals and assignments with the numbers used, its stratum."""
     _fields_ = [('slot', c_uint8), ('value', c_uint8), ('literals', Literal * LITERALS), ('tested', c_uint8),
                 ('assignments', Pair * ASSIGNMENTS), ('assigned', c_uint8), ('stratum', c_uint16)]
@@ -44,7 +44,7 @@ class Rule(Structure):
 
 class Table(Structure):
     """The table: slots and rules with the numbers used."""
-    _fields_ = [('slots', Slot * SLOTS), ('width', c_uint16), ('rules', Rule * RULES), ('count', c_uint16)]
+    _fields_ = [('slots', TableSlot * SLOTS), ('width', c_uint16), ('rules', TableRule * RULES), ('count', c_uint16)]
 
 
 class CardForm(Structure):

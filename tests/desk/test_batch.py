@@ -94,18 +94,20 @@ class BatchTest(DeskTest):
         run = desk(*WORDS, '--json')
         self.expect(run, 1)
         for (entry, editor, _, outcome, number, changes, fired), told in zip(SLIPS, run.lines()):
-            self.assertEqual((told['entry'], told['editor'], told['outcome'], told.get('number'), told.get('changes', ''), told.get('fired', '')),
-                             (entry, editor, outcome, number, changes, fired))
+            told_changes = ' '.join(f"{one['slot']}={one['value']}" for one in told.get('changes', ()))
+            self.assertEqual((told['entry'], told['editor'], told['outcome'], told.get('number'), told_changes, told.get('fired', [])),
+                             (entry, editor, outcome, number, changes, [int(rule) for rule in fired.split()]))
         self.assertEqual(self.get('counts.bin'), counts({1: (8, 1), 2: (1, 1), 40: (0, 1), FULL: (9999, 7)}))
         self.assertEqual({name: self.get(f'cards/{name}.card').hex(' ').upper() for name in CARDS},
                          {'abbey': '0C 84 00', 'barn': '0C 48 80', 'croft': '0C 88 40', 'damaged': '0C 04 4F'})
-        self.assertEqual(len(self.get('slips/done.jsonl').splitlines()), 6)
+        self.assertEqual(len(self.get('slips/done.jsonl').splitlines()), 8)
 
     def test_csv(self):
         """As CSV the same outcomes stand on a line each, below their names."""
         run = desk(*WORDS)
         rows = list(csv.DictReader(io.StringIO(run.out)))
-        self.assertEqual([(row['entry'], row['outcome']) for row in rows], [(slip[0], slip[3]) for slip in SLIPS])
+        self.assertEqual([(row['entry'], row['outcome'], row['changes'], row['fired']) for row in rows], [(slip[0], slip[3], slip[5], slip[6]) for slip in SLIPS])
+        self.assertEqual((rows[0]['packed_card'], rows[0]['answered'], rows[0]['refused']), ('0C 48 80', '6', '1'))
         self.assertIn('0 answered', desk('show', 'rules.txt', '--editors', 'counts.bin').out)
         self.expect(run, 1, '10 slips, 4 answered, 6 not')
 
@@ -118,16 +120,16 @@ class BatchTest(DeskTest):
         self.expect(desk(*WORDS), 0, '4 slips were done before', '0 slips')
 
     def test_twice(self):
-        """A day that is run again counts nothing twice; what was not counted is tried again, and after a card is mended its slips are answered."""
+        """A day that is run again counts nothing twice; what was held or not read is tried again, and after a card is mended its slips are answered."""
         desk(*WORDS)
         before = self.state()
-        self.expect(desk(*WORDS), 1, '6 slips were done before', '4 slips, 0 answered, 4 not')
+        self.expect(desk(*WORDS), 1, '8 slips were done before', '2 slips, 0 answered, 2 not')
         self.assertEqual(self.state(), before)
         self.put('cards/damaged.card', bytes.fromhex('0C 04 40'))
         self.put('cards/lost.card', bytes.fromhex('0C 04 40'))
         run = desk(*WORDS, '--json')
         self.assertEqual([(told['entry'], told['outcome']) for told in run.lines()],
-                         [('damaged', 'answered'), ('lost', 'answered'), ('croft', 'refused'), ('croft', 'refused')])
+                         [('damaged', 'answered'), ('lost', 'answered')])
         self.assertEqual(self.get('counts.bin'), counts({1: (9, 1), 2: (1, 1), 3: (1, 0), 40: (0, 1), FULL: (9999, 7)}))
         self.assertEqual(len(desk(*WORDS, '--json', '--all').lines()), 10)
 
@@ -203,7 +205,10 @@ class BatchTest(DeskTest):
     def test_files(self):
         """Files that are not in order are told with status 2; a file that is no slip is left alone."""
         self.put('slips/notes.txt', 'words')
-        self.expect(desk(*WORDS), 1, 'notes.txt: not the name of a slip')
+        self.put('slips/abbey.slip', b'\0')
+        run = desk(*WORDS)
+        self.expect(run, 1, 'abbey.slip: not the name of a slip')
+        self.assertNotIn('notes.txt', run.err)
         self.put('counts.bin', b'\0' * 159)
         self.expect(desk(*WORDS), 2, 'counts.bin: not 40 records of 4 bytes')
         os.unlink('counts.bin')
@@ -292,12 +297,12 @@ class BatchTest(DeskTest):
                 break
         self.expect(desk(*WORDS[:-1], 'other.bin'), 2, 'counts.bin was stopped here')
         self.expect(desk(*WORDS), 1)
-        self.expect(desk(*WORDS[:-1], 'other.bin'), 1, '6 slips were done before')
+        self.expect(desk(*WORDS[:-1], 'other.bin'), 1, '8 slips were done before')
 
     def test_earlier_refused(self):
         """With the outcomes of earlier runs the last line still counts those of this run."""
         desk(*WORDS)
-        self.expect(desk(*WORDS, '--all'), 1, '4 slips, 0 answered, 4 not')
+        self.expect(desk(*WORDS, '--all'), 1, '2 slips, 0 answered, 2 not')
 
 
 if __name__ == '__main__':

@@ -212,7 +212,7 @@ class Entries(DeskTest):
         self.assertEqual(desk('slip', rules).out, '00\n')
         card = self.put('card.bin', bytes.fromhex('08 04'))
         self.assertEqual(desk('card', rules, '--change', card, 'dating=from-1900').out, '08 84\n')
-        self.assertEqual(desk('card', '--json', rules, 'status=current').json(), {'bytes': '08 04', 'pairs': {'dating': 'NONE', 'status': 'current'}})
+        self.assertEqual(desk('card', '--json', rules, 'status=current').json(), {'packed': '08 04', 'pairs': {'dating': 'NONE', 'status': 'current'}})
         self.assertEqual(program('slip', rules, 'dating=NONE', '-o', '-').out, '\x04\x00')
 
     def test_wrong_words(self):
@@ -258,7 +258,7 @@ class Respond(DeskTest):
                 listing = [line.split() for line in file]
             told = desk('respond', '--json', *(example(name, part) for part in ('rules.txt', 'card.bin', 'slip.bin'))).json()
             self.assertEqual([[one['slot'], one['value']] for one in told['changes']], [line[1:] for line in listing if line[0] == 'change'])
-            self.assertEqual(told['card_bytes'].replace(' ', ''), [line[1] for line in listing if line[0] == 'card'][0])
+            self.assertEqual(told['packed_card'].replace(' ', ''), [line[1] for line in listing if line[0] == 'card'][0])
             self.assertEqual([one['rule'] for one in told['fired']], [int(line[1]) for line in listing if line[0] == 'rule' and line[-1] == 'fired'])
             with open(example(name, 'print.txt'), encoding='ascii') as file:
                 lines = [line.rstrip('\n') for line in file]
@@ -453,7 +453,7 @@ class Usage(DeskTest):
         for ours, theirs in (('SLOTS', 'SLOTS'), ('VALUES', 'VALUES'), ('RULES', 'RULES'), ('LITERALS', 'LITERALS'), ('ASSIGNMENTS', 'ASSIGNMENTS'), ('CARD_BYTES', 'CARD_BYTES'),
                              ('SLIP_BYTES', 'SLIP_BYTES'), ('FIRED_BYTES', 'FIRED_BYTES'), ('TEXT_BYTES', 'PRINT_BYTES'), ('EDITORS', 'EDITORS')):
             self.assertEqual(getattr(library, ours), limits[theirs])
-        for ours, theirs in (('Place', 'RlPlace'), ('Slot', 'RlSlot'), ('Literal', 'RlLiteral'), ('Pair', 'RlAssignment'), ('Rule', 'RlRule'), ('Table', 'RlTable'), ('CardForm', 'RlCardForm'),
+        for ours, theirs in (('Stretch', 'RlPlace'), ('TableSlot', 'RlSlot'), ('Literal', 'RlLiteral'), ('Pair', 'RlAssignment'), ('TableRule', 'RlRule'), ('Table', 'RlTable'), ('CardForm', 'RlCardForm'),
                              ('SlipForm', 'RlSlipForm'), ('Tally', 'RlTally'), ('Read', 'RlRead'), ('Named', 'RlName'), ('Card', 'RlCard'), ('Slip', 'RlSlip'), ('Packed', 'RlPacked'), ('Response', 'RlResponse')):
             size = re.search(rf'sizeof\({theirs}\) == (\d+)', header)[1]
             self.assertEqual(ctypes.sizeof(getattr(library, ours)), int(size), theirs)
