@@ -51,12 +51,18 @@ class Day:
         for outcome in self.earlier:
             self.note(outcome)
         self.unread = set()
-        self.shown = {}
+        self.paths, self.shown = {}, {}
 
     def note(self, outcome):
         """Keeps the entries whose card was found damaged."""
         if outcome.get('number') in DAMAGED:
             self.damaged.add(outcome['entry'])
+
+    def path_of(self, entry):
+        """The path of an entry's card, which two entries may share by a link."""
+        if entry not in self.paths:
+            self.paths[entry] = os.path.realpath(f'{self.cards}/{entry}{CARD}')
+        return self.paths[entry]
 
     def named(self, changes):
         """Packed changes by name; those of changes seen before are kept."""
@@ -85,7 +91,7 @@ class Day:
     def answer(self, name, entry, editor, cards):
         """What one slip comes to; a card that is changed is kept until it is written. An entry whose card is damaged, or of which something could not be read, is stopped: its later slips are held until that is mended."""
         outcome = {'slip': name, 'entry': entry, 'editor': editor}
-        path = os.path.realpath(f'{self.cards}/{entry}{CARD}')
+        path = self.path_of(entry)
         if entry in self.unread:
             return {**outcome, 'outcome': 'held', 'words': 'something of this entry could not be read'}
         try:

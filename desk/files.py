@@ -59,19 +59,25 @@ def beside(target):
     return f'{folder}/.{short}.new'
 
 
+def created(target):
+    """Another file in the folder of a file, new and empty: its name, and it open; one that a run which was stopped left is taken away."""
+    other, flags = beside(target), os.O_CREAT | os.O_EXCL | os.O_WRONLY | os.O_CLOEXEC
+    try:
+        return other, os.open(other, flags, 0o666)
+    except FileExistsError:
+        os.unlink(other)
+        return other, os.open(other, flags, 0o666)
+
+
 def replace_all(contents):
     """Writes each file under another name in its folder, with the mode that it had, and then renames them all; they are on the disk before they are renamed, and their names afterwards."""
     made, at = {}, None
     try:
         for at, data in contents.items():
             target = os.path.realpath(at) if os.path.islink(at) else os.path.abspath(at)
-            other = beside(target)
-            with contextlib.suppress(FileNotFoundError):
-                os.unlink(other)
-            handle = os.open(other, os.O_CREAT | os.O_EXCL | os.O_WRONLY | os.O_CLOEXEC, 0o666)
-            made[target] = other
+            made[target], handle = created(target)
             try:
-                if os.path.exists(target):
+                with contextlib.suppress(FileNotFoundError):
                     os.fchmod(handle, os.stat(target).st_mode & 0o777)
                 write(handle, data)
                 if len(contents) == 1:
