@@ -84,58 +84,44 @@ def suggestions(place, may_stand):
     return list(dict.fromkeys(words + names + close))
 
 
+# What is said of a token out of place, by the first line that fits: the token found, the one before it, what may stand in its place, and whether it is a name.
+MISPLACED = [
+    (lambda found, before, may, named: found == 'SLOT' and 'WHEN' in may, 'all SLOT lines stand before all rules'),
+    (lambda found, before, may, named: found in ('|=', ':=') and may == ['*='], 'WHEN takes *=: a rule is woken by a change'),
+    (lambda found, before, may, named: found == ':=' and '*=' in may, ':= assigns, behind THEN; a test is *= or |='),
+    (lambda found, before, may, named: may == [':='], 'behind THEN a slot is assigned by :='),
+    (lambda found, before, may, named: found in RESERVED and NEW_NAME in may, 'this is a reserved word and no name'),
+    (lambda found, before, may, named: found == 'TRUE', 'TRUE opens a condition or is the whole of it, and stands nowhere else'),
+    (lambda found, before, may, named: found == 'THEN' and may == ['IF'], 'IF is missing: a rule without a condition has IF TRUE'),
+    (lambda found, before, may, named: found == '}' and before == ',', 'take the comma before } away'),
+    (lambda found, before, may, named: found == '}' and before == '{', 'a list has one name at least'),
+    (lambda found, before, may, named: found in (',', 'AND') and may == [';'], 'two or more assignments stand in braces: THEN { a := b, c := d };'),
+    (lambda found, before, may, named: found in ('WHEN', 'SLOT') and ';' in may, 'the statement before it has no ; at its end'),
+    (lambda found, before, may, named: found == 'NOT' and before == 'WHEN', 'WHEN takes no NOT: put the test into the condition, behind IF'),
+    (lambda found, before, may, named: found == ';' and 'WHEN' in may, 'one ; ends a statement: take this one away'),
+    (lambda found, before, may, named: found == 'IF' and 'WHEN' in may, 'a rule begins with the change that wakes it: WHEN slot *= value IF ..'),
+    (lambda found, before, may, named: 'WHEN' in may, BEGINS),
+    (lambda found, before, may, named: may == ['{'], BRACES),
+    (lambda found, before, may, named: is_list(may), COMMAS),
+    (lambda found, before, may, named: found == ',' and 'AND' in may, 'write AND between tests'),
+    (lambda found, before, may, named: found == 'AND' and may == ['IF'], 'WHEN takes one change: put the other tests into the condition, behind IF'),
+    (lambda found, before, may, named: found == 'THEN' and before == 'IF', 'a rule without a condition has IF TRUE'),
+    (lambda found, before, may, named: named and '|=' in may, 'a test is slot *= value, where it changes to that now, or slot |= value, where the card has it'),
+]
+
+
 def of_token(place, may_stand):
     """What is said of a token out of place, or '' where nothing of its own is."""
-    found, before = place.token.part, place.before.part if place.before else b''
-    word = place.token.shown()
     if place.is_end:
         begun = place.statement()
-        line = place.lines.place(begun.start)[0] if begun else place.line
-        return f'the file ends inside the statement that begins in line {line}'
-    if word.upper() in ABSENT and place.token.is_name():
-        return ABSENT[word.upper()]
-    if place.token.is_name() and word.upper() in RESERVED and word.upper() in may_stand:
-        return f'reserved words are written in capitals: {word.upper()}'
-    if found == b'SLOT' and 'WHEN' in may_stand:
-        return 'all SLOT lines stand before all rules'
-    if found in (b'|=', b':=') and may_stand == ['*=']:
-        return 'WHEN takes *=: a rule is woken by a change'
-    if found == b':=' and '*=' in may_stand:
-        return ':= assigns, behind THEN; a test is *= or |='
-    if may_stand == [':=']:
-        return 'behind THEN a slot is assigned by :='
-    if word in RESERVED and NEW_NAME in may_stand:
-        return f'{word} is a reserved word and no name'
-    if found == b'TRUE':
-        return 'TRUE opens a condition or is the whole of it, and stands nowhere else'
-    if found == b'THEN' and may_stand == ['IF']:
-        return 'IF is missing: a rule without a condition has IF TRUE'
-    if found == b'}' and before == b',':
-        return 'take the comma before } away'
-    if found == b'}' and before == b'{':
-        return 'a list has one name at least'
-    if found in (b',', b'AND') and may_stand == [';']:
-        return 'two or more assignments stand in braces: THEN { a := b, c := d };'
-    if ';' in may_stand and word in ('WHEN', 'SLOT'):
-        return 'the statement before it has no ; at its end'
-    if word == 'NOT' and before == b'WHEN':
-        return 'WHEN takes no NOT: put the test into the condition, behind IF'
-    if 'WHEN' in may_stand:
-        return {b';': 'one ; ends a statement: take this one away', b'IF': 'a rule begins with the change that wakes it: WHEN slot *= value IF ..'}.get(
-            found, BEGINS)
-    if may_stand == ['{']:
-        return f'{ONE_WORD}; {BRACES}' if place.token.is_name() else BRACES
-    if is_list(may_stand):
-        return f'{ONE_WORD}; {COMMAS}' if place.token.is_name() else COMMAS
-    if found == b',' and 'AND' in may_stand:
-        return 'write AND between tests'
-    if found == b'AND' and may_stand == ['IF']:
-        return 'WHEN takes one change: put the other tests into the condition, behind IF'
-    if found == b'THEN' and before == b'IF':
-        return 'a rule without a condition has IF TRUE'
-    if place.token.is_name() and '|=' in may_stand:
-        return 'a test is slot *= value, where it changes to that now, or slot |= value, where the card has it'
-    return ''
+        return f'the file ends inside the statement that begins in line {place.lines.place(begun.start)[0]}'
+    found, before, named = place.token.shown(), place.before.shown() if place.before else '', place.token.is_name()
+    if named and found.upper() in ABSENT:
+        return ABSENT[found.upper()]
+    if named and found.upper() in RESERVED and found.upper() in may_stand:
+        return f'reserved words are written in capitals: {found.upper()}'
+    said = next((words for fits, words in MISPLACED if fits(found, before, may_stand, named)), '')
+    return f'{ONE_WORD}; {said}' if named and said in (BRACES, COMMAS) else said
 
 
 def is_value(place):

@@ -197,10 +197,9 @@ class Responder:
         self.card, self.changes, self.fired = (c_uint8 * CARD_BYTES)(), (c_uint8 * SLIP_BYTES)(), (c_uint8 * FIRED_BYTES)()
 
     def respond(self, records, editor, card, slip):
-        """The answer to an editor's packed card and packed slip, counted in the records."""
-        if not 0 <= editor <= EDITORS:
-            editor = 0  # ctypes would take a number modulo 2 to the 64
-        given = self.function(self.table, records, len(records), editor, card, len(card), slip, len(slip), self.card, CARD_BYTES,
+        """The answer to an editor's packed card and packed slip, counted in the records; a number that is no editor's goes as 0, since C would cut a large one to 64 bits."""
+        number = editor if 0 <= editor <= EDITORS else 0
+        given = self.function(self.table, records, len(records), number, card, len(card), slip, len(slip), self.card, CARD_BYTES,
                               self.changes, SLIP_BYTES, self.fired, FIRED_BYTES)
         if given.number:
             return Answer(given.number, given.second, b'', b'', b'')

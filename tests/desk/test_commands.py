@@ -107,7 +107,7 @@ class Check(DeskTest):
                            (rule.replace('*= before', '* = before'), 'directly behind it'), (rule + RULES, 'before all rules'), (RULES.replace(' }', ', }'), 'take the comma'),
                            (rule.replace('status := obsolete', 'status := obsolete, dating := from-1900'), 'stand in braces'),
                            (rule[:-1], 'the file ends inside the statement that begins in line 3'), (rule.replace(':=', '='), ':= in an assignment'),
-                           (rule[:-1] + '\n' + rule.split('\n')[2], 'no ; at its end'), (RULES.replace('current', 'NONE'), 'NONE is a reserved word and no name')):
+                           (rule[:-1] + '\n' + rule.split('\n')[2], 'no ; at its end'), (RULES.replace('current', 'NONE'), 'this is a reserved word and no name')):
             with self.subTest(said):
                 self.refused(text, said)
 
