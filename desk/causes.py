@@ -110,8 +110,8 @@ def behind(file, pair, slip, fired):
 
 def brought(file, pair, causes):
     """A value and what brings it, for a person."""
-    lines = [f"    {file.named(*pair)[1]}: {'the slip' if not cause else f'rule {cause} (line {file.rules[cause - 1].line}): {file.rule(cause)}'}" for cause in causes]
-    return lines or [f'    {file.named(*pair)[1]}']
+    words = [f'rule {cause} (line {file.rules[cause - 1].line}): {file.rule(cause)}' if cause else 'the slip' for cause in causes]
+    return [f'    {file.named(*pair)[1]}: {one}' for one in words]
 
 
 def told(file, pair, causes):

@@ -6,6 +6,7 @@ from .circles import circle
 from .faults import Refused
 from .places import END, NEW_NAME, Place
 from .rules import RuleFile
+from .tokens import MARKS, RESERVED
 
 # How many declared names are shown to a person, and how many bytes of a line.
 SHOWN, WIDTH = 12, 100
@@ -63,8 +64,8 @@ def character(place):
 
 def listed(parts):
     """What may stand somewhere, in words: declared names at the end, not all where they are many."""
-    names = [part for part in parts if part[:1].isalnum() and not part.isupper() and part not in (END, NEW_NAME)]
-    others = [part for part in parts if part not in names]
+    others = [part for part in parts if part in (*RESERVED, *MARKS, END, NEW_NAME)]
+    names = [part for part in parts if part not in others]
     more = [f'and {len(names) - SHOWN} names more'] if len(names) > SHOWN else []
     return '  '.join(others + names[:SHOWN] + more)
 
@@ -83,7 +84,7 @@ def marked(place):
 
 def displayed(line):
     """A line as a terminal can show it: what cannot be shown is a ?."""
-    return ''.join(character if character == '\t' or character.isprintable() else '?' for character in line.decode('utf-8', 'replace'))
+    return ''.join(one if one == '\t' or one.isprintable() else '?' for one in line.decode('utf-8', 'replace'))
 
 
 def circled(library, subject, text, lowest):
