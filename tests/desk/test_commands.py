@@ -8,7 +8,6 @@ import signal
 import stat
 import subprocess
 import sys
-import time
 import unittest
 
 from running import TOP, DeskTest, desk, example, failing, program
@@ -402,12 +401,13 @@ class Usage(DeskTest):
             self.assertEqual((ran.returncode, ran.stderr), (0, b''))
 
     def test_interrupted(self):
-        """Ctrl-C shows no trace of the program."""
+        """Ctrl-C shows no trace of the program; a shell may have begun these tests without it."""
         os.mkfifo(self.path('pipe'))
-        run = subprocess.Popen([sys.executable, '-m', 'desk', 'check', self.path('pipe')], env=dict(os.environ, PYTHONPATH=TOP), stderr=subprocess.PIPE)
-        time.sleep(1)
-        run.send_signal(signal.SIGINT)
-        self.assertEqual((run.communicate()[1], run.returncode), (b'desk: stopped\n', 128 + signal.SIGINT))
+        run = subprocess.Popen([sys.executable, '-m', 'desk', 'check', self.path('pipe')], env=dict(os.environ, PYTHONPATH=TOP), stderr=subprocess.PIPE,
+                               preexec_fn=lambda: signal.signal(signal.SIGINT, signal.default_int_handler))
+        with open(self.path('pipe'), 'wb'):
+            run.send_signal(signal.SIGINT)
+            self.assertEqual((run.communicate(timeout=60)[1], run.returncode), (b'desk: stopped\n', 128 + signal.SIGINT))
 
     def test_written_places(self):
         """A pipe is written to and stays one; what lies at the other name of a file is not written through."""
