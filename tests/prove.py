@@ -68,7 +68,7 @@ class Proving(unittest.TestCase):
     def run_in_pipe(self, words, printed, status=0):
         """The lines that it prints into a pipe, its exit status, and what rt was asked."""
         started = self.start(words, printed, status, stdout=subprocess.PIPE, stderr=subprocess.STDOUT)
-        shown = started.communicate(timeout=20)[0].decode()
+        shown = started.communicate(timeout=200)[0].decode()
         with open(self.env['ASKED'], encoding='utf-8') as file:
             return shown, started.returncode, file.read()
 
@@ -131,7 +131,7 @@ class Proving(unittest.TestCase):
             except OSError:
                 break
         os.close(ours)
-        return untimed(written.decode()), started.wait(timeout=20)
+        return untimed(written.decode()), started.wait(timeout=200)
 
     def test_terminal(self):
         names = needed('cursor')
@@ -157,7 +157,7 @@ class Proving(unittest.TestCase):
                 self.assertEqual(started.stdout.readline(), b'proved 1 of 4: laws (3 s)\n')
                 with open(self.env['WAITING'], 'rb') as waiting:
                     started.send_signal(number)
-                    self.assertEqual(started.communicate(timeout=20)[0], b'')
+                    self.assertEqual(started.communicate(timeout=200)[0], b'')
                     self.assertEqual(started.returncode, 128 + number)
                     self.assertEqual(waiting.read(), b'')
 
