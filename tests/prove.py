@@ -1,7 +1,6 @@
 #!/usr/bin/env python3
 """What ./prove shows and how it ends, with a rt of its own on PATH that proves nothing and prints what rt prints."""
 import os
-import pty
 import re
 import signal
 import subprocess
@@ -13,6 +12,7 @@ TOP = os.path.dirname(os.path.dirname(os.path.abspath(__file__)))
 sys.path.insert(0, os.path.join(TOP, 'docs'))
 
 from house import crates, reached
+from terminal import on_terminal
 
 LISTED = crates()
 
@@ -119,23 +119,14 @@ class Proving(unittest.TestCase):
         ends = "target/log/rl.stdout its file 'stdout' differ: byte 1, line 1\nrt: rl: what the program wrote is not what its file 'stdout' has\nrt: rl proved, and its run FAILED (0 s)\nrt: FAILED: rl\n"
         self.assertEqual(self.run_in_pipe(['rl'], proved(names) + ends, 1)[:2], (counted(names, len(names)) + ends, 1))
 
-    def on_terminal(self, words, printed, status=0):
+    def run_on_terminal(self, words, printed, status=0):
         """What it writes to a terminal, and its exit status."""
-        ours, theirs = pty.openpty()
-        started = self.start(words, printed, status, stdout=theirs, stderr=theirs)
-        os.close(theirs)
-        written = b''
-        while True:
-            try:
-                written += os.read(ours, 4096)
-            except OSError:
-                break
-        os.close(ours)
+        written, started = on_terminal(lambda terminal: self.start(words, printed, status, stdout=terminal, stderr=terminal))
         return untimed(written.decode()), started.wait(timeout=200)
 
     def test_terminal(self):
         names = needed('cursor')
-        written, status = self.on_terminal(['cursor'], proved(names) + 'rt: ok, 4 crates proved\n')
+        written, status = self.run_on_terminal(['cursor'], proved(names) + 'rt: ok, 4 crates proved\n')
         lines = [line.split('\r\033[K')[-1] for line in written.split('\r\n')]
         self.assertEqual((lines, status), (['rt: ok, 4 crates proved', 'proved 4 of 4: cursor (3 s), 0 s in all', ''], 0))
         shown = written.split('\r\033[K')
@@ -144,7 +135,7 @@ class Proving(unittest.TestCase):
 
     def test_terminal_refused(self):
         wrong = 'error: not proved\nrt: text NOT PROVED (exit 1, 4 s)\n'
-        written, status = self.on_terminal(['cursor'], proved(['laws', 'classes']) + wrong + 'rt: FAILED: text\n', 1)
+        written, status = self.run_on_terminal(['cursor'], proved(['laws', 'classes']) + wrong + 'rt: FAILED: text\n', 1)
         lines = [line.split('\r\033[K')[-1] for line in written.split('\r\n')]
         self.assertEqual(lines, [*wrong.splitlines(), 'rt: FAILED: text', 'proved 2 of 4: classes (3 s), 0 s in all', ''])
         self.assertEqual(status, 1)

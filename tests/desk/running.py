@@ -10,7 +10,7 @@ import tempfile
 import unittest
 
 TOP = os.path.dirname(os.path.dirname(os.path.dirname(os.path.abspath(__file__))))
-sys.path.insert(0, TOP)
+sys.path[:0] = [TOP, os.path.join(TOP, 'tests')]
 
 from desk import files  # noqa: E402
 from desk.cli import main  # noqa: E402

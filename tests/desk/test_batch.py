@@ -3,18 +3,18 @@ import csv
 import errno
 import io
 import os
-import pty
 import shutil
 import signal
 import struct
 import subprocess
 import sys
-import time
 import unittest
 
 from running import TOP, DeskTest, desk, failing, program
 
 from desk import batch
+from desk.counts import Counts
+from terminal import on_terminal
 
 RULES = '''SLOT dating { before-1900, from-1900 };
 SLOT status { current, obsolete };
@@ -88,6 +88,14 @@ class BatchTest(DeskTest):
             path = self.path(name)
             shutil.rmtree(path) if os.path.isdir(path) else os.unlink(path)
         self.make()
+
+    def leave_pending(self):
+        """Kills a run where its pending work is written and nothing of it carried out."""
+        for at in range(1, 1000):
+            self.again()
+            failing(self.folder, at, 0, *WORDS)
+            if os.path.exists('counts.bin.pending'):
+                return
 
     def test_outcomes(self):
         """Each slip comes to its outcome, by name, in order; the records and the cards are those of the slips answered."""
@@ -184,18 +192,13 @@ class BatchTest(DeskTest):
 
     def test_changed_meanwhile(self):
         """A card that another hand changed after a run was killed is not written over."""
-        for at in range(1, 1000):
-            self.again()
-            failing(self.folder, at, 0, *WORDS)
-            if os.path.exists('counts.bin.pending'):
-                break
+        self.leave_pending()
         self.put('cards/abbey.card', bytes.fromhex('0C 00 00'))
         self.expect(desk(*WORDS), 2, 'abbey.card: changed by another hand')
         self.assertEqual(self.get('cards/abbey.card'), bytes.fromhex('0C 00 00'))
 
     def test_one_at_a_time(self):
         """A second run at the same records, or the same folders, is told so."""
-        from desk.counts import Counts
         with Counts('counts.bin'):
             self.expect(desk(*WORDS), 2, 'another run works with it now')
         with Counts('other.bin', 'slips'):
@@ -232,16 +235,8 @@ class BatchTest(DeskTest):
 
     def test_bar(self):
         """On a terminal a bar is drawn, and in a pipe none."""
-        master, slave = pty.openpty()
-        run = subprocess.Popen([sys.executable, '-m', 'desk', *WORDS], env=dict(os.environ, PYTHONPATH=TOP), stdout=subprocess.DEVNULL, stderr=slave)
-        os.close(slave)
-        drawn = b''
-        while True:
-            try:
-                drawn += os.read(master, 4096)
-            except OSError:
-                break
-        os.close(master)
+        words = [sys.executable, '-m', 'desk', *WORDS]
+        drawn, run = on_terminal(lambda terminal: subprocess.Popen(words, env=dict(os.environ, PYTHONPATH=TOP), stdout=subprocess.DEVNULL, stderr=terminal))
         self.assertEqual(run.wait(), 1)
         self.assertIn(b'[##############################] 10 of 10', drawn)
         self.assertNotIn('[#', program(*WORDS, cwd=self.folder).err)
@@ -283,18 +278,13 @@ class BatchTest(DeskTest):
 
     def test_records_by_a_link(self):
         """Records that are named by a link are held like those that it names."""
-        from desk.counts import Counts
         os.symlink('counts.bin', 'link.bin')
         with Counts('counts.bin'):
             self.expect(desk(*WORDS[:-1], 'link.bin'), 2, 'another run works with it now')
 
     def test_other_records(self):
         """Slips at which a run was stopped are not taken by a run that counts elsewhere."""
-        for at in range(1, 1000):
-            self.again()
-            failing(self.folder, at, 0, *WORDS)
-            if os.path.exists('counts.bin.pending'):
-                break
+        self.leave_pending()
         self.expect(desk(*WORDS[:-1], 'other.bin'), 2, 'counts.bin was stopped here')
         self.expect(desk(*WORDS), 1)
         self.expect(desk(*WORDS[:-1], 'other.bin'), 1, '8 slips were done before')

@@ -6,13 +6,10 @@ import glob
 import os
 import random
 import re
-import sys
 import unittest
 
 from faulty import END, FAULTY, NAME
 from running import TOP, DeskTest, desk
-
-sys.path.insert(0, os.path.join(TOP, 'tests'))
 
 from read_cases import RESERVED, place, read, texts, tokens
 from stored import whole
