@@ -1,37 +1,45 @@
 // What the program does, over the names of its four files.
-ghost use Rattle.std.specs.Prelude.{◌≡◌, length};
-ghost use Rattle.io.specs.Counts.{IsPrefixLen};
+ghost use Rattle.std.specs.Prelude.{◌≡◌, ℕ, ◌<◌, length, take, IfOk, OnErr};
+ghost use Rattle.std.specs.Io.{ReadsAtMost};
+ghost use Rattle.std.specs.Io.KnownBytes.{Consumes, IsAtEnd};
 ghost use Rattle.listing.specs.Listing.{text_room, card_room, slip_room, editor_room};
 ghost use Rattle.listing.specs.Printed.{page};
 
-use libc::STDOUT_FILENO;
 use listing::{CARD_ROOM, EDITOR_ROOM, PAGE, SLIP_ROOM, TEXT_ROOM};
+use std::fs::File;
+use std::io;
+use std::io::Read;
+use std::rt::Files;
 
 // The line of a file that cannot be opened or read.
-fn write_unread(name: &[u8]) {
-    io::write_all(STDOUT_FILENO, b"unread ");
-    io::write_all(STDOUT_FILENO, name);
-    io::write_all(STDOUT_FILENO, b"\n");
+fn write_unread(rt: &impl Print, name: &[u8]) -> io::Result<()> {
+    rt.write_all(b"unread ")?;
+    rt.write_all(name)?;
+    rt.write_all(b"\n")
+}
+
+// Opens a file to read it. A path is text, so there is no file under a name that is none.
+fn open<R: Files>(rt: &R, name: &[u8]) -> Option<R::File> {
+    let name = str::from_utf8(name).ok()?;
+    File::open(rt, name).ok()
 }
 
 // Reads a file until it ends or the room is full, and says how many bytes of it stand in the room; at the first read that fails it stops and tells so.
-fn read_file(file: i32, room: &mut [u8], failed: &mut bool) -> usize
-    ensures { IsPrefixLen result room.new }
+fn read_file<R: Read>(file: &mut R, room: &mut [u8]) -> io::Result<usize>
+    ensures count { ReadsAtMost result room.new }
+    ensures bytes { IfOk result (λ n. Consumes (R.remaining file.old) (R.remaining file.new) (take n room.new)) }
+    ensures whole { IfOk result (λ n. n < length room.new → IsAtEnd (R.remaining file.new)) }
+    ensures err { OnErr result ((n : ℕ) × Consumes (R.remaining file.old) (R.remaining file.new) (take n room.new)) }
 {
     let mut done: usize = 0;
     while done < room.len() {
-        let got = libc::read(file, &mut room[done..]);
-        if got < 0 {
-            *failed = true;
-            return done;
-        }
-        let more = io::count(got, &room[done..]);
+        let more = file.read(&mut room[done..])?;
         if more == 0 {
-            return done;
+            return Ok(done);
         }
         done += more;
     }
-    done
+    Ok(done)
 }
 
 // Room for what is read of a text, of a card, of a slip and of an editor file: `listing_cut`.
@@ -67,87 +75,79 @@ fn blank() -> [u8; PAGE]
 }
 
 // Writes the listing of a rule text, a card, a slip and an editor file.
-fn write_listing(text: &[u8], card: &[u8], slip: &[u8], editor: &[u8]) {
+fn write_listing(
+    rt: &impl Print,
+    text: &[u8],
+    card: &[u8],
+    slip: &[u8],
+    editor: &[u8],
+) -> io::Result<()> {
     let mut out = blank();
     let n = listing::list(text, card, slip, editor, &mut out);
-    io::write_all(STDOUT_FILENO, &out[..n]);
+    rt.write_all(&out[..n])
 }
 
 // Reads the four open files, each until it ends or fills its room; the first that cannot be read, in this order, is named and nothing else is written.
-fn run(
-    rules: i32,
-    card: i32,
-    slip: i32,
-    editor: i32,
+fn run<F: Read + Drop>(
+    rt: &impl Print,
+    mut rules: F,
+    mut card: F,
+    mut slip: F,
+    mut editor: F,
     rules_name: &[u8],
     card_name: &[u8],
     slip_name: &[u8],
     editor_name: &[u8],
-) {
-    let mut rules_failed = false;
-    let mut card_failed = false;
-    let mut slip_failed = false;
-    let mut editor_failed = false;
+) -> io::Result<()> {
     let mut text = blank_text();
-    let n = read_file(rules, &mut text, &mut rules_failed);
-    libc::close(rules);
+    let rules_read = read_file(&mut rules, &mut text);
+    drop(rules);
     let mut c = blank_card();
-    let m = read_file(card, &mut c, &mut card_failed);
-    libc::close(card);
+    let card_read = read_file(&mut card, &mut c);
+    drop(card);
     let mut s = blank_slip();
-    let k = read_file(slip, &mut s, &mut slip_failed);
-    libc::close(slip);
+    let slip_read = read_file(&mut slip, &mut s);
+    drop(slip);
     let mut e = blank_editor();
-    let j = read_file(editor, &mut e, &mut editor_failed);
-    libc::close(editor);
-    if rules_failed {
-        write_unread(rules_name);
-        return;
-    }
-    if card_failed {
-        write_unread(card_name);
-        return;
-    }
-    if slip_failed {
-        write_unread(slip_name);
-        return;
-    }
-    if editor_failed {
-        write_unread(editor_name);
-        return;
-    }
-    write_listing(&text[..n], &c[..m], &s[..k], &e[..j]);
+    let editor_read = read_file(&mut editor, &mut e);
+    drop(editor);
+    let Ok(n) = rules_read else {
+        return write_unread(rt, rules_name);
+    };
+    let Ok(m) = card_read else {
+        return write_unread(rt, card_name);
+    };
+    let Ok(k) = slip_read else {
+        return write_unread(rt, slip_name);
+    };
+    let Ok(j) = editor_read else {
+        return write_unread(rt, editor_name);
+    };
+    write_listing(rt, &text[..n], &c[..m], &s[..k], &e[..j])
 }
 
 // Opens the four files before it reads any, and writes what is listed of them.
-pub fn run_on(rules_name: &[u8], card_name: &[u8], slip_name: &[u8], editor_name: &[u8]) {
-    let rules = os::open_read(rules_name);
-    if rules < 0 {
-        write_unread(rules_name);
-        return;
-    }
-    let card = os::open_read(card_name);
-    if card < 0 {
-        libc::close(rules);
-        write_unread(card_name);
-        return;
-    }
-    let slip = os::open_read(slip_name);
-    if slip < 0 {
-        libc::close(rules);
-        libc::close(card);
-        write_unread(slip_name);
-        return;
-    }
-    let editor = os::open_read(editor_name);
-    if editor < 0 {
-        libc::close(rules);
-        libc::close(card);
-        libc::close(slip);
-        write_unread(editor_name);
-        return;
-    }
+pub fn run_on<R: Files + Print>(
+    rt: &R,
+    rules_name: &[u8],
+    card_name: &[u8],
+    slip_name: &[u8],
+    editor_name: &[u8],
+) -> io::Result<()> {
+    let Some(rules) = open(rt, rules_name) else {
+        return write_unread(rt, rules_name);
+    };
+    let Some(card) = open(rt, card_name) else {
+        return write_unread(rt, card_name);
+    };
+    let Some(slip) = open(rt, slip_name) else {
+        return write_unread(rt, slip_name);
+    };
+    let Some(editor) = open(rt, editor_name) else {
+        return write_unread(rt, editor_name);
+    };
     run(
+        rt,
         rules,
         card,
         slip,
@@ -156,5 +156,5 @@ pub fn run_on(rules_name: &[u8], card_name: &[u8], slip_name: &[u8], editor_name
         card_name,
         slip_name,
         editor_name,
-    );
+    )
 }

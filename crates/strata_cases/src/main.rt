@@ -1,10 +1,14 @@
 // Writes what the crate strata says of each table on standard input, then of chains of many lengths.
+#![tactic(auto)]
+
+mod input;
+
 ghost use Rattle.std.specs.Prelude.{◌≤◌};
 ghost use Rattle.laws.specs.Limits.{rule_limit};
 ghost use Rattle.rows.specs.inner.Rows.{RowsFit};
 
-use libc::STDOUT_FILENO;
 use rows::NUMBERS;
+use std::io;
 use table::{ASSIGNMENTS, Assignment, LITERALS, Literal, RULES, Rule, SLOTS, Table};
 
 // The most bytes that are read of the input.
@@ -37,14 +41,14 @@ fn places(count: u16) -> usize
 }
 
 // A rule and the place after it.
-#[derive(Drop)]
+#[derive(Clone, Copy)]
 struct ReadRule {
     rule: Rule,
     at: usize,
 }
 
 // A table and the place after it.
-#[derive(Drop)]
+#[derive(Clone, Copy)]
 struct ReadTable {
     table: Table,
     at: usize,
@@ -177,33 +181,33 @@ fn read_table(s: &[u8], start: usize) -> ReadTable {
 }
 
 // A space and a number.
-fn write_number(n: usize) {
-    io::write_all(STDOUT_FILENO, b" ");
-    io::print_decimal(STDOUT_FILENO, n as u64);
+fn write_number(rt: &impl Print, n: usize) -> io::Result<()> {
+    print!(rt; " {n}")
 }
 
 // A space and 1 for yes, 0 for no.
-fn write_answer(yes: bool) {
+fn write_answer(rt: &impl Print, yes: bool) -> io::Result<()> {
     if yes {
-        write_number(1);
+        write_number(rt, 1)
     } else {
-        write_number(0);
+        write_number(rt, 0)
     }
 }
 
 // The strata that a table carries.
-fn write_strata(t: Table) {
+fn write_strata(rt: &impl Print, t: Table) -> io::Result<()> {
     let n = places(t.count);
     let mut i: usize = 0;
     while i < n {
         let r = t.rules[i];
-        write_number(rows::wide(r.stratum));
+        write_number(rt, rows::wide(r.stratum))?;
         i += 1;
     }
+    Ok(())
 }
 
 // The table with the least strata; or the lowest rule on a circle through a NOT, and the table without slots or rules.
-#[derive(Drop)]
+#[derive(Clone, Copy)]
 struct Layering {
     circle: usize,
     table: Table,
@@ -235,39 +239,39 @@ fn layer(t: Table, rows: &[[u16; NUMBERS]; RULES]) -> Layering
 }
 
 // What `layer` says of a table, and whether the table that it hands out passes.
-fn write_layering(t: Table) {
+fn write_layering(rt: &impl Print, t: Table) -> io::Result<()> {
     let mut counts: [usize; SLOTS] = [0; SLOTS];
     let mut rows: [[u16; NUMBERS]; RULES] = [[0; NUMBERS]; RULES];
     let entry = soundness::enter(t, &mut counts, &mut rows);
     if !entry.passed {
-        return;
+        return Ok(());
     }
     let answer = layer(t, &rows);
     let u = answer.table;
     let k = answer.circle;
     if 0 < k {
-        io::write_all(STDOUT_FILENO, b" circle");
-        write_number(k);
+        print!(rt; " circle")?;
+        write_number(rt, k)?;
     } else {
-        io::write_all(STDOUT_FILENO, b" layered");
-        write_strata(u);
+        print!(rt; " layered")?;
+        write_strata(rt, u)?;
     }
-    io::write_all(STDOUT_FILENO, b" passes");
-    write_answer(soundness::is_sound(u));
+    print!(rt; " passes")?;
+    write_answer(rt, soundness::is_sound(u))
 }
 
 // All that is said of a table.
-fn write_table(t: Table) {
-    io::write_all(STDOUT_FILENO, b" form");
-    write_answer(soundness::is_well_formed(t));
-    io::write_all(STDOUT_FILENO, b" sound");
-    write_answer(soundness::is_sound(t));
-    write_layering(t);
-    io::write_all(STDOUT_FILENO, b"\n");
+fn write_table(rt: &impl Print, t: Table) -> io::Result<()> {
+    print!(rt; " form")?;
+    write_answer(rt, soundness::is_well_formed(t))?;
+    print!(rt; " sound")?;
+    write_answer(rt, soundness::is_sound(t))?;
+    write_layering(rt, t)?;
+    print!(rt; "\n")
 }
 
 // The tables of the input.
-fn write_cases(s: &[u8]) {
+fn write_cases(rt: &impl Print, s: &[u8]) -> io::Result<()> {
     let size = s.len();
     let cases = table::wide(byte(s, 0));
     let mut at = next(0, size);
@@ -277,10 +281,11 @@ fn write_cases(s: &[u8]) {
         let got = read_table(s, at);
         at = got.at;
         let t = got.table;
-        io::write_all(STDOUT_FILENO, b"case");
-        write_number(number);
-        write_table(t);
+        print!(rt; "case")?;
+        write_number(rt, number)?;
+        write_table(rt, t)?;
     }
+    Ok(())
 }
 
 // The rule that tests pair a and assigns pair b, of 480 pairs that go round the 32 slots.
@@ -347,56 +352,62 @@ fn chain(length: u16, backward: bool, under_not: bool) -> Table {
 }
 
 // What `layer` says of a chain: the strata of its first and its last rule, and whether the table then passes.
-fn write_chain(t: Table) {
+fn write_chain(rt: &impl Print, t: Table) -> io::Result<()> {
     let mut counts: [usize; SLOTS] = [0; SLOTS];
     let mut rows: [[u16; NUMBERS]; RULES] = [[0; NUMBERS]; RULES];
     let entry = soundness::enter(t, &mut counts, &mut rows);
     if !entry.passed {
-        return;
+        return Ok(());
     }
     let answer = layer(t, &rows);
     let u = answer.table;
     let n = u.count as usize;
     let first = u.rules[0];
-    write_number(rows::wide(first.stratum));
+    write_number(rt, rows::wide(first.stratum))?;
     if 0 < n {
         if n <= RULES {
             let last = u.rules[n - 1];
-            write_number(rows::wide(last.stratum));
+            write_number(rt, rows::wide(last.stratum))?;
         }
     }
-    write_answer(soundness::is_sound(u));
-    io::write_all(STDOUT_FILENO, b"\n");
+    write_answer(rt, soundness::is_sound(u))?;
+    print!(rt; "\n")
 }
 
 // One chain under its name.
-fn write_named(name: &[u8], length: u16, backward: bool, under_not: bool) {
-    io::write_all(STDOUT_FILENO, name);
-    write_number(rows::wide(length));
-    write_chain(chain(length, backward, under_not));
+fn write_named(
+    rt: &impl Print,
+    name: &[u8],
+    length: u16,
+    backward: bool,
+    under_not: bool,
+) -> io::Result<()> {
+    rt.write_all(name)?;
+    write_number(rt, rows::wide(length))?;
+    write_chain(rt, chain(length, backward, under_not))
 }
 
 // The chains of one length: both ways, plain and under NOT.
-fn write_length(length: u16) {
-    write_named(b"forward", length, false, false);
-    write_named(b"backward", length, true, false);
-    write_named(b"forward-not", length, false, true);
-    write_named(b"backward-not", length, true, true);
+fn write_length(rt: &impl Print, length: u16) -> io::Result<()> {
+    write_named(rt, b"forward", length, false, false)?;
+    write_named(rt, b"backward", length, true, false)?;
+    write_named(rt, b"forward-not", length, false, true)?;
+    write_named(rt, b"backward-not", length, true, true)
 }
 
 // Chains of every length that does not come round, then those of as many rules as a table may have, which do.
-fn write_chains() {
+fn write_chains(rt: &impl Print) -> io::Result<()> {
     let mut length: u16 = 0;
     while length < OPEN {
         length += 1;
-        write_length(length);
+        write_length(rt, length)?;
     }
-    write_length(RULES as u16);
+    write_length(rt, RULES as u16)
 }
 
-fn main() {
+fn main(rt: HostRuntime) -> io::Result<()> {
     let mut buffer: [u8; INPUT] = [0; INPUT];
-    let n = io::read_full(libc::STDIN_FILENO, &mut buffer);
-    write_cases(&buffer[..n]);
-    write_chains();
+    let n = input::read_full(&mut rt.reader(), &mut buffer)?;
+    write_cases(&rt, &buffer[..n])?;
+    write_chains(&rt)
 }

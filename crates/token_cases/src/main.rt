@@ -1,7 +1,13 @@
 // Writes the tokens of each text on standard input, where a text stands after its length in two bytes, the high one first.
+#![tactic(auto)]
+
+mod input;
 mod token_list;
 
-use libc::STDOUT_FILENO;
+use std::io;
+
+// The most bytes that are read of the input.
+const INPUT: usize = 65536;
 
 // The number that two bytes make.
 fn pair(high: u8, low: u8) -> usize {
@@ -9,26 +15,25 @@ fn pair(high: u8, low: u8) -> usize {
 }
 
 // The texts one after the other, until what is left is no whole text.
-fn write_cases(cases: &[u8]) {
+fn write_cases(rt: &impl Print, cases: &[u8]) -> io::Result<()> {
     let mut at: usize = 0;
     let mut number: usize = 0;
     while 2 <= cases.len() - at {
         let size = pair(cases[at], cases[at + 1]);
         let start = at + 2;
         if cases.len() - start < size {
-            return;
+            return Ok(());
         }
         number += 1;
-        io::write_all(STDOUT_FILENO, b"text ");
-        io::print_decimal(STDOUT_FILENO, number as u64);
-        io::write_all(STDOUT_FILENO, b"\n");
-        token_list::write_tokens(&cases[start..start + size]);
+        println!(rt; "text {number}")?;
+        token_list::write_tokens(rt, &cases[start..start + size])?;
         at = start + size;
     }
+    Ok(())
 }
 
-fn main() {
-    let mut buffer = io::large_buffer();
-    let n = io::read_full(libc::STDIN_FILENO, &mut buffer);
-    write_cases(&buffer[..n]);
+fn main(rt: HostRuntime) -> io::Result<()> {
+    let mut buffer = [0u8; INPUT];
+    let n = input::read_full(&mut rt.reader(), &mut buffer)?;
+    write_cases(&rt, &buffer[..n])
 }
