@@ -1,4 +1,6 @@
 // Cards and slips, unpacked: document 01, 'Cards and slips'.
+#![tactic(auto)]
+
 ghost use Rattle.std.specs.Prelude.{◌≡◌, ◌≤◌};
 ghost use Rattle.laws.specs.Limits.{slot_limit};
 ghost use Rattle.model.specs.Result.{pair};
@@ -11,7 +13,7 @@ pub mod fields;
 
 // An unpacked card: a value for each slot, 0 for no value, and how many slots it counts.
 #[repr(C)]
-#[derive(Drop)]
+#[derive(Clone, Copy)]
 pub struct Card {
     pub values: [u8; SLOTS],
     pub count: usize,
@@ -19,7 +21,7 @@ pub struct Card {
 
 // A change of a slot to a value, 0 for NONE.
 #[repr(C)]
-#[derive(Drop)]
+#[derive(Clone, Copy)]
 pub struct Change {
     pub slot: u8,
     pub value: u8,
@@ -27,35 +29,35 @@ pub struct Change {
 
 // An unpacked slip: its changes, and how many it counts.
 #[repr(C)]
-#[derive(Drop)]
+#[derive(Clone, Copy)]
 pub struct Slip {
     pub changes: [Change; SLOTS],
     pub count: usize,
 }
 
 // What an unpacking comes to: a refusal has its number and its second number.
-#[derive(Drop)]
+#[derive(Clone, Copy)]
 pub enum Outcome {
     Accepted,
     Refused(u8, usize),
 }
 
 // The outcome and the card, without slots where it is refused.
-#[derive(Drop)]
+#[derive(Clone, Copy)]
 pub struct CardRead {
     pub outcome: Outcome,
     pub card: Card,
 }
 
 // The outcome and the slip, without changes where it is refused.
-#[derive(Drop)]
+#[derive(Clone, Copy)]
 pub struct SlipRead {
     pub outcome: Outcome,
     pub slip: Slip,
 }
 
 // What a packing comes to: how many bytes are written, or a refusal with its number and its second number.
-#[derive(Drop)]
+#[derive(Clone, Copy)]
 pub enum Packing {
     Packed(usize),
     Refused(u8, usize),

@@ -1,4 +1,6 @@
 // The lowest rule on a circle of dependence that passes through a NOT, by reachability over pairs.
+#![tactic(auto)]
+
 ghost use Rattle.std.specs.Prelude.{◌≡◌, ◌<◌, get_or, false};
 ghost use Rattle.laws.specs.Truth.{◌∧ᵇ◌};
 ghost use Rattle.model.specs.Strata.{weak, tested, barred};

@@ -1,4 +1,6 @@
 // The classes of bytes: a table of 256, one for each byte, that steers the reader of rule text.
+#![tactic(auto)]
+
 ghost use Rattle.std.specs.Prelude.{◌≡◌};
 ghost use Rattle.classes.specs.Classes.{class_of, Classes};
 

@@ -8,6 +8,7 @@ use mathlib.Core.List.{List, [], ◌∷◌, ◌++◌, map}
 use lib.ListN.{take, set}
 use borrow.Author.Tests.{eq-eqb, ne_eqb}
 use types.Run.{OneOf, miss}
+use borrow.Enum.Refused.{Among, opened}
 use denote.Enum.Declared.{tag_of}
 use Rattle.laws.specs.inner.Filled.{Filled}
 use Rattle.laws.proofs.Filled.{filled_used}
@@ -44,12 +45,12 @@ more_name rest base (v.Name start size) sofar ts h = refl
 more_name rest base v.Long sofar ts h = absurd (miss (2 ∷ []) 3 tt h)
 more_name rest base v.Bad sofar ts h = absurd (miss (2 ∷ []) 4 tt h)
 
-pub more_other : (rest : List ℕ) (base : ℕ) (t : code.Token) (sofar : List model.Literal) (ts : List Token) → OneOf (0 ∷ 3 ∷ 4 ∷ []) (tag_of kinds.the_type t)
+pub more_other : (rest : List ℕ) (base : ℕ) (t : code.Token) (sofar : List model.Literal) (ts : List Token) → Among (0 ∷ 3 ∷ 4 ∷ []) (tag_of kinds.the_type t)
     → no_literal sofar (shown_past rest base t ts) ≡ stop (fault_of t 13)
 unfolding no_literal
 more_other rest base v.End sofar ts h = refl
-more_other rest base (v.Word w) sofar ts h = absurd (miss (0 ∷ 3 ∷ 4 ∷ []) 1 tt h)
-more_other rest base (v.Name start size) sofar ts h = absurd (miss (0 ∷ 3 ∷ 4 ∷ []) 2 tt h)
+more_other rest base (v.Word w) sofar ts h = absurd (miss (0 ∷ 3 ∷ 4 ∷ []) 1 tt (opened h))
+more_other rest base (v.Name start size) sofar ts h = absurd (miss (0 ∷ 3 ∷ 4 ∷ []) 2 tt (opened h))
 more_other rest base v.Long sofar ts h = refl
 more_other rest base v.Bad sofar ts h = refl
 

@@ -7,7 +7,8 @@ use mathlib.Core.Bool.{Bool, true, false, not}
 use lib.ListN.{length, length-map}
 use mathlib.Core.List.{List, ◌∷◌}
 use borrow.Author.Tests.{eq-eqb, ne_eqb}
-use types.Run.{OneOf, miss}
+use types.Run.{miss}
+use borrow.Enum.Refused.{Among, opened}
 use denote.Enum.Declared.{tag_of}
 use Rattle.text.specs.Tokens.{Name, Token, word, NOT, BECOMES, HAS}
 use Rattle.text.specs.declared.Token as code
@@ -32,11 +33,11 @@ pub literal_word : (w : ℕ) (ts : List Token) (slots : List Slot) (negated : Bo
 unfolding read_literal plain_literal read_slot a_name ◌then◌
 literal_word w ts slots negated e = rw (ne_eqb w NOT e)
 
-pub literal_plain : (rest : List ℕ) (base : ℕ) (t : code.Token) (ts : List Token) (slots : List Slot) (negated : Bool) → OneOf no_word (tag_of kinds.the_type t)
+pub literal_plain : (rest : List ℕ) (base : ℕ) (t : code.Token) (ts : List Token) (slots : List Slot) (negated : Bool) → Among no_word (tag_of kinds.the_type t)
     → read_literal (shown_past rest base t ts) slots negated ≡ plain_literal slots negated (shown_past rest base t ts)
 unfolding read_literal plain_literal read_slot a_name ◌then◌
 literal_plain rest base v.End ts slots negated h = refl
-literal_plain rest base (v.Word w) ts slots negated h = absurd (miss no_word 1 tt h)
+literal_plain rest base (v.Word w) ts slots negated h = absurd (miss no_word 1 tt (opened h))
 literal_plain rest base (v.Name start size) ts slots negated h = refl
 literal_plain rest base v.Long ts slots negated h = refl
 literal_plain rest base v.Bad ts slots negated h = refl

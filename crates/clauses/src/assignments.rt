@@ -19,21 +19,21 @@ use steps::step::{Fork, Named, Step, fork_next, name_next, name_of, word_next, w
 use table::{ASSIGNMENTS, Assignment, SLOTS};
 
 // An assignment and the position after it; or a refusal.
-#[derive(Drop)]
+#[derive(Clone, Copy)]
 pub enum AssignmentRead {
     Took(Assignment, usize),
     Fault(u8),
 }
 
 // The assignment places of a rule, with the number used.
-#[derive(Drop)]
+#[derive(Clone, Copy)]
 pub struct Assignments {
     pub places: [Assignment; ASSIGNMENTS],
     pub count: usize,
 }
 
 // Assignments, and the position after them; or a refusal.
-#[derive(Drop)]
+#[derive(Clone, Copy)]
 pub struct AssignmentsRead {
     pub outcome: Step,
     pub list: Assignments,

@@ -18,14 +18,14 @@ use table::{Literal, SLOTS};
 use text::Token;
 
 // The literal places of a rule and the number used.
-#[derive(Drop)]
+#[derive(Clone, Copy)]
 pub struct Literals {
     pub places: [Literal; table::LITERALS],
     pub count: usize,
 }
 
 // The position after a condition and its THEN, or a refusal; and the literals.
-#[derive(Drop)]
+#[derive(Clone, Copy)]
 pub struct Condition {
     pub outcome: Step,
     pub list: Literals,

@@ -16,14 +16,14 @@ use table::{Literal, SLOTS};
 use text::Token;
 
 // A literal and the position after it; or a refusal.
-#[derive(Drop)]
+#[derive(Clone, Copy)]
 pub enum LiteralRead {
     Took(Literal, usize),
     Fault(u8),
 }
 
 // What stands after the NOTs of a literal, where a name must, and whether they leave it negated.
-#[derive(Drop)]
+#[derive(Clone, Copy)]
 pub struct Nots {
     pub named: Named,
     pub negated: bool,

@@ -1,4 +1,6 @@
 // A reader that borrows the rule text while it walks: thin functions over one token at a position.
+#![tactic(auto)]
+
 ghost use Rattle.std.specs.Prelude.{◌≡◌};
 ghost use Rattle.text.specs.Next.{next_at};
 ghost use Rattle.cursor.specs.Readers.{at_start, peeked, advanced};
@@ -6,7 +8,7 @@ ghost use Rattle.cursor.specs.Readers.{at_start, peeked, advanced};
 use text::Next;
 
 // A text and a position in it.
-#[derive(Drop)]
+#[derive(Clone, Copy)]
 pub struct Reader<'a> {
     pub text: &'a [u8],
     pub at: usize,

@@ -1,4 +1,6 @@
 // The rules of rows fired stratum by stratum.
+#![tactic(auto)]
+
 pub mod order;
 
 ghost use Rattle.std.specs.Prelude.{◌≡◌, false, List, ℕ, ◌≤◌, ◌<◌, length, get_or, replicate};

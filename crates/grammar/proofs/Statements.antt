@@ -204,14 +204,14 @@ rules_end zero slots sofar = refl
 rules_end (suc room) slots sofar = refl
 
 -- Pieces that are rules by themselves are read as those rules, one after the other.
-rules_together : (bs : List (List ℕ)) (room : ℕ) (slots : List Slot) (sofar rs : List Rule) (w : List ℕ) (p : ℕ) → Forall₂ (ReadRule slots) bs rs → length rs ≤ room → tokens_from w 0 0 ≡ []
+rules_together : (slots : List Slot) (bs : List (List ℕ)) (room : ℕ) (sofar rs : List Rule) (w : List ℕ) (p : ℕ) → Forall₂ (ReadRule slots) bs rs → length rs ≤ room → tokens_from w 0 0 ≡ []
     → read_rules room slots sofar (tokens_from (joined bs w) 0 p) ≡ accepted (record { slots = slots; rules = sofar ++ rs })
-rules_together bs room slots sofar rs w p Forall₂.nil h e = rw (white_anywhere w 0 p e, append-nil) (rules_end room slots sofar)
-rules_together bs zero slots sofar rs w p (Forall₂.cons g gs) h e = absurd (omega arith)
-rules_together bs (suc room) slots sofar rs w p (Forall₂.cons {a = b} {b = r} {l₁ = cs} {l₂ = qs} g gs) h e =
+rules_together slots bs room sofar rs w p Forall₂.nil h e = rw (white_anywhere w 0 p e, append-nil) (rules_end room slots sofar)
+rules_together slots bs zero sofar rs w p (Forall₂.cons g gs) h e = absurd (omega arith)
+rules_together slots bs (suc room) sofar rs w p (Forall₂.cons {a = b} {b = r} {l₁ = cs} {l₂ = qs} g gs) h e =
     rules_take room slots sofar (tokens_from (joined (b ∷ cs) w) 0 p) r (tokens_from (joined cs w) 0 (p + suc (length b)))
     (ap (read_rule slots) (joined_cut b cs w p) ∙ g p (tokens_from (joined cs w) 0 (p + suc (length b))))
-    ∙ rules_together cs room slots (sofar ++ r ∷ []) qs w (p + suc (length b)) gs (omega arith) e
+    ∙ rules_together slots cs room (sofar ++ r ∷ []) qs w (p + suc (length b)) gs (omega arith) e
     ∙ rw append_assoc
 
 no_slot_next : (slots : List Slot) (bs : List (List ℕ)) (rs : List Rule) (w : List ℕ) (p : ℕ) → Forall₂ (ReadRule slots) bs rs → tokens_from w 0 0 ≡ []
@@ -229,7 +229,7 @@ lines_together : (bs rs : List (List ℕ)) (room : ℕ) (before all : List Slot)
     → Forall₂ (ReadRule all) rs rules → length rules ≤ rule_limit → tokens_from w 0 0 ≡ []
     → read_lines rule_limit room before (tokens_from (joined (bs ++ rs) w) 0 p) ≡ accepted (record { slots = all; rules = rules })
 lines_together bs rs room before all rules w p no_more_lines h g few e =
-    rules_begin rule_limit room before (tokens_from (joined rs w) 0 p) (no_slot_next before rs rules w p g e) ∙ rules_together rs rule_limit before [] rules w p g few e
+    rules_begin rule_limit room before (tokens_from (joined rs w) 0 p) (no_slot_next before rs rules w p g e) ∙ rules_together before rs rule_limit [] rules w p g few e
 lines_together bs rs zero before all rules w p (one_more_line {s = s} l ls) h g few e =
     absurd (let x = length-append before (s ∷ []) in let y = slots_grow _ _ _ all ls in omega arith)
 lines_together bs rs (suc room) before all rules w p (one_more_line {b = b} {bs = cs} {s = s} l ls) h g few e =

@@ -1,6 +1,5 @@
 -- Document 02, section 7: the library and the program take texts of different lengths with different numbers of rules. Of two readings, the one with the smaller limits is the other with two refusals more.
 use Rattle.std.specs.Prelude.{ℕ, ◌≤◌, ◌<◌, List, length}
-use Rattle.grammar.specs.Files.{File}
 use Rattle.grammar.specs.Reading.{Parsed, accepted, refused}
 
 -- A reading came to no more than so many rules: the file has no more, or the refusal came after no more.

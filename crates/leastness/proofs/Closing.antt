@@ -15,7 +15,7 @@ use Rattle.laws.proofs.Flags.{flag_here, flag_kept, flag_from}
 use Rattle.laws.proofs.Filled.{replicate_at}
 use Rattle.model.specs.Rules.{Pair, Literal, among}
 use Rattle.model.specs.Orders.{rule_at}
-use Rattle.model.specs.Strata.{weak, pairs_where, is_plain, tested, needed, barred, depends_under_not, must_fall}
+use Rattle.model.specs.Strata.{weak, pairs_where, is_plain, needed, barred, depends_under_not, must_fall}
 use Rattle.model.specs.inner.Justified.{Justified, at_first, one_above}
 use Rattle.model.proofs.Pairs.{needed_tested, barred_tested, meet_i}
 use Rattle.table.specs.declared.Rule.{Rule}

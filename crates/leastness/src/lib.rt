@@ -1,6 +1,8 @@
 // The test that rows carry the least strata, a part of 31. Strata are the least exactly where each is at least as high as it is asked, and justified:
 // it is the first, or one more than that of a rule whose pair it tests under NOT, or level with that of a justified rule whose pair it needs.
 // In time that grows with the rules and their literals: a pair is flagged once, and a place where a pair is needed is looked at once.
+#![tactic(auto)]
+
 ghost use Rattle.std.specs.Prelude.{◌≡◌, true, false, ◌+◌, ◌*◌, ◌≤◌, ◌<◌, length};
 ghost use Rattle.laws.specs.inner.Flags.{all_set};
 ghost use Rattle.model.specs.Strata.{needed, barred};

@@ -11,7 +11,7 @@ use table::Table;
 use tally::Tally;
 
 // A response at one record, and the record after it.
-#[derive(Drop)]
+#[derive(Clone, Copy)]
 pub struct Counted {
     pub response: RlResponse,
     pub tally: Tally,

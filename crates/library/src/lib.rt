@@ -1,4 +1,6 @@
 // The entry points for programs in C and Rust: each hands on exactly what the function of the crate below says, with numbers where that has an enum; the responses find the caller's record in the lent table, or say 44, and put the record after in its place.
+#![tactic(auto)]
+
 pub mod at_record;
 
 ghost use Rattle.std.specs.Prelude.{◌≡◌, length};
@@ -21,7 +23,7 @@ use tally::Tally;
 
 // A reading: the number of its refusal, 0 where the text is accepted, its second number, and the table, without slots or rules after a refusal.
 #[repr(C)]
-#[derive(Drop)]
+#[derive(Clone, Copy)]
 pub struct RlRead {
     pub number: u8,
     pub second: usize,
@@ -30,7 +32,7 @@ pub struct RlRead {
 
 // A print: the number of its refusal, 0 for none, its second number, and how many bytes are written.
 #[repr(C)]
-#[derive(Drop)]
+#[derive(Clone, Copy)]
 pub struct RlPrinted {
     pub number: u8,
     pub second: usize,
@@ -39,7 +41,7 @@ pub struct RlPrinted {
 
 // Where a name stands in the text: 0, its start and its size; or 31, 0 and 0.
 #[repr(C)]
-#[derive(Drop)]
+#[derive(Clone, Copy)]
 pub struct RlName {
     pub number: u8,
     pub start: usize,
@@ -48,7 +50,7 @@ pub struct RlName {
 
 // An unpacking of a card: the number of its refusal, 0 for none, its second number, and the card, without slots after a refusal.
 #[repr(C)]
-#[derive(Drop)]
+#[derive(Clone, Copy)]
 pub struct RlCard {
     pub number: u8,
     pub second: usize,
@@ -57,7 +59,7 @@ pub struct RlCard {
 
 // An unpacking of a slip: the same with the slip, without changes after a refusal.
 #[repr(C)]
-#[derive(Drop)]
+#[derive(Clone, Copy)]
 pub struct RlSlip {
     pub number: u8,
     pub second: usize,
@@ -66,7 +68,7 @@ pub struct RlSlip {
 
 // A packing: the number of its refusal, 0 for none, its second number, and how many bytes are written.
 #[repr(C)]
-#[derive(Drop)]
+#[derive(Clone, Copy)]
 pub struct RlPacked {
     pub number: u8,
     pub second: usize,
@@ -75,7 +77,7 @@ pub struct RlPacked {
 
 // A response: the number of its refusal, 0 for none, its second number, the length of the changes and how many rules fired.
 #[repr(C)]
-#[derive(Drop)]
+#[derive(Clone, Copy)]
 pub struct RlResponse {
     pub number: u8,
     pub second: usize,

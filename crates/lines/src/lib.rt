@@ -1,4 +1,6 @@
 // Slot lines: each name declared as a span of the text: its key, its place times 32, and its length.
+#![tactic(auto)]
+
 ghost use Rattle.std.specs.Prelude.{◌≡◌, List, [], ◌+◌, ◌*◌, ◌≤◌, ◌<◌, length, set};
 ghost use Rattle.std.proofs.lemmas.List.Edits.{sets};
 ghost use Rattle.classes.specs.Classes.{Classes};
@@ -17,14 +19,14 @@ use table::{Offset, PAIRS, ROW, SLOTS, VALUES};
 use text::{CLOSE, COMMA, OPEN, SEMICOLON};
 
 // The span of a name to be declared, and the position after it or after what stands behind it; or a refusal.
-#[derive(Drop)]
+#[derive(Clone, Copy)]
 pub enum Declared {
     At(usize, usize),
     Fault(u8),
 }
 
 // The names of values, as spans with the number used; the outcome has the position after the `}`.
-#[derive(Drop)]
+#[derive(Clone, Copy)]
 pub struct Values {
     pub outcome: Step,
     pub spans: [usize; VALUES],
@@ -32,7 +34,7 @@ pub struct Values {
 }
 
 // A slot line: the span of its slot's name and those of its values; the outcome has the position after the `;`.
-#[derive(Drop)]
+#[derive(Clone, Copy)]
 pub struct Line {
     pub outcome: Step,
     pub name: usize,

@@ -26,8 +26,6 @@ use Rattle.grammar.specs.Reading as grammar
 use Rattle.grammar.specs.Reading.{Part, took, stop, expects, begins_with, if_next, read_rule, read_line, go_on, read_rules, read_lines, read_tokens, parse_within, parse_by}
 use Rattle.grammar.proofs.Within.{accepted_by, refused_by}
 use Rattle.table.specs.declared.Limits.TheVariants.{Program}
-use Rattle.grammar.proofs.Accepts.{accepts_iff}
-use Rattle.grammar.proofs.Declared.{file_declared}
 use Rattle.table.specs.Empty.{empty_table}
 use Rattle.strata.specs.Layered.{with_strata}
 use Rattle.table.specs.declared.Way.TheVariants.{Strata}

@@ -1,4 +1,6 @@
 // What the program prints of a rule text, a card, a slip and an editor number: document 01, 'The program', and document 02, section 4.
+#![tactic(auto)]
+
 ghost use Rattle.std.specs.Prelude.{◌≡◌, true, ◌≤◌, length};
 ghost use Rattle.laws.specs.Limits.{rule_limit};
 ghost use Rattle.tally.specs.Editors.{is_editor};

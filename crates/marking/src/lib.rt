@@ -1,3 +1,5 @@
 // Pairs marked positive or negative, and the rules woken by a mark.
+#![tactic(auto)]
+
 pub mod pairs;
 pub mod waking;

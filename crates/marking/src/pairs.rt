@@ -74,7 +74,7 @@ fn mark(
 }
 
 // Whether an assignment met a negative pair, and how many rules are woken.
-#[derive(Drop)]
+#[derive(Clone, Copy)]
 pub struct Marked {
     pub clash: bool,
     pub left: usize,

@@ -6,7 +6,7 @@ use mathlib.Core.List.{List, [], ◌∷◌}
 use lib.ListN.{length, get_or}
 use Rattle.laws.specs.Truth.{◌∨ᵇ◌}
 use Rattle.model.specs.Rules.{Pair, Pairs, Literal, Rule, among, was, became, test, holds, all_hold, enabled}
-use Rattle.model.specs.Orders.{rule_at, each, changes, ready}
+use Rattle.model.specs.Orders.{rule_at, changes, ready}
 use Rattle.model.specs.Strata.{Grading}
 use Rattle.model.specs.Least.{strata_of}
 use Rattle.model.specs.Response.{next_of, fire_then, fire_on, response_by, response}

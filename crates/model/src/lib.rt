@@ -1,1 +1,3 @@
+#![tactic(auto)]
+
 // What a reader must believe of rules, cards, changes, firing orders and strata, and their theorems. No code.

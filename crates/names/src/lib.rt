@@ -1,4 +1,6 @@
 // Names shown as parts of the caller's text: document 01, 'Rule text'.
+#![tactic(auto)]
+
 ghost use Rattle.std.specs.Prelude.{◌≡◌};
 ghost use Rattle.names.specs.Names.{part_place, has_slot, has_value, show_name, show_slot, show_value_of, show_value};
 

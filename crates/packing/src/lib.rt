@@ -1,4 +1,6 @@
 // Any card or slip packed: refusals 31, 21 and 22 or 24 to 27, then 30.
+#![tactic(auto)]
+
 pub mod pack;
 
 ghost use Rattle.std.specs.Prelude.{◌≡◌, List, ℕ, length};

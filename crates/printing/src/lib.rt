@@ -1,4 +1,6 @@
 // The house style of rule files (document 02, section 1): any rule text printed in its one form, or refused with 10 to 18, 34, 33.
+#![tactic(auto)]
+
 ghost use Rattle.std.specs.Prelude.{◌≡◌, length};
 ghost use Rattle.laws.specs.Answers.{output_of};
 ghost use Rattle.grammar.specs.Reading.{parse};
@@ -14,7 +16,7 @@ use writing::files::put_file;
 pub mod spans;
 
 // A print: how many bytes it takes; or a refusal with its number and its second number.
-#[derive(Drop)]
+#[derive(Clone, Copy)]
 pub enum Printing {
     Printed(usize),
     Refused(u8, usize),

@@ -1,6 +1,6 @@
 -- Laws of the reading from the middle of a file on.
 -- Assumes nothing.
-use Prim.Native.Nat.{ℕ, zero, suc, ◌+◌, ◌-◌, ◌≤◌, ◌<◌}
+use Prim.Native.Nat.{ℕ, zero, suc, ◌-◌, ◌≤◌, ◌<◌}
 use native.Mathlib.Omega.{arith}
 use mathlib.Core.Path.{◌≡◌, refl, ap, ◌∙◌}
 use mathlib.Core.Bool.{true, false}
@@ -13,7 +13,8 @@ use Rattle.laws.specs.Limits.{slot_limit}
 use Rattle.grammar.specs.Files.{Slot}
 use Rattle.grammar.specs.Reading.{took, stop, accepted, refused, begins_with, if_next, expects, go_on, read_line, read_rule, read_lines, read_rules}
 use Rattle.grammar.proofs.Forward.{rules_begin}
-use types.Run.{OneOf, miss}
+use types.Run.{miss}
+use borrow.Enum.Refused.{Among, opened}
 use denote.Enum.Declared.{tag_of}
 use Rattle.text.specs.declared.Token as code
 use Rattle.text.specs.declared.Token.TheVariants as v
@@ -156,8 +157,8 @@ no_rules [] e = refl
 no_rules (r ∷ rs) e = absurd (omega arith)
 
 -- Something that is not the end stands there.
-pub not_ended : (rest : List ℕ) (base : ℕ) (t : code.Token) (ts : List Token) → OneOf (1 ∷ 2 ∷ 3 ∷ 4 ∷ []) (tag_of kinds.the_type t) → shown_past rest base t ts ≡ [] → ⊥
-not_ended rest base v.End ts h e = miss (1 ∷ 2 ∷ 3 ∷ 4 ∷ []) 0 tt h
+pub not_ended : (rest : List ℕ) (base : ℕ) (t : code.Token) (ts : List Token) → Among (1 ∷ 2 ∷ 3 ∷ 4 ∷ []) (tag_of kinds.the_type t) → shown_past rest base t ts ≡ [] → ⊥
+not_ended rest base v.End ts h e = miss (1 ∷ 2 ∷ 3 ∷ 4 ∷ []) 0 tt (opened h)
 not_ended rest base (v.Word w) ts h e = let z : ◌≡◌ {A = ℕ} 0 1 = cc in omega arith
 not_ended rest base (v.Name start size) ts h e = let z : ◌≡◌ {A = ℕ} 0 1 = cc in omega arith
 not_ended rest base v.Long ts h e = let z : ◌≡◌ {A = ℕ} 0 1 = cc in omega arith

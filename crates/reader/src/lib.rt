@@ -1,4 +1,6 @@
 // The statements of a rule file, and what its reading comes to.
+#![tactic(auto)]
+
 ghost use Rattle.std.specs.Prelude.{◌≡◌};
 ghost use Rattle.grammar.specs.Reading.{bytes_by, rules_by};
 
@@ -36,14 +38,14 @@ pub fn most_rules(limits: Limits) -> usize
 }
 
 // What a reading comes to: a refusal has its number and its second number.
-#[derive(Drop)]
+#[derive(Clone, Copy)]
 pub enum Outcome {
     Accepted,
     Refused(u8, usize),
 }
 
 // The outcome and the table, without slots or rules where it is refused.
-#[derive(Drop)]
+#[derive(Clone, Copy)]
 pub struct FileRead {
     pub outcome: Outcome,
     pub table: Table,

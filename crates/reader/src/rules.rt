@@ -20,7 +20,7 @@ use steps::step::{Step, name_next, word_next};
 use table::{Rule, SLOTS};
 
 // A slot, a value of it, and the position after them; or a refusal.
-#[derive(Drop)]
+#[derive(Clone, Copy)]
 pub enum PairRead {
     Took(usize, usize, usize),
     Fault(u8),
@@ -86,7 +86,7 @@ pub fn trigger_next(
 }
 
 // A rule in its places and the position after it; or a refusal.
-#[derive(Drop)]
+#[derive(Clone, Copy)]
 pub struct RuleRead {
     pub outcome: Step,
     pub rule: Rule,

@@ -18,7 +18,7 @@ use table::{Rule, SLOTS};
 use text::Token;
 
 // What stands at the front: a slot line or a rule with the position after it, the end, or a refusal.
-#[derive(Drop)]
+#[derive(Clone, Copy)]
 pub enum Kind {
     End,
     Slot(usize),
@@ -27,7 +27,7 @@ pub enum Kind {
 }
 
 // A statement: the slot line and the rule are those read where the kind says so.
-#[derive(Drop)]
+#[derive(Clone, Copy)]
 pub struct Statement {
     pub kind: Kind,
     pub line: Line,

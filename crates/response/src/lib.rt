@@ -1,4 +1,6 @@
 // The response to a slip at one record: document 01, 'Preconditions and response', its order of refusals, and the record after it.
+#![tactic(auto)]
+
 pub mod answering;
 pub mod slips;
 
@@ -24,14 +26,14 @@ use tally::{Tally, is_full, one_answered, one_refused};
 use unpacking::unpack::{read_card, read_slip};
 
 // What a response comes to: the length of the changes and how many rules fired, or a refusal with its number and its second number.
-#[derive(Drop)]
+#[derive(Clone, Copy)]
 pub enum Outcome {
     Answered(usize, usize),
     Refused(u8, usize),
 }
 
 // The outcome and the record after it.
-#[derive(Drop)]
+#[derive(Clone, Copy)]
 pub struct Response {
     pub outcome: Outcome,
     pub tally: Tally,

@@ -16,7 +16,6 @@ use Rattle.laws.specs.Limits.{slot_limit, rule_limit, literal_limit, assignment_
 use Rattle.model.specs.Rules as model
 use Rattle.model.specs.Result.{pair}
 use Rattle.model.specs.Strata.{is_plain, is_under_not}
-use Rattle.table.specs.declared.Literal.{Literal}
 use Rattle.table.specs.declared.Rule.{Rule}
 use Rattle.table.specs.declared.Table.{Table}
 use Rattle.table.specs.Zero.{zero_literal, zero_assignment, zero_rule, zero_slot}

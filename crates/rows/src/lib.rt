@@ -1,4 +1,6 @@
 // Rules as rows of numbers: what the work below the entry points is lent in place of the table.
+#![tactic(auto)]
+
 ghost use Rattle.std.specs.Prelude.{◌≡◌, cond, ◌+◌, ◌<◌, get_or};
 ghost use Rattle.laws.specs.Limits.{literal_limit, assignment_limit};
 ghost use Rattle.model.specs.Result.{pair};

@@ -16,7 +16,6 @@ use Rattle.laws.proofs.Listed.{all_i, all_append, each_at, each_map, each_imply}
 use Rattle.laws.proofs.Filled.{filled_length, filled_front, filled_each, used_at}
 use Rattle.model.specs.Rules as model
 use Rattle.model.specs.Orders as orders
-use Rattle.table.specs.declared.Literal.{Literal}
 use Rattle.table.specs.declared.Rule.{Rule}
 use Rattle.table.specs.declared.Slot.{Slot}
 use Rattle.laws.specs.Limits.{slot_limit, value_limit, rule_limit, literal_limit, assignment_limit}

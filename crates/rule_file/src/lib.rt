@@ -1,4 +1,6 @@
 // The whole reading of a rule file: refusals 10 to 18, and the table with the least strata; or without 18, and the table with stratum 0 throughout.
+#![tactic(auto)]
+
 ghost use Rattle.std.specs.Prelude.{◌≡◌};
 ghost use Rattle.table.specs.Empty.{empty_table};
 ghost use Rattle.reader.specs.declared.Outcome.TheVariants as outcome;

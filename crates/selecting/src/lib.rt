@@ -1,4 +1,6 @@
 // The selection of document 02, section 3, over rows: rules are fired and pairs ruled out until nothing more applies.
+#![tactic(auto)]
+
 ghost use Rattle.selecting.specs.inner.Selected.{Selectable, SetAside, SelectedBy};
 
 use judging::counting::{count_assigned, release};

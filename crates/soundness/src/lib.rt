@@ -1,4 +1,6 @@
 // The test of a table (31).
+#![tactic(auto)]
+
 mod right;
 
 ghost use Rattle.std.specs.Prelude.{◌≡◌, length};
@@ -11,7 +13,7 @@ use rows::{FEW, NUMBERS, SOME};
 use table::{RULES, SLOTS, Table, VALUES, Way};
 
 // Whether a table passed, and then how many slots and rules it has: who calls goes by these and looks at the table no more.
-#[derive(Drop)]
+#[derive(Clone, Copy)]
 pub struct Entry {
     pub passed: bool,
     pub width: usize,

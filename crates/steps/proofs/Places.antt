@@ -14,7 +14,8 @@ use Rattle.text.specs.declared.Next.{Next}
 use Rattle.text.specs.declared.Token as code
 use Rattle.text.specs.declared.Token.TheVariants as v
 use Rattle.text.specs.contracts.Token as kinds
-use types.Run.{OneOf, miss}
+use types.Run.{miss}
+use borrow.Enum.Refused.{Among, opened}
 use denote.Enum.Declared.{tag_of}
 use Rattle.text.specs.Cut.{moved}
 use Rattle.text.proofs.Cut.{tokens_moved}
@@ -52,31 +53,31 @@ pub lies : (rest : List ℕ) (at : ℕ) (r : Next) (t : code.Token) → r ≡ ne
 lies rest at r t e f = subst (λ (u : code.Token). Lies (length rest) at u r.at) f (rw e (next_lies rest at))
 
 -- The refusal of the tokens that have none of their own.
-pub fault_else : (t : code.Token) (over : ℕ) → OneOf (0 ∷ 1 ∷ 2 ∷ []) (tag_of kinds.the_type t) → 12 ≡ fault_of t over
+pub fault_else : (t : code.Token) (over : ℕ) → Among (0 ∷ 1 ∷ 2 ∷ []) (tag_of kinds.the_type t) → 12 ≡ fault_of t over
 fault_else v.End over h = refl
 fault_else (v.Word w) over h = refl
 fault_else (v.Name start size) over h = refl
-fault_else v.Long over h = absurd (miss (0 ∷ 1 ∷ 2 ∷ []) 3 tt h)
-fault_else v.Bad over h = absurd (miss (0 ∷ 1 ∷ 2 ∷ []) 4 tt h)
+fault_else v.Long over h = absurd (miss (0 ∷ 1 ∷ 2 ∷ []) 3 tt (opened h))
+fault_else v.Bad over h = absurd (miss (0 ∷ 1 ∷ 2 ∷ []) 4 tt (opened h))
 
 -- What a step makes of a token that is no word, or no name.
 abbrev pub no_word : List ℕ
 no_word = 0 ∷ 2 ∷ 3 ∷ 4 ∷ []
 
-pub expects_other : (number : ℕ) (rest : List ℕ) (base : ℕ) (t : code.Token) (ts : List Token) → OneOf no_word (tag_of kinds.the_type t)
+pub expects_other : (number : ℕ) (rest : List ℕ) (base : ℕ) (t : code.Token) (ts : List Token) → Among no_word (tag_of kinds.the_type t)
     → expects number (shown_past rest base t ts) ≡ stop (fault_of t 12)
 unfolding expects
 expects_other number rest base v.End ts h = refl
-expects_other number rest base (v.Word w) ts h = absurd (miss no_word 1 tt h)
+expects_other number rest base (v.Word w) ts h = absurd (miss no_word 1 tt (opened h))
 expects_other number rest base (v.Name start size) ts h = refl
 expects_other number rest base v.Long ts h = refl
 expects_other number rest base v.Bad ts h = refl
 
-pub which_other : (first second : ℕ) (rest : List ℕ) (base : ℕ) (t : code.Token) (ts : List Token) → OneOf no_word (tag_of kinds.the_type t)
+pub which_other : (first second : ℕ) (rest : List ℕ) (base : ℕ) (t : code.Token) (ts : List Token) → Among no_word (tag_of kinds.the_type t)
     → which first second (shown_past rest base t ts) ≡ neither (fault_of t 12)
 unfolding which
 which_other first second rest base v.End ts h = refl
-which_other first second rest base (v.Word w) ts h = absurd (miss no_word 1 tt h)
+which_other first second rest base (v.Word w) ts h = absurd (miss no_word 1 tt (opened h))
 which_other first second rest base (v.Name start size) ts h = refl
 which_other first second rest base v.Long ts h = refl
 which_other first second rest base v.Bad ts h = refl
@@ -84,12 +85,12 @@ which_other first second rest base v.Bad ts h = refl
 abbrev pub not_named : List ℕ
 not_named = 0 ∷ 1 ∷ 3 ∷ 4 ∷ []
 
-pub name_other : (rest : List ℕ) (base : ℕ) (t : code.Token) (ts : List Token) → OneOf not_named (tag_of kinds.the_type t)
+pub name_other : (rest : List ℕ) (base : ℕ) (t : code.Token) (ts : List Token) → Among not_named (tag_of kinds.the_type t)
     → a_name (shown_past rest base t ts) ≡ stop (fault_of t 13)
 unfolding a_name
 name_other rest base v.End ts h = refl
 name_other rest base (v.Word w) ts h = refl
-name_other rest base (v.Name start size) ts h = absurd (miss not_named 2 tt h)
+name_other rest base (v.Name start size) ts h = absurd (miss not_named 2 tt (opened h))
 name_other rest base v.Long ts h = refl
 name_other rest base v.Bad ts h = refl
 

@@ -13,7 +13,7 @@ use crate::step::{Named, name_of};
 use table::{ROW, SLOTS, VALUES};
 
 // A slot's or a value's number and the position after its name; or a refusal.
-#[derive(Drop)]
+#[derive(Clone, Copy)]
 pub enum Number {
     Is(usize, usize),
     Fault(u8),

@@ -8,14 +8,14 @@ ghost use Rattle.steps.specs.inner.Places.{fault_of, tokens_past, step_part, Ste
 use text::{Next, Token};
 
 // What must stand next stood there, and the position after it; or a refusal.
-#[derive(Drop)]
+#[derive(Clone, Copy)]
 pub enum Step {
     At(usize),
     Fault(u8),
 }
 
 // The one or the other of two words stood there; or a refusal.
-#[derive(Drop)]
+#[derive(Clone, Copy)]
 pub enum Fork {
     First(usize),
     Second(usize),
@@ -23,7 +23,7 @@ pub enum Fork {
 }
 
 // A name: its place, its length, and the position after it; or a refusal.
-#[derive(Drop)]
+#[derive(Clone, Copy)]
 pub enum Named {
     At(usize, usize, usize),
     Fault(u8),

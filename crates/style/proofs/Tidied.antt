@@ -11,7 +11,7 @@ use Rattle.laws.proofs.Lists.{map_append}
 use Rattle.text.specs.Tokens.{Name, Token, word, name, SLOT, WHEN, IF, THEN, AND, NOT, TRUE, OPEN, CLOSE, COMMA, SEMICOLON, BECOMES, HAS, GETS}
 use Rattle.model.specs.Rules.{Pair, Literal, Rule}
 use Rattle.grammar.specs.Files.{Slot, File, slot_named, value_written}
-use Rattle.grammar.specs.Grammar.{RuleTree, SlotvalTree, ConditionTree, and_literal, one_literal, LiteralTree, not_literal, becomes_value, holds_value, AssignTree, braces, AssignmentListTree, one_assignment, comma_assignment, AssignmentTree, ValueListTree, one_value, comma_value, LineTree, line, FileTree, grown, spell, spell_slotval, spell_literal, spell_condition, spell_assignment, spell_assignments, spell_assign, spell_rule, spell_rules, spell_values, spell_lines}
+use Rattle.grammar.specs.Grammar.{RuleTree, SlotvalTree, ConditionTree, true_alone, and_literal, one_literal, LiteralTree, not_literal, becomes_value, holds_value, AssignTree, braces, AssignmentListTree, one_assignment, comma_assignment, AssignmentTree, ValueListTree, one_value, comma_value, LineTree, line, FileTree, grown, spell, spell_slotval, spell_literal, spell_condition, spell_assignment, spell_assignments, spell_assign, spell_rule, spell_rules, spell_values, spell_lines}
 use Rattle.grammar.specs.Meaning.{Names, nots, turned, tests_change, tested_slot, tested_value, MeansLiteral, MeansCondition, means_and, means_one, means_true, MeansAssignment, means_assignment, MeansAssignments, means_first, means_comma, MeansAssign, means_alone, means_braces, means_trigger, MeansRule, means_rule, MeansRules, no_rules, more_rules, Means}
 use Rattle.grammar.proofs.Leftmost.{grown_last}
 use Rattle.grammar.proofs.Declared.{slot_letters, value_letters}
@@ -26,6 +26,7 @@ use Rattle.style.proofs.Unplaced.{layout_bare}
 literals_tidy : (c : ConditionTree) → TidyLiterals c → TidyCondition c
 literals_tidy (and_literal c l) h = h
 literals_tidy (one_literal l) h = h
+literals_tidy true_alone h = elim h [ ]
 
 grown_tidy : (c : ConditionTree) (ls : List LiteralTree) → TidyLiterals c → Each (λ (l : LiteralTree). nots l ≤ 1) ls → TidyLiterals (grown and_literal c ls)
 grown_tidy c [] h k = h

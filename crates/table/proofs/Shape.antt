@@ -1,11 +1,11 @@
 -- What holding a table, a rule or a slot tells of its arrays and bytes: the shape law.
 -- Assumes nothing.
 use mathlib.Core.Path.{◌≡◌}
-use mathlib.Core.List.{List, [], ◌∷◌, map}
+use mathlib.Core.List.{List, [], ◌∷◌}
 use Prim.Native.Nat.{ℕ, zero, suc, ◌<◌}
 use native.Mathlib.Nat.{le_of_suc-le-suc}
 use native.Mathlib.Omega.{arith}
-use lib.ListN.{length, get_or, length-map, get_or-map}
+use lib.ListN.{length, get_or}
 use mir.Val.{Val}
 use base.Fml.{Fml}
 use denote.Array.{each}
@@ -32,12 +32,6 @@ each_at f (x ∷ xs) [] d i h g = absurd g
 each_at f (x ∷ xs) (u ∷ us) d zero h g = (u, g.0)
 each_at f (x ∷ xs) (u ∷ us) d (suc i) h g = each_at f xs us d i (le_of_suc-le-suc h) g.1
 
-each_at_map : {X Y : Type 0} (f : Y → List Val → Fml) (g : X → Y) (xs : List X) (us : List Val) (d : X) (i : ℕ)
-    → i < length xs → shadow (each Y f (map g xs) us) → (u : Val) × shadow (f (g (get_or xs i d)) (u ∷ []))
-each_at_map f g xs us d i h s =
-    let k : i < length (map g xs) = rw length-map h in
-    rw (get_or-map g xs i d) at (each_at f (map g xs) us (g d) i k s)
-
 -- The field at place k of a struct is at `.1 .1`, then k times `.1`, then `.0`; there an array's length is at `.1 .0 .1`, its elements at `.1 .1`, a byte's range at `.1`.
 pub literal_shaped : (l : Literal) (vs : List Val) → shadow ((literal.the_row).own_val l vs) → LiteralShaped l
 literal_shaped l vs g = record { slot_byte = g.1.1.1.1.0.1; value_byte = g.1.1.1.1.1.0.1 }
@@ -47,32 +41,32 @@ assignment_shaped a vs g = record { slot_byte = g.1.1.0.1; value_byte = g.1.1.1.
 
 pub rule_shaped : (r : Rule) (vs : List Val) → shadow ((rule.the_row).own_val r vs) → RuleShaped r
 rule_shaped r vs g =
-    let l : length r.literals ≡ literal_limit = simp length-map at g.1.1.1.1.0.1.0.1 in
-    let a : length r.assignments ≡ assignment_limit = simp length-map at g.1.1.1.1.1.1.0.1.0.1 in
+    let l : length r.literals ≡ literal_limit = g.1.1.1.1.0.1.0.1 in
+    let a : length r.assignments ≡ assignment_limit = g.1.1.1.1.1.1.0.1.0.1 in
     record {
       slot_byte = g.1.1.0.1;
       value_byte = g.1.1.1.0.1;
       literal_places = l;
-      each_literal = λ j h. (let k : j < length r.literals = omega arith in let e = each_at_map _ _ r.literals _ zero_literal j k g.1.1.1.1.0.1.1 in literal_shaped (get_or r.literals j zero_literal) (e.0 ∷ []) e.1);
+      each_literal = λ j h. (let k : j < length r.literals = omega arith in let e = each_at (λ y us. (literal.the_row).own_val y us) r.literals g.1.1.1.1.0.0 zero_literal j k g.1.1.1.1.0.1.1 in literal_shaped (get_or r.literals j zero_literal) (e.0 ∷ []) e.1);
       assignment_places = a;
-      each_assignment = λ j h. (let k : j < length r.assignments = omega arith in let e = each_at_map _ _ r.assignments _ zero_assignment j k g.1.1.1.1.1.1.0.1.1 in assignment_shaped (get_or r.assignments j zero_assignment) (e.0 ∷ []) e.1);
+      each_assignment = λ j h. (let k : j < length r.assignments = omega arith in let e = each_at (λ y us. (assignment.the_row).own_val y us) r.assignments g.1.1.1.1.1.1.0.0 zero_assignment j k g.1.1.1.1.1.1.0.1.1 in assignment_shaped (get_or r.assignments j zero_assignment) (e.0 ∷ []) e.1);
       stratum_small = g.1.1.1.1.1.1.1.1.0.1;
     }
 
 pub slot_shaped : (s : Slot) (vs : List Val) → shadow ((slot.the_row).own_val s vs) → SlotShaped s
-slot_shaped s vs g = record { value_places = simp length-map at g.1.1.1.0.1.0.1 }
+slot_shaped s vs g = record { value_places = g.1.1.1.0.1.0.1 }
 
 -- A table that the code has has all places for rules.
 pub all_places : (t : Table) (vs : List Val) → shadow ((table.the_row).own_val t vs) → length t.rules ≡ rule_limit
-all_places t vs g = simp length-map at g.1.1.1.1.0.1.0.1
+all_places t vs g = g.1.1.1.1.0.1.0.1
 
 pub shaped : (t : Table) (vs : List Val) → shadow ((table.the_row).own_val t vs) → Shaped t
 shaped t vs g =
-    let s : length t.slots ≡ slot_limit = simp length-map at g.1.1.0.1.0.1 in
+    let s : length t.slots ≡ slot_limit = g.1.1.0.1.0.1 in
     let r = all_places t vs g in
     record {
       slot_places = s;
-      each_slot = λ i h. (let k : i < length t.slots = omega arith in let e = each_at_map _ _ t.slots _ zero_slot i k g.1.1.0.1.1 in slot_shaped (get_or t.slots i zero_slot) (e.0 ∷ []) e.1);
+      each_slot = λ i h. (let k : i < length t.slots = omega arith in let e = each_at (λ y us. (slot.the_row).own_val y us) t.slots g.1.1.0.0 zero_slot i k g.1.1.0.1.1 in slot_shaped (get_or t.slots i zero_slot) (e.0 ∷ []) e.1);
       rule_places = λ h. omega (arith, h, r);
-      each_rule = λ i k. (let e = each_at_map _ _ t.rules _ zero_rule i k g.1.1.1.1.0.1.1 in rule_shaped (get_or t.rules i zero_rule) (e.0 ∷ []) e.1);
+      each_rule = λ i k. (let e = each_at (λ y us. (rule.the_row).own_val y us) t.rules g.1.1.1.1.0.0 zero_rule i k g.1.1.1.1.0.1.1 in rule_shaped (get_or t.rules i zero_rule) (e.0 ∷ []) e.1);
     }

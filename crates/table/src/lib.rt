@@ -1,4 +1,6 @@
 // The table of document 01, 'Rule text': slots, values and rules by value. In a rule value 0 is NONE (document 02, section 6).
+#![tactic(auto)]
+
 ghost use Rattle.std.specs.Prelude.{◌≡◌};
 ghost use Rattle.table.specs.Empty.{unused_rule, empty_table};
 ghost use Rattle.table.specs.inner.Flat.{Placed, At};
@@ -20,14 +22,14 @@ pub const ROW: usize = VALUES + 1;
 pub const PAIRS: usize = SLOTS * ROW;
 
 // Which response a table is read for and asked by: the response by strata (document 01), or the response by marks (document 02, section 3).
-#[derive(Drop)]
+#[derive(Clone, Copy)]
 pub enum Way {
     Strata,
     Marks,
 }
 
 // Whose limits a text is read by (document 02, section 7): the library's, or the smaller ones of the program.
-#[derive(Drop)]
+#[derive(Clone, Copy)]
 pub enum Limits {
     Library,
     Program,
@@ -38,7 +40,7 @@ pub type Stratum = u16;
 
 // A test in a condition: `slot *= value` (becomes) or `slot |= value`, plain or under NOT.
 #[repr(C)]
-#[derive(Drop)]
+#[derive(Clone, Copy)]
 pub struct Literal {
     pub becomes: bool,
     pub negated: bool,
@@ -48,7 +50,7 @@ pub struct Literal {
 
 // `slot := value`.
 #[repr(C)]
-#[derive(Drop)]
+#[derive(Clone, Copy)]
 pub struct Assignment {
     pub slot: u8,
     pub value: u8,
@@ -56,7 +58,7 @@ pub struct Assignment {
 
 // A rule: its trigger `slot *= value`, the literal places with the number used, the assignment places with the number used, its stratum.
 #[repr(C)]
-#[derive(Drop)]
+#[derive(Clone, Copy)]
 pub struct Rule {
     pub slot: u8,
     pub value: u8,
@@ -72,7 +74,7 @@ pub type Offset = u32;
 
 // Where a name stands in the rule text.
 #[repr(C)]
-#[derive(Drop)]
+#[derive(Clone, Copy)]
 pub struct Name {
     pub start: Offset,
     pub size: Offset,
@@ -80,7 +82,7 @@ pub struct Name {
 
 // A slot: its name, and the names of its values with the number used.
 #[repr(C)]
-#[derive(Drop)]
+#[derive(Clone, Copy)]
 pub struct Slot {
     pub name: Name,
     pub values: [Name; VALUES],
@@ -89,7 +91,7 @@ pub struct Slot {
 
 // The slots with the number used, and the rules with the number used.
 #[repr(C)]
-#[derive(Drop)]
+#[derive(Clone, Copy)]
 pub struct Table {
     pub slots: [Slot; SLOTS],
     pub width: u16,

@@ -1,4 +1,6 @@
 // The tally of a day: slips answered and slips refused, 0 to 9,999 each, for each editor.
+#![tactic(auto)]
+
 ghost use Rattle.std.specs.Prelude.{◌≡◌, false};
 ghost use Rattle.tally.specs.Counting.{is_full, one_answered, one_refused};
 ghost use Rattle.tally.specs.Editors.{is_editor};
@@ -6,7 +8,7 @@ ghost use Rattle.tally.specs.inner.Places.{record_place};
 
 // Slips answered and slips refused.
 #[repr(C)]
-#[derive(Drop)]
+#[derive(Clone, Copy)]
 pub struct Tally {
     pub answered: u16,
     pub refused: u16,

@@ -9,7 +9,7 @@ use rows::wide;
 use table::PAIRS;
 
 // A rule, from 0, with the place in the sorted rules and the number of woken rules that are left after it.
-#[derive(Drop)]
+#[derive(Clone, Copy)]
 pub struct Turn {
     pub rule: usize,
     pub place: usize,

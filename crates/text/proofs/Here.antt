@@ -12,7 +12,7 @@ use lib.Seq.{drop-cons, length-take-le}
 use borrow.Author.Tests.{eq-eqb, ne_eqb, lt-ltb, le-ltb}
 use Rattle.laws.specs.Limits.{name_limit}
 use Rattle.classes.specs.Classes.{class_of}
-use Rattle.text.specs.Tokens.{Name, Token, run, run_token, place, reserved, mark_of, equals_first, token_here, more_bytes}
+use Rattle.text.specs.Tokens.{run, run_token, place, reserved, mark_of, equals_first, token_here, more_bytes}
 use Rattle.text.specs.Next.{white, coded, next_from, next_at}
 use Rattle.text.specs.declared.Next.{Next}
 use Rattle.text.specs.declared.Token as code

@@ -1,4 +1,6 @@
 // The text of rule files: one token at a position.
+#![tactic(auto)]
+
 ghost use Rattle.std.specs.Prelude.{◌≡◌, true, cond, ◌+◌, ◌-◌, ◌≤◌, length, take, drop};
 ghost use Rattle.classes.specs.Classes.{Classes};
 ghost use Rattle.text.specs.Tokens.{run, run_token, mark_of, place, reserved, same_letters};
@@ -39,7 +41,7 @@ pub const GETS: u8 = 15;
 pub const NAME_LIMIT: usize = 24;
 
 // What stands at a position of a text.
-#[derive(Drop)]
+#[derive(Clone, Copy)]
 pub enum Token {
     // Nothing but white.
     End,
@@ -54,7 +56,7 @@ pub enum Token {
 }
 
 // A token and the position after it.
-#[derive(Drop)]
+#[derive(Clone, Copy)]
 pub struct Next {
     pub token: Token,
     pub at: usize,

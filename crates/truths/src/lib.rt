@@ -1,9 +1,11 @@
 // True, False and Unknown, the RL paper, section 6.1: the cases of AND and NOT, for a reviewer to tick off against its words, and the three by number.
+#![tactic(auto)]
+
 ghost use Rattle.std.specs.Prelude.{◌≡◌, ◌-◌, ◌≤◌, min};
 ghost use Rattle.truths.specs.Truths.{◌AND₃◌, NOT₃, number};
 
 // The three truth values, in the order of their numbers: what the evaluation of a test, a literal, a condition or a rule gives.
-#[derive(Drop)]
+#[derive(Clone, Copy)]
 pub enum Truth3 {
     False,
     Unknown,

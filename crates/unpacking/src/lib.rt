@@ -1,4 +1,6 @@
 // Any bytes unpacked as a card or as a slip: refusals 31, 20 to 28.
+#![tactic(auto)]
+
 pub mod unpack;
 
 ghost use Rattle.std.specs.Prelude.{◌≡◌, List, ℕ};

@@ -1,4 +1,6 @@
 // The lines of slots and rules put into an output, in the house style (document 02, section 1).
+#![tactic(auto)]
+
 pub mod files;
 pub mod put;
 pub mod rules;

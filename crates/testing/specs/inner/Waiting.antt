@@ -1,5 +1,5 @@
 -- The rules that wait at a pair, in lists: the first of each pair, the one after each rule, counted from 1 with 0 for none; and the rules woken.
-use Rattle.std.specs.Prelude.{◌≡◌, List, ℕ, zero, suc, ◌+◌, ◌≤◌, ◌<◌, length, get_or}
+use Rattle.std.specs.Prelude.{List, ℕ, zero, suc, ◌+◌, ◌≤◌, ◌<◌, length, get_or}
 use Rattle.testing.specs.declared.waiting.Turn.{Turn}
 
 -- The lists name rules only.
