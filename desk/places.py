@@ -1,6 +1,6 @@
 """Where a rule text is refused and what may stand there, found by the proved reading alone.
 
-The first faulty token decides a refusal of 11 to 17, and nothing that stands behind it matters (`refusal-stands`, `one-place` and `found-by-cutting` in crates/grammar/proofs/Refusals.antt). So a text that is cut after some of its tokens, with a byte behind the cut that is faulty anywhere, is refused with 11 exactly where the faulty token was cut off; and the place is found by halving.
+The first faulty token decides a refusal of 11 to 17, and nothing that stands behind it matters (`refusal_stands`, `one_place` and `found_by_cutting` in crates/grammar/proofs/Refusals.antt). So a text that is cut after some of its tokens, with a byte behind the cut that is faulty anywhere, is refused with 11 exactly where the faulty token was cut off; and the place is found by halving.
 """
 import re
 

@@ -32,14 +32,23 @@ GAP, LINE = 18, 13
 
 def crates():
     """Each crate of crates.txt, in its order, with what it uses, libraries of the kit too, and its storey."""
-    found = {}
+    return {name: (uses, storey) for name, _, uses, storey in lines()}
+
+
+def static_libraries():
+    """The crates that crates.txt has as static libraries."""
+    return {name for name, kind, _, _ in lines() if kind == ['staticlib']}
+
+
+def lines():
+    """The lines of crates.txt: a crate, the words that say what it is, what it uses, and its storey."""
     with open(os.path.join(TOP, 'crates.txt'), encoding='utf-8') as file:
         for line in file:
             listed, _, storey = line.partition('#')
-            name, colon, uses = listed.partition(':')
+            head, colon, uses = listed.partition(':')
             if colon:
-                found[name.strip()] = uses.split(), storey.strip()
-    return found
+                name, *kind = head.split()
+                yield name, kind, uses.split(), storey.strip()
 
 
 def reached(names, listed):

@@ -4,7 +4,7 @@ import os
 import re
 import sys
 
-from entry_points import ENTRY_POINTS
+from entry_points import ENTRY_POINTS, contract_of
 from promises import quoted, rows
 
 TOP = os.path.dirname(os.path.dirname(os.path.abspath(__file__)))
@@ -12,7 +12,8 @@ CRATES = os.path.join(TOP, 'crates')
 
 # A word of antt; what stands before a dot is a module or a value.
 WORD = re.compile(r'(?:([^\s(){}.;,@"«»]+)\.)?([^\s(){}.;,@"«»]+)')
-USE = re.compile(r'^(?:ghost )?use Rattle·(\w+)(?:·specs)?\.specs\.([\w.]+?)(?:\.\{(.*)\}| as (\S+?))?;?$', re.M)
+IMPORT = re.compile(r'^ *(?:(?:pub|ghost) )*use [^{;\n]*(?:\{[^}]*\})?;?\n', re.M)
+USE = re.compile(r'^ *(?:(?:pub|ghost) )*use Rattle\.(\w+)\.specs\.([\w.]+?)(?:\.\{([^}]*)\}| as (\S+?))?;?$', re.M)
 OPENS = re.compile(r'^( *)(?:(?:unfoldable|abbrev|pub) )*(record |data )?([^\s:(){}=]+)(?: [({].*?)? :\s')
 
 
@@ -23,14 +24,14 @@ def read(path):
 
 def words_of(name):
     """A name and, of an operator, its parts."""
-    return [name] + [part for part in name.split('_') if part and '_' in name]
+    return [name] + [part for part in name.split('◌') if part and '◌' in name]
 
 
 def scope(text):
     """What the words of a file mean by its `use` lines: by name, and by alias."""
     names, aliases = {}, {}
     for crate, module, items, alias in USE.findall(text):
-        for item in filter(None, items.split(', ')):
+        for item in filter(None, re.split(r'[\s,]*,\s*', items.strip())):
             name, _, other = item.partition(' as ')
             for word in words_of(other or name):
                 names[word] = (crate, module, name)
@@ -43,9 +44,9 @@ def definitions(text):
     """The definitions of a module, each with its text; a constructor is a name of its type's. And those of its names that are constructors."""
     found, owner, made = {}, {}, set()
     current, kind, edge, around = None, None, 0, ''
-    for line in text.split('\n'):
+    for line in IMPORT.sub('', text).split('\n'):
         indent = len(line) - len(line.lstrip())
-        if re.match(r'use |infix', line.lstrip()):
+        if re.match(r'infix', line.lstrip()):
             continue
         if line.startswith('module _'):
             around = line
@@ -97,8 +98,8 @@ class Sources:
                 continue
             elif own and word in self.parts[own][1]:
                 where, name = own, word
-            elif own and f'_{word}_' in self.parts[own][1]:
-                where, name = own, f'_{word}_'
+            elif own and f'◌{word}◌' in self.parts[own][1]:
+                where, name = own, f'◌{word}◌'
             elif word in names:
                 crate, module, name = names[word]
                 where = crate, module
@@ -118,8 +119,7 @@ class Sources:
             text = read(os.path.join(CRATES, crate, 'src/lib.rt'))
             names, aliases = scope(text)
             for function in functions:
-                head = re.search(rf'^pub (?:extern "C" )?fn {function}\b(.*?)^\{{', text, re.M | re.S)
-                yield from self.meant(' '.join(re.findall(r'⌜(.*?)⌝', head[1] if head else '', re.S)), names, aliases)
+                yield from self.meant(contract_of(text, function), names, aliases)
 
     def believed(self):
         """All that the roots are made of."""

@@ -28,6 +28,13 @@ def named(path, pattern):
         return re.findall(pattern, file.read(), re.M)
 
 
+def contract_of(source, name):
+    """The clauses of a public function, or nothing where it has none: they stand between its signature and its body, each on lines of its own."""
+    found = re.search(rf'^pub (?:extern "C" )?fn {name}\b(.*?)^[{{}}]', re.sub(r'^\s*//.*\n', '', source, flags=re.M), re.M | re.S)
+    clauses = re.search(r'^ +(?:requires|ensures)\b.*', found[1], re.M | re.S) if found and found[0][-1] == '{' else None
+    return clauses[0] if clauses else ''
+
+
 def main():
     wrong = 0
     for path, pattern in (('include/rl.h', r'^\w+ (rl_\w+)\('), ('docs/REFERENCE.md', r'\*\*`(rl_\w+)\(')):
@@ -38,9 +45,8 @@ def main():
         with open(os.path.join(TOP, 'crates', crate, 'src/lib.rt'), encoding='utf-8') as file:
             source = file.read()
         for name in names:
-            found = re.search(r'^pub (?:extern "C" )?fn ' + name + r'\b(.*?)^\{', source, re.M | re.S)
-            head = found[1] if found else ''
-            if 'ensures {' not in head or 'requires' in head:
+            contract = contract_of(source, name)
+            if not re.search(r'\bensures\b', contract) or re.search(r'\brequires\b', contract):
                 print(f'{crate}::{name} has no promise for every argument')
                 wrong = 1
     return wrong

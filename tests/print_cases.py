@@ -188,7 +188,7 @@ def quoted():
     """Says whether the example and its print are quoted as they are where the print is computed by evaluation."""
     path = 'crates/style/proofs/Cases.antt'
     with open(os.path.join(TOP, path), encoding='utf-8') as file:
-        before, after = re.search(r'^dialect =$(.*?)^pub case-dialect(.*?)^unfolding', file.read(), re.M | re.S).groups()
+        before, after = re.search(r'^dialect =$(.*?)^pub case_dialect(.*?)^(?:unfolding|case_dialect =)', file.read(), re.M | re.S).groups()
     for part, text in ((before, example('dialect')), (after, b''.join(printed(example('dialect'), PRINT_BYTES)))):
         if ''.join(line + '\n' for line in re.findall('"(.*?)"', part)).encode() != text:
             print(f'{path} quotes examples/dialect otherwise')

@@ -9,7 +9,7 @@ TOP = os.path.dirname(os.path.dirname(os.path.abspath(__file__)))
 CRATES = os.path.join(TOP, 'crates')
 
 # A name as Rattle and antt write it, with at least three letters; other words in backquotes are RL or terms.
-NAME = re.compile(r"[A-Za-z][A-Za-z0-9_′-]{2,}")
+NAME = re.compile(r"[A-Za-z][A-Za-z0-9_'-]{2,}")
 
 # RL's words, the language's, and what else stands in backquotes without being a name of the sources.
 WORDS = {'SLOT', 'TRUE', 'AND', 'NOT', 'SLOTx', 'unread', 'refused', 'must-fail', 'Debian', 'requires'}
@@ -136,7 +136,7 @@ def rows(text):
 def main():
     text = read(os.path.join(TOP, 'docs/PROMISES.md'))
     wrong = []
-    sources = [os.path.join(folder, name) for folder, _, names in os.walk(CRATES) for name in names if name.endswith(('.rt', '.antt', '.edit'))]
+    sources = [os.path.join(folder, name) for folder, _, names in os.walk(CRATES) if 'out' not in os.path.relpath(folder, CRATES).split(os.sep) for name in names if name.endswith(('.rt', '.antt', '.edit'))]
     known = set(os.listdir(CRATES)).union(*(NAME.findall(source(path)) for path in sources)).union(*(defined(path) for path in sources if path.endswith('.edit')))
     paths, words, _ = quoted(text)
     wrong += [f'names {path}, which is not there' for path in paths if not list(files_at(path))]

@@ -1,4 +1,4 @@
-//! Links the proved engine, which `rt staticlib library` makes.
+//! Links the proved engine, which `./prove library` makes.
 
 fn main() {
     let folder = concat!(env!("CARGO_MANIFEST_DIR"), "/../../../target/staticlib");
