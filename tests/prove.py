@@ -40,6 +40,14 @@ fi
 exit "$(cat "$ROOM/STATUS/$at" 2>/dev/null || echo 0)"
 '''
 
+# A program that writes its arguments, its input and a file of its data, and ends with a status of its own.
+PROGRAM = """#!/bin/sh
+echo "$*"
+cat
+cat rules.txt
+exit 7
+"""
+
 # What rt prints of a proof by a lemma that does not fit, and what of that is shown.
 WRONG = '''rt: chose --jobs 2 for text
 ./proofs/text/Answers.antt:8:13: error: `returns`: this has another type
@@ -113,6 +121,13 @@ class Proving(unittest.TestCase):
             file.write(text)
         return path
 
+    def put_program(self, name, **files):
+        """Has rt leave the program of these tests for a crate, on some files of the crate's own in place of those on which its run is as owed."""
+        owed = {'args': 'one\ntwo\n', 'stdin': 'the input\n', 'data/rules.txt': 'the rules\n', 'stdout': 'one two\nthe input\nthe rules\n', 'status': '7\n'}
+        for file, text in {**owed, **files}.items():
+            self.put(f'top/crates/{name}/{file}', text)
+        os.chmod(self.put(f'MADE/{name}/{name}', PROGRAM), 0o755)
+
     def read(self, path):
         """The text of a file of the room, or nothing."""
         path = os.path.join(self.room, path)
@@ -158,21 +173,28 @@ class Proving(unittest.TestCase):
         self.assertEqual(self.run_in_pipe('cursor', 'tally'), (counted(names, 5), 0, 'tally check\ncursor check\n'))
 
     def test_program(self):
+        """It is run on what its crate has for it. The status of rt run is the program's own, and says nothing."""
         names = needed('rl')
         self.assertNotIn('library', names)
         self.assertNotIn('std', names)
-        self.says('rl', proved(names), rl='the program')
+        self.says('rl', proved(names), 7)
+        self.put_program('rl')
         self.assertEqual(self.run_in_pipe('rl'), (counted(names, len(names)), 0, 'rl run\n'))
-        self.assertEqual(self.read('top/target/bin/rl'), 'the program')
+        self.assertEqual(self.read('top/target/bin/rl'), PROGRAM)
         # A source that is edited while rt runs is newer than what is made.
         self.assertLess(os.stat(os.path.join(self.top, 'target/bin/rl')).st_mtime, os.stat(os.path.join(self.room, 'ASKED')).st_mtime)
 
-    def test_program_of_a_status(self):
-        """The status of rt run is the program's own."""
+    def test_run_failed(self):
+        """What a program writes is held to its crate's stdout, its exit status to status; one that fails is not taken."""
         names = needed('rl')
-        self.says('rl', proved(names), 7, rl='the program')
-        self.assertEqual(self.run_in_pipe('rl')[:2], (counted(names, len(names)), 0))
-        self.assertEqual(self.read('top/target/bin/rl'), 'the program')
+        self.says('rl', proved(names), 7)
+        wrote, ended = "what the program wrote is not what its file 'stdout' has", 'the program ended with status 7, and not'
+        for files, wrong in (({'stdout': 'one two\nthe input\nThe rules\n'}, wrote), ({'stdout': ''}, wrote), ({'stdin': ''}, wrote), ({'args': ''}, wrote),
+                             ({'data/rules.txt': ''}, wrote), ({'status': '0'}, f'{ended} 0'), ({'status': '8'}, f'{ended} 8')):
+            with self.subTest(files=files):
+                self.put_program('rl', **files)
+                self.assertEqual(self.run_in_pipe('rl')[:2], (counted(names, len(names)) + f'prove: rl: {wrong}\n', 1))
+                self.assertIsNone(self.read('top/target/bin/rl'))
 
     def test_program_refused(self):
         """What an earlier run made is not taken for what is refused now."""
@@ -200,7 +222,8 @@ class Proving(unittest.TestCase):
         names = needed('library')[:-1]
         self.put('top/crates/library/out/liblibrary.a', 'an older one')
         self.says('library', proved(names) + SHOWN, 3)
-        self.says('rl', proved(needed('rl')), rl='the program')
+        self.says('rl', proved(needed('rl')))
+        self.put_program('rl')
         self.assertEqual(self.run_in_pipe('library', 'rl'), (counted(names, len(needed('library', 'rl'))) + SHOWN + 'prove: library is not proved\n', 3, 'library lib\n'))
         self.assertIsNone(self.read('top/target/staticlib/liblibrary.a'))
 
@@ -213,19 +236,30 @@ class Proving(unittest.TestCase):
         return ''.join(f'== {name}\n' + ('' if name in unchanged else proved([name])) for name in names)
 
     def test_all(self):
+        """What is made of some crates comes after the proof of all, and is taken."""
         pass_over = 'rt: chose 2 at a time\nlogic /kit/antt-project.json: libraries=16 files=2756 sum=0\nonly=0 proved=0\n'
         ends = '== summary\n' + ''.join(f'{name}: ok\n' for name in LISTED) + f'{len(LISTED)} of {len(LISTED)} crates ok\n'
         self.says('top', pass_over + self.blocks(LISTED) + ends)
-        self.assertEqual(self.run_in_pipe(), (counted(LISTED, len(LISTED)), 0, 'top all check\n'))
+        self.says('library', proved(['library']), liblibrary__a='the archive')
+        for name in PROGRAMS:
+            self.says(name, proved([name]), 7)
+            self.put_program(name)
+        made = [f'{name} {"run" if name in PROGRAMS else "lib"}\n' for name in LISTED if name in PROGRAMS or name == 'library']
+        self.assertEqual(len(made), 4)
+        self.assertEqual(self.run_in_pipe(), (counted(LISTED, len(LISTED)), 0, 'top all check\n' + ''.join(made)))
+        self.assertEqual(self.read('top/target/staticlib/liblibrary.a'), 'the archive')
+        self.assertEqual([self.read(f'top/target/bin/{name}') for name in PROGRAMS], [PROGRAM] * 3)
         self.says('top', pass_over + self.blocks(LISTED, LISTED) + ends)
         self.assertEqual(self.run_in_pipe()[:2], (counted(LISTED, len(LISTED), LISTED), 0))
+        self.put_program('rl', stdout='')
+        self.assertEqual(self.run_in_pipe()[:2], (counted(LISTED, len(LISTED), LISTED) + "prove: rl: what the program wrote is not what its file 'stdout' has\n", 1))
 
     def test_all_refused(self):
         ends = 'text: failed (1)\ncursor: not run, since text failed\n2 of 4 crates ok\n'
         self.says('top', self.blocks(['laws', 'classes']) + '== text\n' + WRONG + self.blocks(['tally']) + '== summary\nlaws: ok\nclasses: ok\ntally: ok\n' + ends, 1)
         total = len(LISTED)
         shown = counted(['laws', 'classes'], total) + SHOWN + f'proved 3 of {total}: tally (0 s)\n' + ends
-        self.assertEqual(self.run_in_pipe()[:2], (shown, 1))
+        self.assertEqual(self.run_in_pipe(), (shown, 1, 'top all check\n'))
 
     def test_not_listed(self):
         self.assertEqual(self.run_in_pipe('curser'), ('prove: crates.txt does not list curser\n', 2, None))
