@@ -8,18 +8,18 @@ use mathlib.Core.List.{List, [], ◌∷◌, ◌++◌, append_assoc}
 use Rattle.text.specs.Tokens.{Token, word, name, long, bad, NONE}
 use Rattle.grammar.specs.Grammar.{RuleTree, LineTree, spell_rules, spell_lines}
 use Rattle.grammar.specs.Beginnings.{Position, FaultAt, slot_twice, value_twice, too_many_slots, too_many_values, too_many_rules, too_many_literals, too_many_nots, too_many_assignments, no_trigger_slot, no_tested_slot, no_assigned_slot, no_such_value, slot_assigned_twice}
-use Rattle.grammar.specs.Refusals.{Goes_on, OutOfPlace, Fault, no_token, no_place, ends_inside, too_long, in_place, Stuck}
+use Rattle.grammar.specs.Refusals.{GoesOn, OutOfPlace, Fault, no_token, no_place, ends_inside, too_long, in_place, Stuck}
 use Rattle.grammar.specs.Reading.{begins_with}
 use Rattle.grammar.proofs.Stopping.{Written}
 use Rattle.grammar.proofs.Parts.{x_name}
 use Rattle.grammar.proofs.Stops.{rule_written, line_written}
 
 -- What begins a derivation begins one after fewer tokens too.
-pub goes_front : (ts us : List Token) → Goes_on (ts ++ us) → Goes_on ts
+pub goes_front : (ts us : List Token) → GoesOn (ts ++ us) → GoesOn ts
 goes_front ts us g = record { tree = g.tree; more = us ++ g.more; derives = g.derives ∙ rw append_assoc }
 
-pub goes_first : (before : List Token) (t : Token) (mid : List Token) → Goes_on (before ++ t ∷ mid) → Goes_on (before ++ t ∷ [])
-goes_first before t mid g = goes_front (before ++ t ∷ []) mid (subst Goes_on (sym (append_assoc before (t ∷ []) mid)) g)
+pub goes_first : (before : List Token) (t : Token) (mid : List Token) → GoesOn (before ++ t ∷ mid) → GoesOn (before ++ t ∷ [])
+goes_first before t mid g = goes_front (before ++ t ∷ []) mid (subst GoesOn (sym (append_assoc before (t ∷ []) mid)) g)
 
 rules_written : (us : List RuleTree) → Written (spell_rules us [])
 rules_written [] = tt
@@ -47,11 +47,11 @@ written_there (long ∷ ts) t more h = absurd h
 written_there (bad ∷ ts) t more h = absurd h
 
 -- A token with which a derivation goes on is written.
-pub goes_written : (before : List Token) (t : Token) → Goes_on (before ++ t ∷ []) → IsWritten t
+pub goes_written : (before : List Token) (t : Token) → GoesOn (before ++ t ∷ []) → IsWritten t
 goes_written before t g = written_there before t g.more (subst Written (g.derives ∙ append_assoc before (t ∷ []) g.more) (lines_written g.tree.lines g.tree.rules))
 
 -- With a token out of place no derivation goes on.
-pub out_never : (before : List Token) (t : Token) → OutOfPlace before t → Goes_on (before ++ t ∷ []) → ⊥
+pub out_never : (before : List Token) (t : Token) → OutOfPlace before t → GoesOn (before ++ t ∷ []) → ⊥
 out_never before (word w) o g = o g
 out_never before (name n) o g = o g
 out_never before long o g = goes_written before long g
@@ -157,7 +157,7 @@ eleven_of k before later (in_place {P = P} b f) = absurd (position_written k P b
 pub end_of : (k : ℕ) (before : List Token) → Fault k before [] → k ≡ 12
 end_of k before (ends_inside u) = refl
 
-pub thirteen_of : (k : ℕ) (before later : List Token) → Goes_on (before ++ name x_name ∷ []) → Fault k before (long ∷ later) → k ≡ 13
+pub thirteen_of : (k : ℕ) (before later : List Token) → GoesOn (before ++ name x_name ∷ []) → Fault k before (long ∷ later) → k ≡ 13
 thirteen_of k before later g (no_place o) = absurd (o x_name g)
 thirteen_of k before later g (too_long h) = refl
 thirteen_of k before later g (in_place {P = P} b f) = absurd (position_written k P long f)

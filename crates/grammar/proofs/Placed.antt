@@ -14,7 +14,7 @@ use Rattle.grammar.specs.Files.{File}
 use Rattle.grammar.specs.Grammar.{FileTree, spell}
 use Rattle.grammar.specs.Beginnings.{Position, Before, FaultAt}
 use Rattle.grammar.specs.Reading.{Parsed, accepted, refused, read_tokens}
-use Rattle.grammar.specs.Refusals.{Goes_on, OutOfPlace, Fault, no_token, no_place, ends_inside, too_long, in_place, Faultless, Completed, Decided, Stuck}
+use Rattle.grammar.specs.Refusals.{GoesOn, OutOfPlace, Fault, no_token, no_place, ends_inside, too_long, in_place, Faultless, Completed, Decided, Stuck}
 use Rattle.grammar.proofs.Backward.{refused_never, file_same, tokens_back}
 use Rattle.grammar.proofs.Stopping.{is_bad, same_token, any_name, Cause, bad_token, wrong_token, the_end, long_name, later_fault, WhateverFollows}
 use Rattle.grammar.proofs.Parts.{x_name}
@@ -23,7 +23,7 @@ use Rattle.grammar.proofs.Reaching.{fault_refused}
 use Rattle.grammar.proofs.Causes.{found}
 use Rattle.grammar.proofs.Faults.{goes_front, goes_first, goes_written, out_never, from_fourteen, fault_later, stuck_of, eleven_of, end_of, thirteen_of, by_least}
 
-goes : (ts : List Token) → BeginsFile ts → Goes_on ts
+goes : (ts : List Token) → BeginsFile ts → GoesOn ts
 goes ts b = record { tree = record { lines = b.0; rules = b.1 }; more = b.2; derives = b.3 }
 
 -- Where refused tokens halt, and which statements stand before that.
@@ -106,7 +106,7 @@ pub record Placed (ts : List Token) (k n : ℕ) : Type 0 where
   pub before : List Token
   pub after : List Token
   pub whole : ts ≡ before ++ after
-  pub goes_on : Goes_on before
+  pub goes_on : GoesOn before
   pub no_fault : NoFault before n
   pub fault : Fault k before after
   pub decided : Decided k n before after
@@ -133,7 +133,7 @@ decided_at : (k n : ℕ) (before after : List Token) (u : Token) (rest mid : Lis
 decided_at k n before after u rest mid e d = (subst (Decided k n before) e d) mid
 
 -- Where it stops with a number from 14 on a derivation goes on with the token.
-cause_goes : (k : ℕ) (mid after : List Token) → 14 ≤ k → Cause BeginsFile k mid after → (t : Token) × (rest : List Token) × (after ≡ t ∷ rest) × Goes_on (mid ++ t ∷ [])
+cause_goes : (k : ℕ) (mid after : List Token) → 14 ≤ k → Cause BeginsFile k mid after → (t : Token) × (rest : List Token) × (after ≡ t ∷ rest) × GoesOn (mid ++ t ∷ [])
 cause_goes k mid after lo bad_token = absurd (omega arith)
 cause_goes k mid after lo (wrong_token q) = absurd (omega arith)
 cause_goes k mid after lo the_end = absurd (omega arith)
@@ -150,8 +150,8 @@ not_out before P t n c b o = by_least (λ k. FaultAt k P t) go
         let x = fault_refused before P t [] k b f least in
         let s = placed (before ++ t ∷ []) k x.0 x.1 in
         let y = cause_goes k s.before s.after r.0 s.cause in
-        ⊎_elim (λ q. out_never before t o (subst (λ (u : Token). Goes_on (before ++ u ∷ [])) (heads (sym y.2 ∙ same_rest before (t ∷ []) s.before s.after q s.whole))
-        (subst (λ (l : List Token). Goes_on (l ++ y.0 ∷ [])) (sym q) y.3)))
+        ⊎_elim (λ q. out_never before t o (subst (λ (u : Token). GoesOn (before ++ u ∷ [])) (heads (sym y.2 ∙ same_rest before (t ∷ []) s.before s.after q s.whole))
+        (subst (λ (l : List Token). GoesOn (l ++ y.0 ∷ [])) (sym q) y.3)))
         (λ z. ⊎_elim (λ q. let e = clean_twelve before k x.0 n c (ap (read_tokens rule_limit) q.3 ∙ decided_at k x.0 s.before s.after q.0 q.2 q.1 q.4 s.decided) in omega (arith, r.0, e))
         (λ q. let a = ap length s.whole in
         let d = ap length q.3 in
@@ -170,13 +170,13 @@ twelve_of k before t later n c o (too_long g) = absurd (o x_name (g x_name))
 twelve_of k before t later n c o (in_place {P = P} b f) = absurd (not_out before P t n c b o k f)
 
 -- Behind tokens without a fault no refusal stands earlier.
-not_earlier : (ts : List Token) (j m : ℕ) (s : Placed ts j m) (before : List Token) (n : ℕ) (u : Token) (mid rest : List Token) → Goes_on before → NoFault before n → before ≡ s.before ++ u ∷ mid → s.after ≡ u ∷ rest → ⊥
+not_earlier : (ts : List Token) (j m : ℕ) (s : Placed ts j m) (before : List Token) (n : ℕ) (u : Token) (mid rest : List Token) → GoesOn before → NoFault before n → before ≡ s.before ++ u ∷ mid → s.after ≡ u ∷ rest → ⊥
 not_earlier ts j m s before n u mid rest g c e q =
     let h = clean_twelve before j m n c (ap (read_tokens rule_limit) e ∙ decided_at j m s.before s.after u rest mid q s.decided) in
-    out_never s.before u (subst (Stuck s.before) q (stuck_of j s.before s.after h s.fault)) (goes_first s.before u mid (subst Goes_on e g))
+    out_never s.before u (subst (Stuck s.before) q (stuck_of j s.before s.after h s.fault)) (goes_first s.before u mid (subst GoesOn e g))
 
 -- A token that no derivation goes on with, and that has no other fault, is refused with it.
-alone_refused : (before : List Token) (t : Token) (later : List Token) (k n : ℕ) → Goes_on before → NoFault before n → (Goes_on (before ++ t ∷ []) → ⊥) → ((j : ℕ) → Fault j before (t ∷ later) → j ≡ k)
+alone_refused : (before : List Token) (t : Token) (later : List Token) (k n : ℕ) → GoesOn before → NoFault before n → (GoesOn (before ++ t ∷ []) → ⊥) → ((j : ℕ) → Fault j before (t ∷ later) → j ≡ k)
     → read_tokens rule_limit (before ++ t ∷ later) ≡ refused k n
 alone_refused before t later k n g c none only = go (read_tokens rule_limit (before ++ t ∷ later)) refl
   where
@@ -187,7 +187,7 @@ alone_refused before t later k n g c none only = go (read_tokens rule_limit (bef
           same_count before m n (subst (λ (l : List Token). NoFault l m) (sym q) s.no_fault) c,
         ))
         (λ x. ⊎_elim (λ q. absurd (not_earlier (before ++ t ∷ later) j m s before n q.0 q.1 q.2 g c q.3 q.4))
-        (λ q. absurd (none (goes_first before t q.1 (subst Goes_on (q.3 ∙ ap (λ (v : Token). before ++ v ∷ q.1) (sym (heads q.4))) s.goes_on)))) x)
+        (λ q. absurd (none (goes_first before t q.1 (subst GoesOn (q.3 ∙ ap (λ (v : Token). before ++ v ∷ q.1) (sym (heads q.4))) s.goes_on)))) x)
         (two_cuts before (t ∷ later) s.before s.after s.whole)
 
     go : (a : Parsed) → read_tokens rule_limit (before ++ t ∷ later) ≡ a → a ≡ refused k n
@@ -209,7 +209,7 @@ position_refused before P t later k n c b f least =
     )
 
 -- Where no token before has a fault, the next one with its smallest fault, or the end, is refused with it, whatever follows.
-pub refused_there : (before after : List Token) (k n : ℕ) → Goes_on before → NoFault before n → Fault k before after → ((j : ℕ) → j < k → ¬ Fault j before after) → read_tokens rule_limit (before ++ after) ≡ refused k n
+pub refused_there : (before after : List Token) (k n : ℕ) → GoesOn before → NoFault before n → Fault k before after → ((j : ℕ) → j < k → ¬ Fault j before after) → read_tokens rule_limit (before ++ after) ≡ refused k n
 refused_there before after k n g c (no_token {later = later}) least = alone_refused before bad later 11 n g c (goes_written before bad) (λ j f. eleven_of j before later f)
 refused_there before after k n g c (no_place {later = later} {t = t} o) least = alone_refused before t later 12 n g c (out_never before t o) (λ j f. twelve_of j before t later n c o f)
 refused_there before after k n g c (ends_inside u) least =
@@ -218,7 +218,7 @@ refused_there before after k n g c (too_long {later = later} h) least = alone_re
 refused_there before after k n g c (in_place {later = later} {t = t} {P = P} b f) least = position_refused before P t later k n c b f (λ j l x. least j l (in_place b x))
 
 -- What begins tokens without a fault has none.
-front_clean : (ts us : List Token) (n : ℕ) → Goes_on (ts ++ us) → NoFault (ts ++ us) n → (m : ℕ) × NoFault ts m
+front_clean : (ts us : List Token) (n : ℕ) → GoesOn (ts ++ us) → NoFault (ts ++ us) n → (m : ℕ) × NoFault ts m
 front_clean ts us n g c = go (read_tokens rule_limit ts) refl
   where
     at : (j m : ℕ) (s : Placed ts j m) (after : List Token) → s.after ≡ after → read_tokens rule_limit ts ≡ refused j m → (i : ℕ) × NoFault ts i
@@ -231,23 +231,23 @@ front_clean ts us n g c = go (read_tokens rule_limit ts) refl
     go (refused j m) e = at j m (placed ts j m e) (placed ts j m e).after refl e
 
 -- Tokens that are read without a fault have none, and the other way round.
-pub clean_faultless : (ts : List Token) (n : ℕ) → Goes_on ts → NoFault ts n → Faultless ts
+pub clean_faultless : (ts : List Token) (n : ℕ) → GoesOn ts → NoFault ts n → Faultless ts
 clean_faultless ts n g c before t later w =
     by_least (λ k. Fault k before (t ∷ later))
-    (λ k f least. let h = subst Goes_on w g in
+    (λ k f least. let h = subst GoesOn w g in
     let m = front_clean before (t ∷ later) n h (subst (λ (l : List Token). NoFault l n) w c) in
     let e = clean_twelve ts k m.0 n c (ap (read_tokens rule_limit) w ∙ refused_there before (t ∷ later) k m.0 (goes_front before (t ∷ later) h) m.1 f least) in
     out_never before t (stuck_of k before (t ∷ later) e f) (goes_first before t later h))
 
-pub faultless_clean : (ts : List Token) → Faultless ts → Goes_on ts × ((n : ℕ) × NoFault ts n)
+pub faultless_clean : (ts : List Token) → Faultless ts → GoesOn ts × ((n : ℕ) × NoFault ts n)
 faultless_clean ts h = go (read_tokens rule_limit ts) refl
   where
-    at : (j m : ℕ) (s : Placed ts j m) (after : List Token) → s.after ≡ after → Goes_on ts × ((n : ℕ) × NoFault ts n)
+    at : (j m : ℕ) (s : Placed ts j m) (after : List Token) → s.after ≡ after → GoesOn ts × ((n : ℕ) × NoFault ts n)
     at j m s [] q =
         let same : s.before ≡ ts = sym (s.whole ∙ ap (λ (l : List Token). s.before ++ l) q ∙ rw append-nil) in
-        (subst Goes_on same s.goes_on, (m, subst (λ (l : List Token). NoFault l m) same s.no_fault))
+        (subst GoesOn same s.goes_on, (m, subst (λ (l : List Token). NoFault l m) same s.no_fault))
     at j m s (u ∷ rest) q = absurd (h s.before u rest (s.whole ∙ ap (λ (l : List Token). s.before ++ l) q) j (subst (Fault j s.before) q s.fault))
 
-    go : (a : Parsed) → read_tokens rule_limit ts ≡ a → Goes_on ts × ((n : ℕ) × NoFault ts n)
+    go : (a : Parsed) → read_tokens rule_limit ts ≡ a → GoesOn ts × ((n : ℕ) × NoFault ts n)
     go (accepted f) e = let x = tokens_back ts f e in (record { tree = x.0; more = []; derives = x.1 ∙ rw append-nil }, (length f.rules, inr (f, e, refl)))
     go (refused j m) e = at j m (placed ts j m e) (placed ts j m e).after refl

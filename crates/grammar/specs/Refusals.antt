@@ -8,16 +8,16 @@ use Rattle.grammar.specs.Beginnings.{Position, Before, FaultAt}
 use Rattle.grammar.specs.Reading.{refused, read_tokens}
 
 -- A derivation goes on from these tokens: the tokens of some tree begin with them. (A tree knows neither limits nor declarations.)
-pub record Goes_on (ts : List Token) : Type 0 where
+pub record GoesOn (ts : List Token) : Type 0 where
   pub tree : FileTree
   pub more : List Token
   pub derives : spell tree ≡ ts ++ more
 
 -- With this token after those no derivation goes on; of a name over 24 bytes: with no name in its place. A bad token is never said to be out of place, since 11 comes before 12.
 abbrev pub OutOfPlace : List Token → Token → Type 0
-OutOfPlace before (word w) = ¬ Goes_on (before ++ word w ∷ [])
-OutOfPlace before (name n) = ¬ Goes_on (before ++ name n ∷ [])
-OutOfPlace before long = (n : Name) → ¬ Goes_on (before ++ name n ∷ [])
+OutOfPlace before (word w) = ¬ GoesOn (before ++ word w ∷ [])
+OutOfPlace before (name n) = ¬ GoesOn (before ++ name n ∷ [])
+OutOfPlace before long = (n : Name) → ¬ GoesOn (before ++ name n ∷ [])
 OutOfPlace before bad = ⊥
 
 -- These tokens are no whole derivation.
@@ -29,7 +29,7 @@ pub data Fault : ℕ → List Token → List Token → Type 0 where
   no_token : {before later : List Token} → Fault 11 before (bad ∷ later)
   no_place : {before later : List Token} {t : Token} → OutOfPlace before t → Fault 12 before (t ∷ later)
   ends_inside : {before : List Token} → Underived before → Fault 12 before []
-  too_long : {before later : List Token} → ((n : Name) → Goes_on (before ++ name n ∷ [])) → Fault 13 before (long ∷ later)
+  too_long : {before later : List Token} → ((n : Name) → GoesOn (before ++ name n ∷ [])) → Fault 13 before (long ∷ later)
   in_place : {k : ℕ} {before later : List Token} {t : Token} {P : Position} → Before before P → FaultAt k P t → Fault k before (t ∷ later)
 
 -- None of these tokens has a fault.

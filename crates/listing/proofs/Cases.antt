@@ -42,14 +42,14 @@ unfolding rule_text fired_word decimal digits bytes bytes_from
 rule_line_128 = refl
 
 -- A listing with several rules and changes, and a refusal.
-page-of-changes :
+page_of_changes :
     printed (listed
     (record { stratum = 10; fired = false } ∷ record { stratum = 1; fired = true } ∷ [])
     (record { slot = bytes "state-of-entry"; value = bytes "frozen" } ∷ record { slot = bytes "x"; value = bytes "1" } ∷ record { slot = bytes "label"; value = bytes "before-1800" } ∷ [])
     (12 ∷ 175 ∷ 144 ∷ []) 40 (record { answered = 1; refused = 20 }))
     ≡ bytes "rule 1 stratum 10 idle\nrule 2 stratum 1 fired\nchange state-of-entry frozen\nchange x 1\nchange label before-1800\ncard 0CAF90\ntally 40 1 20\n"
 unfolding printed rules_text rule_text fired_word changes_text change_text card_text tally_text hexadecimal decimal digits bytes bytes_from
-page-of-changes = refl
+page_of_changes = refl
 
 page_of_refusal : printed (refusal 12 255) ≡ bytes "refused 12 255\n"
 unfolding printed refusal_text decimal digits bytes bytes_from

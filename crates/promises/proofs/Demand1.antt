@@ -129,7 +129,7 @@ module _ (way : Way) (t : Table) (y : Editors) (card slip : List ℕ) (o : Outpu
 pub demand_1 : Demand1
 unfolding unpacked_card unpacked_slip packed_card packed_slip response_in show_slot show_value
 demand_1 = record {
-  rule-file = file_back;
+  rule_file = file_back;
   file_exactly = λ way text k n r. let o = reason_file way text k n r in (ap reading_refusal o, ap reading_second o);
   file_printed = λ text out. print_back text out (print_into text (length out)) (prints text (length out));
   card_unpacked = λ t ys. card_back _ (Passes (sound t) (CardRight (value_counts t) ys)) (values_in ys) (unpacked_card t ys) (by_table t (CardReason (value_counts t) ys) _ (read_card (value_counts t) ys) _ (card_judged (value_counts t) ys));

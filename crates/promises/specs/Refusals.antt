@@ -40,7 +40,7 @@ pub record RecordsRefused (k : ℕ) (y : Editors) (after : List Tally) : Type 0 
 
 pub record Demand1 : Type 0 where
   -- A rule file, read for the response by strata or by marks; after a refusal the table is the one without slots or rules.
-  pub rule-file : (way : Way) (text : List ℕ) → Comes (FileReason text way) (reading_refusal (read_by way text).outcome) (reading_second (read_by way text).outcome)
+  pub rule_file : (way : Way) (text : List ℕ) → Comes (FileReason text way) (reading_refusal (read_by way text).outcome) (reading_second (read_by way text).outcome)
       (FileRight text way) ((read_by way text).table ≡ empty_table)
   -- It is refused so exactly where the reason holds.
   pub file_exactly : (way : Way) (text : List ℕ) (k n : ℕ) → FileReason text way k n → (reading_refusal (read_by way text).outcome ≡ k) × (reading_second (read_by way text).outcome ≡ n)
