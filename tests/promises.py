@@ -100,14 +100,17 @@ def held_by(files):
 
 
 def misplaced(titles, cells, section):
-    """The names of a row that stand in none of its files. A theorem or contract stands in a file of the last column or of brackets; a definition in that of the brackets after it, or else there or in the specs of a crate that the row or its section names."""
+    """The names of a row that stand in none of its files. A theorem or contract stands in a file of the last column or of brackets; a definition in that of the brackets after it, or else in a .antt file of those or in the specs of a crate that the row or its section names."""
     crates, named = section
     row = ' | '.join(cells)
     owners = crates_in(row) | set(filter(folder_of, re.findall(r'\b[a-z_]+\b', re.sub(r'`[^`]*`', '', cells[-1]))))
     brackets = re.findall(r'\(([^()]*)\)', ' '.join(cells[1:]))
     files = named + files_in(cells[-1], (crates, owners)) + [path for text in brackets for path in files_in(text, (crates, owners))]
     files += [path for word in quoted(row)[0] for path in files_at(word)]
-    anywhere = held_by(files) | set(os.listdir(CRATES))
+    crates_named = set(os.listdir(CRATES))
+    anywhere = held_by(files) | crates_named
+    # A function and the definition that it meets may have one name.
+    told = held_by([path for path in files if path.endswith('.antt')]) | crates_named
     specs = held_by([path for crate in owners | crates for path in files_at(f'{crate}/specs')])
     for title, cell in list(zip(titles, cells))[1:-1]:
         rest = cell
@@ -117,7 +120,7 @@ def misplaced(titles, cells, section):
                 if of_bracket:
                     yield from (name for name in quoted(before)[2] if name not in held_by(of_bracket))
                     rest = rest.replace(f'{before}({bracket})', '')
-        allowed = anywhere | specs if title == 'definition' else anywhere
+        allowed = told | specs if title == 'definition' else anywhere
         yield from (name for name in quoted(rest)[2] if name not in allowed)
 
 
