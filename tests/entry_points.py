@@ -16,7 +16,7 @@ ENTRY_POINTS = {
     'printing': ['print'],
     'unpacking': ['unpack_card', 'unpack_slip'],
     'packing': ['pack_card', 'pack_slip'],
-    'response': ['respond'],
+    'response': ['respond', 'respond_by_marks'],
     'listing': ['list'],
     'library': ['rl_read', 'rl_read_unlayered', 'rl_print', 'rl_is_sound', 'rl_slot_name', 'rl_value_name', 'rl_unpack_card', 'rl_unpack_slip', 'rl_pack_card', 'rl_pack_slip', 'rl_respond', 'rl_respond_by_marks'],
 }
@@ -29,9 +29,9 @@ def named(path, pattern):
 
 
 def contract_of(source, name):
-    """The clauses of a public function, or nothing where it has none: they stand between its signature and its body, each on lines of its own."""
-    found = re.search(rf'^pub (?:extern "C" )?fn {name}\b(.*?)^[{{}}]', re.sub(r'^\s*//.*\n', '', source, flags=re.M), re.M | re.S)
-    clauses = re.search(r'^ +(?:requires|ensures)\b.*', found[1], re.M | re.S) if found and found[0][-1] == '{' else None
+    """The clauses of a public function or method, or nothing where it has none: they stand between its signature and its body, each on lines of its own."""
+    found = re.search(rf'^( *)pub (?:extern "C" )?fn {name}\b(.*?)^\1[{{}}]', re.sub(r'^\s*//.*\n', '', source, flags=re.M), re.M | re.S)
+    clauses = re.search(r'^ +(?:requires|ensures)\b.*', found[2], re.M | re.S) if found and found[0][-1] == '{' else None
     return clauses[0] if clauses else ''
 
 

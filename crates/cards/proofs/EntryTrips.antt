@@ -28,7 +28,7 @@ use Rattle.cards.proofs.Formed.{card_length, card_at, slip_length, slip_at}
 use Rattle.cards.proofs.Tested.{no_pair, change_right}
 use Rattle.cards.proofs.Passed.{sound_slots}
 use Rattle.cards.proofs.Written.{card_bytes_length, slip_bytes_length}
-use Rattle.cards.proofs.Answered.{card_with_room, slip_with_room, sound_card_read, sound_slip_read}
+use Rattle.cards.proofs.Answered.{card_with_room, slip_with_room, sound_card_read, sound_slip_read, sound_card, sound_slip}
 use Rattle.cards.proofs.RoundTrip.{card_accepted, slip_accepted, card_packs_back, slip_packs_back, card_reads_back, slip_reads_back}
 
 -- The form that the code hands out for some values has just those values, and so with changes.
@@ -125,7 +125,7 @@ module _ (t : Table) where
       let a = card_accepted (value_counts t) ys vs r in
       let p : card_test (value_counts t) (card_values (card_of vs)) ≡ passed = rw (card_of_values vs, ← a.same_form) a.passes in
       let k = card_packs_back (value_counts t) ys vs b r in
-      card_with_room t d (card_of vs) room p (omega (arith, h, card_bytes_length vs, ap length k)) ∙ ap taken (ap card_bytes (card_of_values vs) ∙ k)
+      sound_card t d (card_of vs) room ∙ card_with_room (value_counts t) (card_of vs) room p (omega (arith, h, card_bytes_length vs, ap length k)) ∙ ap taken (ap card_bytes (card_of_values vs) ∙ k)
 
   -- and an accepted slip.
   pub unpack_pack_slip : (ys : List ℕ) (ps : List Pair) (room : ℕ) → Bytes ys → length ys ≤ room → unpacked_slip t ys ≡ taken ps → packed_slip t (slip_of ps) room ≡ taken ys
@@ -138,7 +138,7 @@ module _ (t : Table) where
       let p : slip_test (value_counts t) (changes_of (slip_of ps)) ≡ passed = rw (slip_of_changes ps) q in
       let k = slip_packs_back (value_counts t) ys ps b r in
       let f : length ps ≤ slot_limit = omega (arith, slip_few (value_counts t) ps q, few_slots t d) in
-      slip_with_room t d (slip_of ps) room f p (omega (arith, h, slip_bytes_length ps, ap length k)) ∙ ap taken (ap slip_bytes (slip_of_changes ps) ∙ k)
+      sound_slip t d (slip_of ps) room ∙ slip_with_room (value_counts t) (slip_of ps) room f p (omega (arith, h, slip_bytes_length ps, ap length k)) ∙ ap taken (ap slip_bytes (slip_of_changes ps) ∙ k)
 
 module _ (t : Table) (sh : Shaped t) where
   -- A card that is packed is unpacked to itself,

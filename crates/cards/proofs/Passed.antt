@@ -6,47 +6,48 @@ use mathlib.Core.List.{List, [], ◌∷◌}
 use Prim.Native.Nat.{ℕ, zero, suc, ◌≤◌, ◌<◌}
 use native.Mathlib.Omega.{arith}
 use lib.Dec.{eqb, ltb}
-use lib.ListN.{length, get_or}
+use lib.ListN.{length, get_or, take}
+use lib.Seq.{ext_get_or, length-take-le}
+use Rattle.std.proofs.lemmas.List.{get_or-take}
 use borrow.Author.Tests.{ltb-false, eqb-true}
-use Rattle.laws.proofs.Tabulated.{is_tabulate}
 use Rattle.model.specs.Rules.{Pair}
 use Rattle.table.specs.declared.Table.{Table}
-use Rattle.laws.specs.Limits.{slot_limit, value_limit}
+use Rattle.laws.specs.Limits.{slot_limit}
 use Rattle.table.specs.inner.Shape.{Shaped}
 use Rattle.table.specs.Link.{value_counts}
 use Rattle.table.proofs.Link.{count_is}
 use Rattle.table.proofs.Link as link
+use Rattle.rows.specs.declared.RuleRow.{RuleRow}
 use Rattle.soundness.specs.Sound.{sound}
 use Rattle.soundness.specs.declared.Entry.{Entry}
-use Rattle.soundness.specs.inner.Admitted.{Admitted, Enters}
+use Rattle.soundness.specs.inner.Admitted.{Admitted, EntryKept}
 use Rattle.soundness.proofs.Sound.{sound_width, sound_values}
 use Rattle.cards.specs.declared.Card.{Card}
 use Rattle.cards.specs.declared.Slip.{Slip}
-use Rattle.cards.specs.declared.Outcome.TheVariants as outcome
-use Rattle.laws.specs.Answers.{Verdict, passed, fault}
+use Rattle.laws.specs.Answers.{passed, fault}
 use Rattle.cards.specs.Forms.{values_test, card_test, change_fault, changes_test, slip_test}
 use Rattle.cards.specs.Cards.{card_values, changes_of}
-use Rattle.cards.specs.inner.Fitting.{counts_in, verdict_outcome, CardFits, SlipFits}
+use Rattle.cards.specs.inner.Fitting.{Slots, CardFits, SlipFits}
 use Rattle.cards.proofs.Tested.{no_pair, change_right}
 use Rattle.cards.proofs.Formed.{card_length, card_at, slip_length, slip_at}
-
--- Slots within the limits: at most 32, each of at most 15 values.
-pub record Slots (counts : List ℕ) : Type 0 where
-  pub few : length counts ≤ slot_limit
-  pub small : (i : ℕ) → i < length counts → get_or counts i 0 ≤ value_limit
 
 -- A table with slots within their limit counts as many, and the counts that were kept of it are those of its slots.
 module _ (t : Table) (sh : Shaped t) (few : t.width ≤ slot_limit) where
   pub slots_length : length (value_counts t) ≡ t.width
   slots_length = link.counts_length t (omega (arith, sh.slot_places, few))
 
-  pub counts_all : (counts : List ℕ) (rows : List (List ℕ)) → Admitted t counts rows → counts_in t.width counts ≡ value_counts t
-  unfolding counts_in
-  counts_all counts rows a = sym (is_tabulate (λ i. get_or counts i 0) t.width 0 (value_counts t) slots_length (λ i h. count_is t i h ∙ sym (a.same_count i h)))
+  pub counts_all : (counts : List ℕ) (rows : List RuleRow) → t.width ≤ length counts → Admitted t counts rows → take t.width counts ≡ value_counts t
+  counts_all counts rows h a =
+      ext_get_or 0 (take t.width counts) (value_counts t) (length-take-le t.width counts h ∙ sym slots_length)
+      (λ i k. let n : i < t.width = omega (arith, length-take-le t.width counts h) in get_or-take t.width counts i 0 n ∙ a.same_count i n ∙ sym (count_is t i n))
 
-  -- They are so by the number of slots that is said when it is entered.
-  pub counts_entered : (passes : Bool) (e : Entry) (counts : List ℕ) (rows : List (List ℕ)) → e.passed ≡ true → Enters t passes e counts rows → counts_in e.width counts ≡ value_counts t
-  counts_entered passes e counts rows p w = rw (w.width_is p) (counts_all counts rows (w.admitted p))
+-- Of a sound table that was entered: as many slots as is said are within the limit, with the counts that were kept.
+module _ (t : Table) (sh : Shaped t) (e : Entry) (counts : List ℕ) (rows : List RuleRow) (s : sound t ≡ true) (k : EntryKept t e counts rows) where
+  pub entered_width : e.width ≤ slot_limit
+  entered_width = rw k.width_is (sound_width t s)
+
+  pub entered_counts : length counts ≡ slot_limit → take e.width counts ≡ value_counts t
+  entered_counts l = rw k.width_is (counts_all t sh (sound_width t s) counts rows (omega (arith, sound_width t s, l)) k.admitted)
 
 -- The slots of a sound table are within the limits.
 pub sound_slots : (t : Table) → Shaped t → sound t ≡ true → Slots (value_counts t)
@@ -56,17 +57,6 @@ sound_slots t sh e =
       few = omega (arith, l, sound_width t e);
       small = λ i h. (let k : i < t.width = omega (arith, l) in omega (arith, count_is t i k, (sound_values t sh e i k).1));
     }
-
--- A verdict by its outcome.
-pub outcome_fault : (v : Verdict) (k s : ℕ) → verdict_outcome v ≡ outcome.Refused k s → v ≡ fault k s
-unfolding verdict_outcome
-outcome_fault passed k s e = absurd (let z : ◌≡◌ {A = ℕ} 0 1 = cc in omega arith)
-outcome_fault (fault j r) k s e = let y : j ≡ k = cc in let z : r ≡ s = cc in rw (y, z)
-
-pub outcome_passed : (v : Verdict) → verdict_outcome v ≡ outcome.Accepted → v ≡ passed
-unfolding verdict_outcome
-outcome_passed passed e = refl
-outcome_passed (fault j r) e = absurd (let z : ◌≡◌ {A = ℕ} 0 1 = cc in omega arith)
 
 clash : (k s : ℕ) → fault k s ≡ passed → ⊥
 clash k s e = let z : ◌≡◌ {A = ℕ} 0 1 = cc in omega arith

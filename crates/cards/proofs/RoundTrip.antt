@@ -16,7 +16,8 @@ use Rattle.laws.specs.Answers.{Verdict, passed, fault, OrRefused, taken, refused
 use Rattle.cards.specs.Forms.{card_bits, slip_bits, card_fields, slip_fields, card_bytes, slip_bytes, count_in, values_in, changes_in, padding, card_test, slip_test, read_card, read_slip}
 use Rattle.cards.proofs.Taken.{values_length, value_at, card_taken, slip_taken}
 use Rattle.cards.proofs.Written.{card_bytes_length, slip_bytes_length}
-use Rattle.cards.proofs.Passed.{Slots, card_pass, values_pass, changes_pass}
+use Rattle.cards.specs.inner.Fitting.{Slots}
+use Rattle.cards.proofs.Passed.{card_pass, values_pass, changes_pass}
 use Rattle.cards.proofs.FieldForms.{card_bits_sum, slip_bits_sum, card_in_bits, slip_in_bits, card_field_widths, slip_field_widths, card_read_fields, slip_read_fields, card_by_fields, slip_by_fields, card_fields_fit, slip_fields_fit}
 
 -- What bytes that are taken passed.

@@ -10,10 +10,11 @@ use lib.Dec.{leb, ltb}
 use lib.ListN.{length, get_or, drop, drop_of_length-le}
 use lib.Seq.{drop-cons}
 use borrow.Author.Tests.{lt-ltb, le-ltb, le-leb, lt-leb, eq-eqb, ne_eqb, ltb-false, leb-false}
-use Rattle.laws.proofs.Tabulated.{tabulate_length, tabulate_at}
+use Rattle.refusals.specs.declared.ChangeFault.{ChangeFault}
+use Rattle.refusals.specs.declared.ChangeFault.TheVariants as variant
+use Rattle.refusals.specs.Numbers.{change_number}
 use Rattle.model.specs.Rules.{Pair}
 use Rattle.model.specs.Result.{pair}
-use Rattle.cards.specs.inner.Fitting.{counts_in}
 use Rattle.laws.specs.Answers.{Verdict, passed, fault}
 use Rattle.cards.specs.Forms.{values_test, card_test, change_fault, changes_test, slip_test}
 
@@ -87,6 +88,12 @@ change_right counts low p e = go (leb (length counts) p.slot) (ltb p.slot low) (
     go false false true ea eb ec z = absurd (omega arith)
     go false false false ea eb ec z = record { below = leb-false (length counts) p.slot ea; above = ltb-false p.slot low eb; last = ltb-false (get_or counts p.slot 0) p.value ec }
 
+-- The number of a fault is not that of none.
+pub number_not-0 : (f : ChangeFault) → change_number f ≡ 0 → ⊥
+number_not-0 variant.UnknownSlot e = omega arith
+number_not-0 variant.NotRising e = omega arith
+number_not-0 variant.UnknownValue e = omega arith
+
 -- The fault of a change, test by test.
 pub fault_25 : (counts : List ℕ) (low : ℕ) (p : Pair) → length counts ≤ p.slot → change_fault counts low p ≡ 25
 unfolding change_fault
@@ -104,12 +111,3 @@ module _ (counts : List ℕ) (low : ℕ) (p : Pair) (h : p.slot < length counts)
   pub no_fault : low ≤ p.slot → p.value ≤ get_or counts p.slot 0 → change_fault counts low p ≡ 0
   unfolding change_fault
   no_fault l g = rw (lt-leb (length counts) p.slot h, le-ltb p.slot low l, le-ltb (get_or counts p.slot 0) p.value g)
-
--- The counts of an array, each at its place.
-pub counts_length : (n : ℕ) (cs : List ℕ) → length (counts_in n cs) ≡ n
-unfolding counts_in
-counts_length n cs = tabulate_length (λ i. get_or cs i 0) n
-
-pub count_at : (n : ℕ) (cs : List ℕ) (i : ℕ) → i < n → get_or (counts_in n cs) i 0 ≡ get_or cs i 0
-unfolding counts_in
-count_at n cs i h = tabulate_at (λ i. get_or cs i 0) n i 0 h

@@ -1,5 +1,5 @@
 -- The four entry points: 31 first, then the tests and forms by how many values each slot of the table has.
-use Rattle.std.specs.Prelude.{ℕ, cond, List, map, length, get_or, replicate}
+use Rattle.std.specs.Prelude.{ℕ, cond, List, map, length, get_or, replicate, Result, Ok, Err}
 use Rattle.laws.specs.Filled.{filled}
 use Rattle.laws.specs.Tabulated.{tabulate}
 use Rattle.model.specs.Rules.{Pair}
@@ -11,12 +11,12 @@ use Rattle.soundness.specs.Sound.{sound}
 use Rattle.cards.specs.declared.Card.{Card}
 use Rattle.cards.specs.declared.Change.{Change}
 use Rattle.cards.specs.declared.Slip.{Slip}
-use Rattle.cards.specs.declared.Outcome.{Outcome}
-use Rattle.cards.specs.declared.Outcome.TheVariants as outcome
-use Rattle.cards.specs.declared.CardRead.{CardRead}
-use Rattle.cards.specs.declared.SlipRead.{SlipRead}
-use Rattle.cards.specs.declared.Packing.{Packing}
-use Rattle.cards.specs.declared.Packing.TheVariants as packing
+use Rattle.cards.specs.Outcomes.{FormOutcome, CardRead, SlipRead}
+use Rattle.cards.specs.Outcomes as outcome
+use Rattle.cards.specs.Packings.{Packing}
+use Rattle.cards.specs.Packings as packing
+use Rattle.refusals.specs.declared.Refusal.{Refusal}
+use Rattle.refusals.specs.Numbers.{refusal_number, refusal_second}
 use Rattle.laws.specs.Answers.{OrRefused, taken, refused}
 use Rattle.cards.specs.Forms.{read_card, read_slip, write_card, write_slip}
 
@@ -72,7 +72,7 @@ packed_card t c room = if_sound t (write_card (value_counts t) (card_values c) r
 unfoldable pub packed_slip : Table → Slip → ℕ → OrRefused (List ℕ)
 packed_slip t s room = if_sound t (write_slip (value_counts t) (changes_of s) room)
 
--- What the code answers to bytes unpacked as a card, and as a slip.
+-- What is answered to bytes unpacked as a card, and as a slip.
 unfoldable pub card_read : OrRefused (List ℕ) → CardRead
 card_read (taken vs) = record { outcome = outcome.Accepted; card = card_of vs }
 card_read (refused k s) = record { outcome = outcome.Refused k s; card = no_card }
@@ -81,17 +81,30 @@ unfoldable pub slip_read : OrRefused (List Pair) → SlipRead
 slip_read (taken ps) = record { outcome = outcome.Accepted; slip = slip_of ps }
 slip_read (refused k s) = record { outcome = outcome.Refused k s; slip = no_slip }
 
--- What the code answers to a form that is packed: how many bytes it takes.
+-- What is answered to a form that is packed: how many bytes it takes.
 unfoldable pub packing_of : OrRefused (List ℕ) → Packing
 packing_of (taken ys) = packing.Packed (length ys)
 packing_of (refused k s) = packing.Refused k s
 
+-- The code's results as such answers: a refusal by its numbers, with the empty form.
+abbrev pub card_read_of : Result Card Refusal → CardRead
+card_read_of (Ok c) = record { outcome = outcome.Accepted; card = c }
+card_read_of (Err r) = record { outcome = outcome.Refused (refusal_number r) (refusal_second r); card = no_card }
+
+abbrev pub slip_read_of : Result Slip Refusal → SlipRead
+slip_read_of (Ok s) = record { outcome = outcome.Accepted; slip = s }
+slip_read_of (Err r) = record { outcome = outcome.Refused (refusal_number r) (refusal_second r); slip = no_slip }
+
+abbrev pub packing_said : Result ℕ Refusal → Packing
+packing_said (Ok n) = packing.Packed n
+packing_said (Err r) = packing.Refused (refusal_number r) (refusal_second r)
+
 -- The number of a refusal, 0 for none, and its second number.
-abbrev pub unpacking_refusal : Outcome → ℕ
+abbrev pub unpacking_refusal : FormOutcome → ℕ
 unpacking_refusal outcome.Accepted = 0
 unpacking_refusal (outcome.Refused k s) = k
 
-abbrev pub unpacking_second : Outcome → ℕ
+abbrev pub unpacking_second : FormOutcome → ℕ
 unpacking_second outcome.Accepted = 0
 unpacking_second (outcome.Refused k s) = s
 

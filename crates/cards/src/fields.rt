@@ -8,14 +8,14 @@ pub fn bytes_for(bits: usize) -> usize
     requires { bits ≤ 1000 }
     ensures { result ≡ byte_count bits }
 {
-    (bits + 7) / 8
+    bits.div_ceil(8)
 }
 
-// A byte as a number.
+// A byte as a number, with the range that the arithmetic below needs.
 fn number(x: u8) -> usize
     ensures { (result ≡ x) × (result < 256) }
 {
-    x as usize
+    usize::from(x)
 }
 
 // A number with k zero bits after it.
@@ -30,10 +30,7 @@ fn shifted(x: usize, k: usize) -> usize
 fn byte(bytes: &[u8], k: usize) -> usize
     ensures { (result ≡ get_or bytes.now k 0) × (result < 256) }
 {
-    if k < bytes.len() {
-        return number(bytes[k]);
-    }
-    0
+    bytes.get(k).map_or(0, |x| usize::from(*x))
 }
 
 // The number in the field of `width` bits, at most 8, from place `at` on.

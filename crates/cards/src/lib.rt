@@ -1,12 +1,12 @@
 // Cards and slips, unpacked: document 01, 'Cards and slips'.
 #![tactic(auto)]
 
-ghost use Rattle.std.specs.Prelude.{◌≡◌, ◌≤◌};
-ghost use Rattle.laws.specs.Limits.{slot_limit};
+ghost use Rattle.std.specs.Prelude.{◌≡◌};
 ghost use Rattle.model.specs.Result.{pair};
 ghost use Rattle.cards.specs.Forms.{change_fault};
-ghost use Rattle.cards.specs.inner.Fitting.{counts_in};
+ghost use Rattle.cards.specs.inner.Fitting.{change_number_of};
 
+use refusals::ChangeFault;
 use table::SLOTS;
 
 pub mod fields;
@@ -35,54 +35,24 @@ pub struct Slip {
     pub count: usize,
 }
 
-// What an unpacking comes to: a refusal has its number and its second number.
-#[derive(Clone, Copy)]
-pub enum Outcome {
-    Accepted,
-    Refused(u8, usize),
-}
-
-// The outcome and the card, without slots where it is refused.
-#[derive(Clone, Copy)]
-pub struct CardRead {
-    pub outcome: Outcome,
-    pub card: Card,
-}
-
-// The outcome and the slip, without changes where it is refused.
-#[derive(Clone, Copy)]
-pub struct SlipRead {
-    pub outcome: Outcome,
-    pub slip: Slip,
-}
-
-// What a packing comes to: how many bytes are written, or a refusal with its number and its second number.
-#[derive(Clone, Copy)]
-pub enum Packing {
-    Packed(usize),
-    Refused(u8, usize),
-}
-
-// The fault of a change, or 0: 25, 26 where its slot is below `low`, 27.
+// The fault of a change: its slot is not one of those counted, it is below `low`, or its value is above the slot's last.
 pub fn change_fault(
     slot: usize,
     value: usize,
     low: usize,
-    width: usize,
-    counts: &[usize; SLOTS],
-) -> u8
-    requires { width ≤ slot_limit }
-    ensures { result ≡ change_fault (counts_in width counts.now) low (pair slot value) }
+    counts: &[usize],
+) -> Result<(), ChangeFault>
+    ensures { change_number_of result ≡ change_fault counts.now low (pair slot value) }
 {
-    if width <= slot {
-        return 25;
+    if counts.len() <= slot {
+        return Err(ChangeFault::UnknownSlot);
     }
     if slot < low {
-        return 26;
+        return Err(ChangeFault::NotRising);
     }
     let last = counts[slot];
     if last < value {
-        return 27;
+        return Err(ChangeFault::UnknownValue);
     }
-    0
+    Ok(())
 }

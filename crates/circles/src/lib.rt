@@ -1,17 +1,20 @@
 // The lowest rule on a circle of dependence that passes through a NOT, by reachability over pairs.
 #![tactic(auto)]
 
-ghost use Rattle.std.specs.Prelude.{◌≡◌, ◌<◌, get_or, false};
+ghost use Rattle.std.specs.Prelude.{◌≡◌, ◌<◌, ◌≤◌, length, get_or, false};
+ghost use Rattle.laws.specs.Limits.{rule_limit};
 ghost use Rattle.laws.specs.Truth.{◌∧ᵇ◌};
 ghost use Rattle.model.specs.Strata.{weak, tested, barred};
 ghost use Rattle.model.specs.Circles.{circle_of};
 ghost use Rattle.table.specs.inner.Flat.{pair_places};
 ghost use Rattle.table.specs.Link.{rule_of, rules_of, assignments_of};
-ghost use Rattle.rows.specs.inner.Rows.{rule_in, table_in, RowFits, RowsFit};
+ghost use Rattle.rows.specs.inner.Rows.{rule_in};
+ghost use Rattle.rows.specs.inner.RuleRows.{rows_table};
+ghost use Rattle.circles.specs.inner.Named.{circle_said};
 ghost use Rattle.circles.specs.inner.Links.{pair_words, linked, add_link, add_links, link_all, join_words, is_empty, close_through, leads_to, flag_leading, connected, flag_connected, spread, circled_by};
 
-use rows::NUMBERS;
-use table::{PAIRS, RULES};
+use rows::RuleRow;
+use table::PAIRS;
 
 // The words of 64 bits that a pair's links take, one bit for each pair.
 const WORDS: usize = PAIRS / 64;
@@ -44,14 +47,8 @@ fn join(links: &mut [u64; LINKS], p: usize, k: usize)
     requires { (p < pair_places) × (k < pair_places) }
     ensures { links.new ≡ join_words links.old p k pair_words }
 {
-    let mut w: usize = 0;
-    while w < WORDS {
-        let to = p * WORDS + w;
-        let from = k * WORDS + w;
-        let x = links[to];
-        let y = links[from];
-        links[to] = x | y;
-        w += 1;
+    for w in 0..WORDS {
+        links[p * WORDS + w] |= links[k * WORDS + w];
     }
 }
 
@@ -60,9 +57,7 @@ fn is_empty(links: &[u64; LINKS], p: usize) -> bool
     requires { p < pair_places }
     ensures { result ≡ is_empty links.now p pair_words }
 {
-    let mut w = WORDS;
-    while 0 < w {
-        w -= 1;
+    for w in (0..WORDS).rev() {
         let word = links[p * WORDS + w];
         if word != 0 {
             return false;
@@ -75,37 +70,29 @@ fn is_empty(links: &[u64; LINKS], p: usize) -> bool
 fn close(links: &mut [u64; LINKS])
     ensures { links.new ≡ close_through links.old pair_places }
 {
-    let mut k: usize = 0;
-    'through: while k < PAIRS {
+    'through: for k in 0..PAIRS {
         if is_empty(links, k) {
-            k += 1;
             continue 'through;
         }
-        let mut p: usize = 0;
-        'from: while p < PAIRS {
-            let q = p;
-            p += 1;
-            if !linked(links, q, k) {
+        'from: for p in 0..PAIRS {
+            if !linked(links, p, k) {
                 continue 'from;
             }
-            join(links, q, k);
+            join(links, p, k);
         }
-        k += 1;
     }
 }
 
 // Links from the pair at p to the pairs that a rule tests by `*=`.
-fn link_tested(row: &[u16; NUMBERS], p: usize, links: &mut [u64; LINKS])
-    requires { RowFits row.now × (p < pair_places) }
-    ensures { links.new ≡ add_links p (tested (rule_of (rule_in row.now))) links.old }
+fn link_tested(row: &RuleRow, p: usize, links: &mut [u64; LINKS])
+    requires { p < pair_places }
+    ensures { links.new ≡ add_links p (tested (rule_of (rule_in row.now.numbers))) links.old }
 {
-    let at = rows::place(rows::trigger(row));
+    let at = rows::place(row.trigger());
     link(links, p, at);
-    let m = rows::tested(row);
-    let mut j: usize = 0;
-    'literals: while j < m {
-        let x = rows::literal(row, j);
-        j += 1;
+    let m = row.tested();
+    'literals: for j in 0..m {
+        let x = row.literal(j);
         if !rows::is_becomes(x) {
             continue 'literals;
         }
@@ -115,49 +102,38 @@ fn link_tested(row: &[u16; NUMBERS], p: usize, links: &mut [u64; LINKS])
 }
 
 // Links from each pair that a rule assigns to each that it tests.
-fn link_rule(row: &[u16; NUMBERS], links: &mut [u64; LINKS])
-    requires { RowFits row.now }
-    ensures { links.new ≡ link_all (assignments_of (rule_in row.now)) (tested (rule_of (rule_in row.now))) links.old }
+fn link_rule(row: &RuleRow, links: &mut [u64; LINKS])
+    ensures { links.new ≡ link_all (assignments_of (rule_in row.now.numbers)) (tested (rule_of (rule_in row.now.numbers))) links.old }
 {
-    let m = rows::assigned(row);
-    let mut k: usize = 0;
-    while k < m {
-        let p = rows::place(rows::assignment(row, k));
+    let m = row.assigned();
+    for k in 0..m {
+        let p = rows::place(row.assignment(k));
         link_tested(row, p, links);
-        k += 1;
     }
 }
 
 // Whether the pair at p is one that a rule assigns, or a link leads from it to one.
-fn leads_to(row: &[u16; NUMBERS], p: usize, links: &[u64; LINKS]) -> bool
-    requires { RowFits row.now × (p < pair_places) }
-    ensures { result ≡ leads_to links.now p (assignments_of (rule_in row.now)) }
+fn leads_to(row: &RuleRow, p: usize, links: &[u64; LINKS]) -> bool
+    requires { p < pair_places }
+    ensures { result ≡ leads_to links.now p (assignments_of (rule_in row.now.numbers)) }
 {
-    let m = rows::assigned(row);
-    let mut k: usize = 0;
-    while k < m {
-        let q = rows::place(rows::assignment(row, k));
-        if p == q {
+    let m = row.assigned();
+    for k in 0..m {
+        let q = rows::place(row.assignment(k));
+        if p == q || linked(links, p, q) {
             return true;
         }
-        if linked(links, p, q) {
-            return true;
-        }
-        k += 1;
     }
     false
 }
 
 // Flags the pairs that a rule tests under NOT and that lead to one that it assigns.
-fn flag_barred(row: &[u16; NUMBERS], links: &[u64; LINKS], flags: &mut [bool; PAIRS])
-    requires { RowFits row.now }
-    ensures { flags.new ≡ flag_leading links.now (barred (rule_of (rule_in row.now))) (assignments_of (rule_in row.now)) flags.old }
+fn flag_barred(row: &RuleRow, links: &[u64; LINKS], flags: &mut [bool; PAIRS])
+    ensures { flags.new ≡ flag_leading links.now (barred (rule_of (rule_in row.now.numbers))) (assignments_of (rule_in row.now.numbers)) flags.old }
 {
-    let m = rows::tested(row);
-    let mut j: usize = 0;
-    'literals: while j < m {
-        let x = rows::literal(row, j);
-        j += 1;
+    let m = row.tested();
+    'literals: for j in 0..m {
+        let x = row.literal(j);
         if !rows::is_under_not(x) {
             continue 'literals;
         }
@@ -174,13 +150,7 @@ fn connected(links: &[u64; LINKS], p: usize, k: usize) -> bool
     requires { (p < pair_places) × (k < pair_places) }
     ensures { result ≡ connected links.now p k }
 {
-    if p == k {
-        return true;
-    }
-    if !linked(links, p, k) {
-        return false;
-    }
-    linked(links, k, p)
+    p == k || linked(links, p, k) && linked(links, k, p)
 }
 
 // Flags the pairs that are connected with the pair at k.
@@ -188,14 +158,11 @@ fn flag_connected(links: &[u64; LINKS], k: usize, flags: &mut [bool; PAIRS])
     requires { k < pair_places }
     ensures { flags.new ≡ flag_connected links.now k flags.old pair_places }
 {
-    let mut p: usize = 0;
-    'pairs: while p < PAIRS {
-        let q = p;
-        p += 1;
-        if !connected(links, q, k) {
+    'pairs: for p in 0..PAIRS {
+        if !connected(links, p, k) {
             continue 'pairs;
         }
-        flags[q] = true;
+        flags[p] = true;
     }
 }
 
@@ -204,43 +171,34 @@ fn spread(links: &[u64; LINKS], flags: &[bool; PAIRS]) -> [bool; PAIRS]
     ensures { result ≡ spread links.now flags.now pair_places }
 {
     let mut all: [bool; PAIRS] = [false; PAIRS];
-    let mut k: usize = 0;
-    'flagged: while k < PAIRS {
-        let q = k;
-        k += 1;
-        if !flags[q] {
+    'flagged: for k in 0..PAIRS {
+        if !flags[k] {
             continue 'flagged;
         }
-        flag_connected(links, q, &mut all);
+        flag_connected(links, k, &mut all);
     }
     all
 }
 
 // Whether a flagged pair at p leads to one that a rule assigns.
-fn leads_back(row: &[u16; NUMBERS], p: usize, links: &[u64; LINKS], flags: &[bool; PAIRS]) -> bool
-    requires { RowFits row.now × (p < pair_places) }
-    ensures { result ≡ (get_or flags.now p false ∧ᵇ leads_to links.now p (assignments_of (rule_in row.now))) }
+fn leads_back(row: &RuleRow, p: usize, links: &[u64; LINKS], flags: &[bool; PAIRS]) -> bool
+    requires { p < pair_places }
+    ensures { result ≡ (get_or flags.now p false ∧ᵇ leads_to links.now p (assignments_of (rule_in row.now.numbers))) }
 {
-    if !flags[p] {
-        return false;
-    }
-    leads_to(row, p, links)
+    flags[p] && leads_to(row, p, links)
 }
 
 // Whether a rule is on a circle through a NOT: a flagged pair that it tests leads to one that it assigns.
-fn is_circled(row: &[u16; NUMBERS], links: &[u64; LINKS], flags: &[bool; PAIRS]) -> bool
-    requires { RowFits row.now }
-    ensures { result ≡ circled_by links.now flags.now (rule_of (rule_in row.now)) }
+fn is_circled(row: &RuleRow, links: &[u64; LINKS], flags: &[bool; PAIRS]) -> bool
+    ensures { result ≡ circled_by links.now flags.now (rule_of (rule_in row.now.numbers)) }
 {
-    let at = rows::place(rows::trigger(row));
+    let at = rows::place(row.trigger());
     if leads_back(row, at, links, flags) {
         return true;
     }
-    let m = rows::tested(row);
-    let mut j: usize = 0;
-    'literals: while j < m {
-        let x = rows::literal(row, j);
-        j += 1;
+    let m = row.tested();
+    'literals: for j in 0..m {
+        let x = row.literal(j);
         if !rows::is_becomes(x) {
             continue 'literals;
         }
@@ -252,36 +210,25 @@ fn is_circled(row: &[u16; NUMBERS], links: &[u64; LINKS], flags: &[bool; PAIRS])
     false
 }
 
-// The lowest rule on a circle through a NOT, from 1; 0 where there is none.
-pub fn lowest(rows: &[[u16; NUMBERS]; RULES], n: usize) -> usize
-    requires { RowsFit rows.now n }
-    ensures { result ≡ circle_of weak (rules_of (table_in rows.now n)) }
+// The lowest rule on a circle through a NOT, from 1.
+pub fn lowest(rows: &[RuleRow]) -> Option<usize>
+    requires { length rows.now ≤ rule_limit }
+    ensures { result ≡ circle_said (circle_of weak (rules_of (rows_table rows.now))) }
 {
     let mut links: [u64; LINKS] = [0; LINKS];
-    let mut i: usize = 0;
-    'links: while i < n {
-        link_rule(&rows[i], &mut links);
-        i += 1;
+    'links: for row in rows {
+        link_rule(row, &mut links);
     }
     close(&mut links);
     let mut flags: [bool; PAIRS] = [false; PAIRS];
-    let mut j: usize = 0;
-    'flags: while j < n {
-        flag_barred(&rows[j], &links, &mut flags);
-        j += 1;
+    'flags: for row in rows {
+        flag_barred(row, &links, &mut flags);
     }
     let all = spread(&links, &flags);
-    let mut low: usize = 0;
-    let mut k: usize = 0;
-    'search: while k < n {
-        let e = k;
-        k += 1;
-        if !is_circled(&rows[e], &links, &all) {
-            continue 'search;
-        }
-        if low == 0 {
-            low = k;
+    'search: for (k, row) in rows.iter().enumerate() {
+        if is_circled(row, &links, &all) {
+            return Some(k + 1);
         }
     }
-    low
+    None
 }

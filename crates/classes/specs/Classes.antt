@@ -1,5 +1,7 @@
 -- Document 01, 'Rule text': the classes of bytes.
 use Rattle.std.specs.Prelude.{ℕ, ◌<◌, ◌≡◌, Bool, true, false, cond, List, [], ◌∷◌, eqb, leb, get_or}
+use Rattle.classes.specs.declared.Class.{Class}
+use Rattle.classes.specs.declared.Class.TheVariants.{Other, White, Alphanumeric, Hyphen, Single, Double}
 
 -- A byte is one of those listed.
 abbrev pub one_of : List ℕ → ℕ → Bool
@@ -21,6 +23,15 @@ class_of b =
     (cond (one_of (123 ∷ 125 ∷ 44 ∷ 59 ∷ []) b) 4
     (cond (one_of (42 ∷ 124 ∷ 58 ∷ []) b) 5 0))))))
 
+-- The number of each class.
+abbrev pub class_number : Class → ℕ
+class_number Other = 0
+class_number White = 1
+class_number Alphanumeric = 2
+class_number Hyphen = 3
+class_number Single = 4
+class_number Double = 5
+
 -- A table of 256 that has the class of each byte at its place.
-abbrev pub Classes : List ℕ → Type 0
-Classes xs = (b : ℕ) → b < 256 → get_or xs b 0 ≡ class_of b
+abbrev pub Classes : List Class → Type 0
+Classes xs = (b : ℕ) → b < 256 → class_number (get_or xs b Other) ≡ class_of b

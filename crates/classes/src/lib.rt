@@ -2,112 +2,120 @@
 #![tactic(auto)]
 
 ghost use Rattle.std.specs.Prelude.{◌≡◌};
-ghost use Rattle.classes.specs.Classes.{class_of, Classes};
+ghost use Rattle.classes.specs.Classes.{class_of, class_number, Classes};
 
-pub const WHITE: u8 = 1;
+use Class::{Alphanumeric as A, Double as D, Hyphen as H, Other as O, Single as S, White as W};
 
-pub const ALPHANUMERIC: u8 = 2;
-
-pub const HYPHEN: u8 = 3;
-
-pub const SINGLE: u8 = 4;
-
-pub const DOUBLE: u8 = 5;
-
-const CLASSES: [u8; 256] = [
-    0, 0, 0, 0, 0, 0, 0, 0, 0, 1, // tab
-    1, // line feed
-    0, 0, 1, // carriage return
-    0, 0, 0, 0, 0, 0, 0, 0, 0, 0, 0, 0, 0, 0, 0, 0, 0, 0, 1, // space
-    0, 0, 0, 0, 0, 0, 0, 0, 0, 5, // *
-    0, 4, // ,
-    3, // -
-    0, 0, 2, // 0
-    2, // 1
-    2, // 2
-    2, // 3
-    2, // 4
-    2, // 5
-    2, // 6
-    2, // 7
-    2, // 8
-    2, // 9
-    5, // :
-    4, // ;
-    0, 0, 0, 0, 0, 2, // A
-    2, // B
-    2, // C
-    2, // D
-    2, // E
-    2, // F
-    2, // G
-    2, // H
-    2, // I
-    2, // J
-    2, // K
-    2, // L
-    2, // M
-    2, // N
-    2, // O
-    2, // P
-    2, // Q
-    2, // R
-    2, // S
-    2, // T
-    2, // U
-    2, // V
-    2, // W
-    2, // X
-    2, // Y
-    2, // Z
-    0, 0, 0, 0, 0, 0, 2, // a
-    2, // b
-    2, // c
-    2, // d
-    2, // e
-    2, // f
-    2, // g
-    2, // h
-    2, // i
-    2, // j
-    2, // k
-    2, // l
-    2, // m
-    2, // n
-    2, // o
-    2, // p
-    2, // q
-    2, // r
-    2, // s
-    2, // t
-    2, // u
-    2, // v
-    2, // w
-    2, // x
-    2, // y
-    2, // z
-    4, // {
-    5, // |
-    4, // }
-    0, 0, 0, 0, 0, 0, 0, 0, 0, 0, 0, 0, 0, 0, 0, 0, 0, 0, 0, 0, 0, 0, 0, 0, 0, 0, 0, 0, 0, 0, 0, 0,
-    0, 0, 0, 0, 0, 0, 0, 0, 0, 0, 0, 0, 0, 0, 0, 0, 0, 0, 0, 0, 0, 0, 0, 0, 0, 0, 0, 0, 0, 0, 0, 0,
-    0, 0, 0, 0, 0, 0, 0, 0, 0, 0, 0, 0, 0, 0, 0, 0, 0, 0, 0, 0, 0, 0, 0, 0, 0, 0, 0, 0, 0, 0, 0, 0,
-    0, 0, 0, 0, 0, 0, 0, 0, 0, 0, 0, 0, 0, 0, 0, 0, 0, 0, 0, 0, 0, 0, 0, 0, 0, 0, 0, 0, 0, 0, 0, 0,
-    0, 0,
-];
-
-// The class of each byte, in a table that a reader lends down.
-pub fn table() -> [u8; 256]
-    ensures { Classes result }
-{
-    CLASSES
+// The class of a byte.
+#[derive(Clone, Copy, PartialEq, Eq)]
+pub enum Class {
+    Other,
+    White,
+    Alphanumeric,
+    Hyphen,
+    Single,
+    Double,
 }
 
-// The class of a byte, by the table.
-pub fn class_of(classes: &[u8; 256], b: u8) -> u8
-    requires { Classes classes.now }
-    ensures { result ≡ class_of b }
-{
-    let at = b as usize;
-    classes[at]
+const CLASSES: [Class; 256] = [
+    O, O, O, O, O, O, O, O, O, W, // tab
+    W, // line feed
+    O, O, W, // carriage return
+    O, O, O, O, O, O, O, O, O, O, O, O, O, O, O, O, O, O, W, // space
+    O, O, O, O, O, O, O, O, O, D, // *
+    O, S, // ,
+    H, // -
+    O, O, A, // 0
+    A, // 1
+    A, // 2
+    A, // 3
+    A, // 4
+    A, // 5
+    A, // 6
+    A, // 7
+    A, // 8
+    A, // 9
+    D, // :
+    S, // ;
+    O, O, O, O, O, A, // A
+    A, // B
+    A, // C
+    A, // D
+    A, // E
+    A, // F
+    A, // G
+    A, // H
+    A, // I
+    A, // J
+    A, // K
+    A, // L
+    A, // M
+    A, // N
+    A, // O
+    A, // P
+    A, // Q
+    A, // R
+    A, // S
+    A, // T
+    A, // U
+    A, // V
+    A, // W
+    A, // X
+    A, // Y
+    A, // Z
+    O, O, O, O, O, O, A, // a
+    A, // b
+    A, // c
+    A, // d
+    A, // e
+    A, // f
+    A, // g
+    A, // h
+    A, // i
+    A, // j
+    A, // k
+    A, // l
+    A, // m
+    A, // n
+    A, // o
+    A, // p
+    A, // q
+    A, // r
+    A, // s
+    A, // t
+    A, // u
+    A, // v
+    A, // w
+    A, // x
+    A, // y
+    A, // z
+    S, // {
+    D, // |
+    S, // }
+    O, O, O, O, O, O, O, O, O, O, O, O, O, O, O, O, O, O, O, O, O, O, O, O, O, O, O, O, O, O, O, O,
+    O, O, O, O, O, O, O, O, O, O, O, O, O, O, O, O, O, O, O, O, O, O, O, O, O, O, O, O, O, O, O, O,
+    O, O, O, O, O, O, O, O, O, O, O, O, O, O, O, O, O, O, O, O, O, O, O, O, O, O, O, O, O, O, O, O,
+    O, O, O, O, O, O, O, O, O, O, O, O, O, O, O, O, O, O, O, O, O, O, O, O, O, O, O, O, O, O, O, O,
+    O, O,
+];
+
+// The classes of all bytes, each at the place of its byte.
+#[derive(Clone, Copy)]
+pub struct ClassTable {
+    pub classes: [Class; 256],
+    pub ghost ruled: { Classes classes },
+}
+
+impl ClassTable {
+    // The class of a byte, by the table.
+    pub fn class_of(&self, byte: u8) -> Class
+        ensures { class_number result ≡ class_of byte }
+    {
+        self.classes[usize::from(byte)]
+    }
+}
+
+// The table of the classes of all bytes, that a reader lends down.
+pub fn table() -> ClassTable {
+    ClassTable { classes: CLASSES }
 }

@@ -1,18 +1,14 @@
 -- Laws of the reading of assignments.
 -- Assumes nothing.
-use Prim.Native.Nat.{ℕ, suc, ◌+◌, ◌-◌, ◌≤◌, ◌<◌, min}
+use Prim.Native.Nat.{ℕ, suc, ◌-◌, ◌≤◌, ◌<◌}
 use native.Mathlib.Omega.{arith}
-use native.Mathlib.Numerals.{add-one}
-use mathlib.Core.Path.{◌≡◌, ap, ◌∙◌}
+use mathlib.Core.Path.{◌≡◌, refl, ap, ◌∙◌}
 use mathlib.Core.Bool.{Bool, true, false}
 use mathlib.Core.List.{List, [], ◌∷◌, ◌++◌, map}
-use lib.ListN.{length, take, drop, get_or, set, length-map, length-take, get_or-map, drop_of_length-le}
-use lib.Seq.{drop-cons, get_or-take}
+use lib.ListN.{length}
 use Rattle.laws.specs.Filled.{filled}
-use Rattle.laws.proofs.Filled.{filled_none, filled_used}
-use Rattle.laws.proofs.Lists.{map_append}
+use Rattle.laws.proofs.Filled.{filled_none}
 use Rattle.text.specs.Tokens.{Name, Token, GETS, OPEN, CLOSE, COMMA}
-use Rattle.model.proofs.Pairs.{assigns_none}
 use Rattle.model.specs.Rules.{Pair, assigns}
 use Rattle.laws.specs.Limits.{assignment_limit}
 use Rattle.table.specs.Zero.{zero_assignment}
@@ -22,10 +18,13 @@ use Rattle.grammar.specs.Files.{Slot}
 use Rattle.grammar.specs.Reading.{Part, took, stop, ◌then◌, expects, a_name, unassigned, read_slot, read_value, read_target, read_assignment, read_assignments, read_assign, no_assignment}
 use Rattle.model.specs.Result.{pair}
 use Rattle.steps.specs.inner.Places.{which, one, other, neither}
-use Rattle.clauses.specs.inner.Assignments.{assignment_list, UnusedZero, pairs_in, value_assignment, single_assignment, AssignmentLies}
-use Rattle.clauses.specs.declared.assignments.Assignments.{Assignments}
-use Rattle.clauses.specs.declared.assignments.AssignmentRead.{AssignmentRead}
-use Rattle.clauses.specs.declared.assignments.AssignmentRead.TheVariants as read
+use Rattle.clauses.specs.inner.Assignments.{AssignmentPlaces, assignment_list, UnusedZero, pairs_in, value_assignment, single_assignment, AssignmentLies, AssignmentsLies}
+use Rattle.std.specs.Prelude.{Result, Ok, Err, ◌||◌}
+use Rattle.std.specs.List.{list_any}
+use lib.Dec.{eqb}
+use Rattle.laws.specs.Truth.{◌∨ᵇ◌}
+use Rattle.steps.specs.declared.step.Fault.{Fault}
+use Rattle.steps.specs.declared.step.Read.{Read}
 use Rattle.clauses.proofs.ListLaws as lists
 use Rattle.steps.proofs.Places.{next_is, next_not}
 use Rattle.clauses.proofs.LiteralLaws.{slot_inside}
@@ -35,29 +34,18 @@ pub none_zero : UnusedZero (assignment_list [])
 unfolding filled
 none_zero = filled_none assignment_limit zero_assignment
 
-pub none_pairs : (list : Assignments) → list ≡ assignment_list [] → pairs_in list ≡ []
+pub none_pairs : (list : AssignmentPlaces) → list ≡ assignment_list [] → pairs_in list ≡ []
 none_pairs list e = ap pairs_in e
 
--- One assignment more.
-pub pairs_add : (list : Assignments) (a : Assignment) → UnusedZero list → list.count < assignment_limit
-    → map assignment_of (take (list.count + 1) (set list.places list.count a)) ≡ pairs_in list ++ assignment_of a ∷ []
-pairs_add list a F h = ap (map assignment_of) (filled_used assignment_limit zero_assignment list.places list.count a F h) ∙ map_append assignment_of (take list.count list.places) (a ∷ [])
-
--- No slot is assigned after the last pair.
-pub assigns_end : (ps : List Pair) (i s : ℕ) → length ps ≤ i → assigns (drop i ps) s ≡ false
-assigns_end ps i s h = rw (drop_of_length-le ps h) (assigns_none s)
-
--- The pair in a used place, and those after it.
-pub pairs_length : (list : Assignments) → length (pairs_in list) ≡ min list.count (length list.places)
-pairs_length list = rw (length-map, length-take)
-
-pub pairs_from : (list : Assignments) (i : ℕ) → i < list.count → i < length list.places
-    → drop i (pairs_in list) ≡ assignment_of (get_or list.places i zero_assignment) ∷ drop (i + 1) (pairs_in list)
-pairs_from list i h l =
-    let used = take list.count list.places in
-    let n = pairs_length list in
-    let k : i < length (pairs_in list) = omega arith in
-    rw (add-one i) (drop-cons (pairs_in list) i (assignment_of zero_assignment) k ∙ rw (get_or-map assignment_of used i zero_assignment, get_or-take list.count list.places i zero_assignment h))
+-- Some assignment assigns the slot.
+pub any_assigns : (xs : List Assignment) (s : ℕ) → list_any (λ a. eqb a.slot s) xs ≡ assigns (map assignment_of xs) s
+unfolding assigns ◌∨ᵇ◌
+any_assigns [] s = refl
+any_assigns (x ∷ xs) s = go (eqb x.slot s) (any_assigns xs s)
+  where
+    go : (t : Bool) → list_any (λ a. eqb a.slot s) xs ≡ assigns (map assignment_of xs) s → t || list_any (λ a. eqb a.slot s) xs ≡ t ∨ᵇ assigns (map assignment_of xs) s
+    go true e = refl
+    go false e = e
 
 -- The slot of an assignment: not read, assigned already, not assigned.
 pub target_stop : (slots : List Slot) (sofar : List Pair) (ts : List Token) (k : ℕ) → read_slot slots ts ≡ stop k → read_target slots sofar ts ≡ stop k
@@ -119,12 +107,16 @@ unfolding no_assignment ◌then◌
 surplus_named sofar ts left n e = rw e
 
 -- What lies behind a later position lies behind an earlier one.
-pub lies_earlier : (size from later : ℕ) (r : AssignmentRead) → from ≤ later → AssignmentLies size later r → AssignmentLies size from r
-lies_earlier size from later (read.Took a next) h d = (omega (arith, d.0), d.1)
-lies_earlier size from later (read.Fault k) h d = tt
+pub lies_earlier : (size from later : ℕ) (r : Result (Read Assignment) Fault) → from ≤ later → AssignmentLies size later r → AssignmentLies size from r
+lies_earlier size from later (Ok r) h d = (omega (arith, d.0), d.1)
+lies_earlier size from later (Err k) h d = tt
+
+pub list_earlier : (size from later : ℕ) (r : Result (Read AssignmentPlaces) Fault) → from ≤ later → AssignmentsLies size later r → AssignmentsLies size from r
+list_earlier size from later (Ok r) h d = (omega (arith, d.0), d.1, d.2)
+list_earlier size from later (Err k) h d = tt
 
 -- The list of assignments, where `room` more may come: none may; the next is refused; it is read, and the list goes on, ends, or is refused.
-pub list_start : (slots : List Slot) (list : Assignments) (ts : List Token) → list ≡ assignment_list []
+pub list_start : (slots : List Slot) (list : AssignmentPlaces) (ts : List Token) → list ≡ assignment_list []
     → read_assignments slots assignment_limit [] ts ≡ read_assignments slots (assignment_limit - list.count) (pairs_in list) ts
 list_start slots list ts e = rw e
 
@@ -169,3 +161,11 @@ assign_list slots ts left u e = next_is OPEN (read_assignments slots assignment_
 pub assign_one : (slots : List Slot) (ts : List Token) (k : ℕ) → expects OPEN ts ≡ stop k → read_assign slots ts ≡ single_assignment slots ts
 unfolding read_assign single_assignment
 assign_one slots ts k e = next_not OPEN _ _ ts k e
+
+pub assign_unnamed : (slots : List Slot) (ts : List Token) (j k : ℕ) → expects OPEN ts ≡ stop j → a_name ts ≡ stop k → read_assign slots ts ≡ stop k
+unfolding single_assignment read_assignment read_target read_slot ◌then◌
+assign_unnamed slots ts j k e f = assign_one slots ts j e ∙ rw f
+
+pub assignment_unnamed : (slots : List Slot) (sofar : List Pair) (ts : List Token) (k : ℕ) → a_name ts ≡ stop k → read_assignment slots sofar ts ≡ stop k
+unfolding read_assignment read_target read_slot ◌then◌
+assignment_unnamed slots sofar ts k e = rw e

@@ -1,63 +1,51 @@
 -- Laws of the reading of conditions.
 -- Assumes nothing.
-use Prim.Native.Nat.{ℕ, ◌+◌, ◌-◌, ◌<◌}
+use Prim.Native.Nat.{ℕ, ◌-◌, ◌<◌}
 use native.Mathlib.Omega.{arith}
 use mathlib.Core.Path.{◌≡◌, refl, ap, ◌∙◌}
 use mathlib.Core.Bool.{false}
-use mathlib.Core.List.{List, [], ◌∷◌, ◌++◌, map}
-use lib.ListN.{take, set}
-use borrow.Author.Tests.{eq-eqb, ne_eqb}
-use types.Run.{OneOf, miss}
+use mathlib.Core.List.{List, [], ◌∷◌, ◌++◌}
+use types.Run.{miss}
 use borrow.Enum.Refused.{Among, opened}
 use denote.Enum.Declared.{tag_of}
-use Rattle.laws.specs.inner.Filled.{Filled}
-use Rattle.laws.proofs.Filled.{filled_used}
-use Rattle.laws.proofs.Lists.{map_append}
 use Rattle.text.specs.Tokens.{Token, word, NOT, AND, THEN, TRUE}
 use Rattle.text.specs.declared.Token as code
 use Rattle.text.specs.declared.Token.TheVariants as v
 use Rattle.text.specs.contracts.Token as kinds
 use Rattle.model.specs.Rules as model
-use Rattle.table.specs.Link.{literal_of}
-use Rattle.table.specs.Zero.{zero_literal}
-use Rattle.table.specs.declared.Literal.{Literal}
 use Rattle.grammar.specs.Files.{Slot}
 use Rattle.grammar.specs.Reading.{took, stop, expects, fork, read_literal, no_literal, read_literals, read_condition}
 use Rattle.laws.specs.Limits.{literal_limit}
 use Rattle.steps.specs.inner.Places.{fault_of, shown_past, which, one, other, neither}
 use Rattle.steps.proofs.Places.{follow, fork_which, next_is, next_not}
+use Rattle.text.specs.declared.Word.TheVariants as w
+use Rattle.text.specs.declared.Span.{Span}
+use Rattle.steps.specs.Faults.{fault_number}
+use Rattle.steps.specs.declared.step.Fault.TheVariants as fault
+use Rattle.steps.proofs.Places.{other_number, not_named}
+use Rattle.std.specs.Prelude.{◌≤◌, Result, Ok, Err}
+use Rattle.steps.specs.declared.step.Fault.{Fault}
+use Rattle.steps.specs.declared.step.Read.{Read}
+use Rattle.clauses.specs.inner.Conditions.{LiteralPlaces, ConditionLies}
 use Rattle.clauses.proofs.ListLaws as lists
 
 -- What stands where no further literal may.
-pub more_not : (w : ℕ) (sofar : List model.Literal) (ts : List Token) → w ≡ NOT → no_literal sofar (word w ∷ ts) ≡ stop 15
+pub more_not : (sofar : List model.Literal) (ts : List Token) → no_literal sofar (word NOT ∷ ts) ≡ stop 15
 unfolding no_literal
-more_not w sofar ts e = rw (eq-eqb w NOT e)
+more_not sofar ts = refl
 
-pub more_word : (w : ℕ) (sofar : List model.Literal) (ts : List Token) → (w ≡ NOT → ⊥) → no_literal sofar (word w ∷ ts) ≡ stop 12
+pub more_other : (rest : List ℕ) (base : ℕ) (t : code.Token) (sofar : List model.Literal) (ts : List Token) → (t ≡ v.Word w.Not → ⊥) → Among not_named (tag_of kinds.the_type t)
+    → no_literal sofar (shown_past rest base t ts) ≡ stop (fault_number (fault_of t fault.LongName))
 unfolding no_literal
-more_word w sofar ts e = rw (ne_eqb w NOT e)
+more_other rest base v.End sofar ts h k = refl
+more_other rest base (v.Word u) sofar ts h k = rw (other_number u w.Not h)
+more_other rest base (v.Name n) sofar ts h k = absurd (miss not_named 2 tt (opened k))
+more_other rest base v.Long sofar ts h k = refl
+more_other rest base v.Bad sofar ts h k = refl
 
-pub more_name : (rest : List ℕ) (base : ℕ) (t : code.Token) (sofar : List model.Literal) (ts : List Token) → OneOf (2 ∷ []) (tag_of kinds.the_type t) → no_literal sofar (shown_past rest base t ts) ≡ stop 15
+pub more_name : (rest : List ℕ) (base : ℕ) (n : Span) (sofar : List model.Literal) (ts : List Token) → no_literal sofar (shown_past rest base (v.Name n) ts) ≡ stop 15
 unfolding no_literal
-more_name rest base v.End sofar ts h = absurd (miss (2 ∷ []) 0 tt h)
-more_name rest base (v.Word w) sofar ts h = absurd (miss (2 ∷ []) 1 tt h)
-more_name rest base (v.Name start size) sofar ts h = refl
-more_name rest base v.Long sofar ts h = absurd (miss (2 ∷ []) 3 tt h)
-more_name rest base v.Bad sofar ts h = absurd (miss (2 ∷ []) 4 tt h)
-
-pub more_other : (rest : List ℕ) (base : ℕ) (t : code.Token) (sofar : List model.Literal) (ts : List Token) → Among (0 ∷ 3 ∷ 4 ∷ []) (tag_of kinds.the_type t)
-    → no_literal sofar (shown_past rest base t ts) ≡ stop (fault_of t 13)
-unfolding no_literal
-more_other rest base v.End sofar ts h = refl
-more_other rest base (v.Word w) sofar ts h = absurd (miss (0 ∷ 3 ∷ 4 ∷ []) 1 tt (opened h))
-more_other rest base (v.Name start size) sofar ts h = absurd (miss (0 ∷ 3 ∷ 4 ∷ []) 2 tt (opened h))
-more_other rest base v.Long sofar ts h = refl
-more_other rest base v.Bad sofar ts h = refl
-
--- The literals in the places used, with one more.
-pub literals_add : (places : List Literal) (count : ℕ) (l : Literal) → Filled literal_limit zero_literal places count → count < literal_limit
-    → map literal_of (take (count + 1) (set places count l)) ≡ map literal_of (take count places) ++ literal_of l ∷ []
-literals_add places count l F h = ap (map literal_of) (filled_used literal_limit zero_literal places count l F h) ∙ map_append literal_of (take count places) (l ∷ [])
+more_name rest base n sofar ts = refl
 
 -- Literals, one at a time; `room` more may come.
 pub literals_full : (slots : List Slot) (room : ℕ) (sofar : List model.Literal) (ts : List Token) → room ≡ 0 → read_literals slots room sofar ts ≡ no_literal sofar ts
@@ -104,3 +92,8 @@ condition_fault slots ts left u k e f = condition_open slots ts left u e ∙ ap 
 pub condition_plain : (slots : List Slot) (ts : List Token) (k : ℕ) → expects TRUE ts ≡ stop k → read_condition slots ts ≡ read_literals slots literal_limit [] ts
 unfolding read_condition
 condition_plain slots ts k e = next_not TRUE _ _ ts k e
+
+-- What lies behind a later position lies behind an earlier one.
+pub condition_earlier : (size from later : ℕ) (r : Result (Read LiteralPlaces) Fault) → from ≤ later → ConditionLies size later r → ConditionLies size from r
+condition_earlier size from later (Ok r) h d = (omega (arith, d.0), d.1, d.2)
+condition_earlier size from later (Err k) h d = tt

@@ -1,12 +1,24 @@
 -- Laws of the reading of lists, one part at a time.
 -- Assumes nothing.
-use Prim.Native.Nat.{ℕ, suc}
-use mathlib.Core.Path.{◌≡◌, ap, ◌∙◌}
-use mathlib.Core.List.{List, [], ◌∷◌, ◌++◌}
+use Prim.Native.Nat.{ℕ, suc, ◌+◌, ◌<◌}
+use mathlib.Core.Path.{◌≡◌, refl, ap, ◌∙◌}
+use mathlib.Core.List.{List, [], ◌∷◌, ◌++◌, map}
+use lib.ListN.{take}
+use Rattle.laws.specs.inner.Filled.{Filled}
+use Rattle.laws.proofs.Filled.{filled_add, filled_used}
+use Rattle.laws.proofs.Lists.{map_append}
+use Rattle.steps.specs.declared.parts.Parts.{Parts}
+use Rattle.steps.specs.inner.Parts.{one_more}
 use Rattle.text.specs.Tokens.{Token}
 use Rattle.grammar.specs.Reading.{Part, took, stop, ◌then◌, read_list}
 use Rattle.steps.specs.inner.Places.{which, one, other, neither}
 use Rattle.steps.proofs.Places.{follow, fork_which}
+
+-- One part more: the parts are those before and the new one, and the places that are not used hold what they held.
+pub longer : {A B : Type 0} (f : A → B) (n : ℕ) (unused part : A) (list more : Parts A n) → more ≡ one_more list part → Filled n unused list.places list.count → list.count < n
+    → (map f (take more.count more.places) ≡ map f (take list.count list.places) ++ f part ∷ []) × Filled n unused more.places more.count × (more.count ≡ list.count + 1)
+longer f n unused part list more e F h =
+    rw e (ap (map f) (filled_used n unused list.places list.count part F h) ∙ map_append f (take list.count list.places) (part ∷ []), filled_add n unused list.places list.count part F h, refl)
 
 module _ {A : Type 0} (each : List A → List Token → Part A) (none : List A → List Token → Part (List A)) (sep end : ℕ) where
   -- No part may follow.

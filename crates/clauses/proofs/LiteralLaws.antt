@@ -6,39 +6,33 @@ use mathlib.Core.Path.{◌≡◌, refl, ap, ◌∙◌}
 use mathlib.Core.Bool.{Bool, true, false, not}
 use lib.ListN.{length, length-map}
 use mathlib.Core.List.{List, ◌∷◌}
-use borrow.Author.Tests.{eq-eqb, ne_eqb}
-use types.Run.{miss}
-use borrow.Enum.Refused.{Among, opened}
-use denote.Enum.Declared.{tag_of}
 use Rattle.text.specs.Tokens.{Name, Token, word, NOT, BECOMES, HAS}
 use Rattle.text.specs.declared.Token as code
 use Rattle.text.specs.declared.Token.TheVariants as v
-use Rattle.text.specs.contracts.Token as kinds
 use Rattle.text.proofs.Cut.{place_le}
 use Rattle.grammar.specs.Files.{Slot, spellings, slot_names, place_in}
 use Rattle.grammar.specs.Reading.{Part, took, stop, ◌then◌, a_name, known_slot, read_slot, read_value, read_literal, plain_literal}
 use Rattle.model.specs.Result.{pair}
 use Rattle.steps.specs.inner.Places.{shown_past, which, one, other, neither}
 use Rattle.clauses.specs.inner.Literals.{value_literal, LiteralLies}
-use Rattle.clauses.specs.declared.literal.LiteralRead.{LiteralRead}
-use Rattle.clauses.specs.declared.literal.LiteralRead.TheVariants as read
-use Rattle.steps.proofs.Places.{no_word, follow, fork_which}
+use Rattle.std.specs.Prelude.{Result, Ok, Err}
+use Rattle.text.specs.declared.Word.TheVariants as w
+use Rattle.table.specs.declared.Literal.{Literal as code_literal}
+use Rattle.steps.specs.declared.step.Fault.{Fault}
+use Rattle.steps.specs.declared.step.Read.{Read}
+use Rattle.steps.proofs.Places.{other_number, follow, fork_which}
 
 -- NOT turns a literal round; where none stands, a plain literal must.
-pub literal_not : (w : ℕ) (ts : List Token) (slots : List Slot) (negated : Bool) → w ≡ NOT → read_literal (word w ∷ ts) slots negated ≡ read_literal ts slots (not negated)
+pub literal_not : (ts : List Token) (slots : List Slot) (negated : Bool) → read_literal (word NOT ∷ ts) slots negated ≡ read_literal ts slots (not negated)
 unfolding read_literal
-literal_not w ts slots negated e = rw (eq-eqb w NOT e)
+literal_not ts slots negated = refl
 
-pub literal_word : (w : ℕ) (ts : List Token) (slots : List Slot) (negated : Bool) → (w ≡ NOT → ⊥) → read_literal (word w ∷ ts) slots negated ≡ plain_literal slots negated (word w ∷ ts)
-unfolding read_literal plain_literal read_slot a_name ◌then◌
-literal_word w ts slots negated e = rw (ne_eqb w NOT e)
-
-pub literal_plain : (rest : List ℕ) (base : ℕ) (t : code.Token) (ts : List Token) (slots : List Slot) (negated : Bool) → Among no_word (tag_of kinds.the_type t)
+pub literal_plain : (rest : List ℕ) (base : ℕ) (t : code.Token) (ts : List Token) (slots : List Slot) (negated : Bool) → (t ≡ v.Word w.Not → ⊥)
     → read_literal (shown_past rest base t ts) slots negated ≡ plain_literal slots negated (shown_past rest base t ts)
 unfolding read_literal plain_literal read_slot a_name ◌then◌
 literal_plain rest base v.End ts slots negated h = refl
-literal_plain rest base (v.Word w) ts slots negated h = absurd (miss no_word 1 tt (opened h))
-literal_plain rest base (v.Name start size) ts slots negated h = refl
+literal_plain rest base (v.Word u) ts slots negated h = rw (other_number u w.Not h)
+literal_plain rest base (v.Name n) ts slots negated h = refl
 literal_plain rest base v.Long ts slots negated h = refl
 literal_plain rest base v.Bad ts slots negated h = refl
 
@@ -53,6 +47,10 @@ unfolding value_literal ◌then◌
 value_stop slots s becomes negated ts k e = rw e
 
 -- A plain literal: its slot, its mark, its value.
+pub plain_unnamed : (slots : List Slot) (negated : Bool) (ts : List Token) (k : ℕ) → a_name ts ≡ stop k → plain_literal slots negated ts ≡ stop k
+unfolding plain_literal read_slot ◌then◌
+plain_unnamed slots negated ts k e = rw e
+
 pub plain_stop : (slots : List Slot) (negated : Bool) (ts : List Token) (k : ℕ) → read_slot slots ts ≡ stop k → plain_literal slots negated ts ≡ stop k
 unfolding plain_literal ◌then◌
 plain_stop slots negated ts k e = rw e
@@ -89,6 +87,6 @@ unfolding read_slot
 slot_inside slots ts left s e = slot_below (a_name ts) slots s left e
 
 -- What lies behind a later position lies behind an earlier one.
-pub lies_earlier : (size from later : ℕ) (r : LiteralRead) → from ≤ later → LiteralLies size later r → LiteralLies size from r
-lies_earlier size from later (read.Took l next) h d = (omega (arith, d.0), d.1)
-lies_earlier size from later (read.Fault k) h d = tt
+pub lies_earlier : (size from later : ℕ) (r : Result (Read code_literal) Fault) → from ≤ later → LiteralLies size later r → LiteralLies size from r
+lies_earlier size from later (Ok r) h d = (omega (arith, d.0), d.1)
+lies_earlier size from later (Err k) h d = tt

@@ -1,161 +1,84 @@
 // Conditions: TRUE, or literals with AND between, up to THEN.
-ghost use Rattle.std.specs.Prelude.{◌≡◌, List, [], ℕ, ◌<◌, length, replicate};
-ghost use Rattle.table.specs.inner.Flat.{pair_places};
-ghost use Rattle.laws.specs.inner.Filled.{Filled};
+ghost use Rattle.std.specs.Prelude.{◌≡◌, List, [], ℕ, ◌<◌, length};
+ghost use Rattle.steps.specs.Faults.{fault_number};
 ghost use Rattle.model.specs.Rules as model;
 ghost use Rattle.table.specs.Zero.{zero_literal};
-ghost use Rattle.classes.specs.Classes.{Classes};
 ghost use Rattle.grammar.specs.Files.{Slot};
 ghost use Rattle.laws.specs.Limits.{literal_limit};
 ghost use Rattle.grammar.specs.Reading.{stop, read_literals, read_condition, no_literal};
-ghost use Rattle.steps.specs.inner.Places.{tokens_past, StepLies, outcome_part};
+ghost use Rattle.steps.specs.inner.Parts.{no_parts};
+ghost use Rattle.steps.specs.inner.Places.{tokens_past};
 ghost use Rattle.clauses.specs.inner.Literals.{Looked};
-ghost use Rattle.clauses.specs.inner.Conditions.{literals_in};
+ghost use Rattle.clauses.specs.inner.Conditions.{condition_part, ConditionLies};
 
-use crate::literal::{LiteralRead, literal_next};
-use steps::step::{Fork, Step, fault_of, fork_next, word_next};
-use table::{Literal, SLOTS};
-use text::Token;
+use crate::literal::literal_next;
+use steps::parts::Parts;
+use steps::source::Source;
+use steps::step::{Fault, Fork, Read, Tokens, fault_of};
+use table::{LITERALS, Literal};
+use text::{Token, Word};
 
-// The literal places of a rule and the number used.
-#[derive(Clone, Copy)]
-pub struct Literals {
-    pub places: [Literal; table::LITERALS],
-    pub count: usize,
-}
+// The literal places of a rule, with the number used.
+pub type Literals = Parts<Literal, LITERALS>;
 
-// The position after a condition and its THEN, or a refusal; and the literals.
-#[derive(Clone, Copy)]
-pub struct Condition {
-    pub outcome: Step,
-    pub list: Literals,
-}
-
-// The refusal of what stands where no further literal may: 15 at a literal's first token.
-fn no_more(rest: &[u8], classes: &[u8; 256], at: usize) -> u8
-    requires { Classes classes.now }
-    ensures { (base : ℕ) (sofar : List model.Literal) → no_literal sofar (tokens_past rest.now base at) ≡ stop result }
+// The refusal of what stands where no further literal may: one too many at a literal's first token.
+fn no_more(tokens: Tokens, at: usize) -> Fault
+    ensures { (base : ℕ) (sofar : List model.Literal) → no_literal sofar (tokens_past tokens.entry.rest.now base at) ≡ stop (fault_number result) }
 {
-    let next = text::token_by(rest, at, classes);
-    let token = next.token;
-    match token {
-        Token::Word(w) => {
-            if w == text::NOT {
-                return 15;
-            }
-            12
-        }
-        Token::Name(_, _) => 15,
-        _ => fault_of(token, 13),
+    let next = tokens.token(at);
+    if next.token == Token::Word(Word::Not) {
+        return Fault::TooMany;
+    }
+    match next.token {
+        Token::Name(_) => Fault::TooMany,
+        token => fault_of(token, Fault::LongName),
     }
 }
 
 // No literals.
 fn no_literals() -> Literals
-    ensures { result ≡ record { places = replicate literal_limit zero_literal; count = 0 } }
+    ensures { result ≡ no_parts literal_limit zero_literal }
 {
-    let none = Literal {
+    Parts::new(Literal {
         becomes: false,
         negated: false,
         slot: 0,
         value: 0,
-    };
-    Literals {
-        places: [none; table::LITERALS],
-        count: 0,
-    }
+    })
 }
 
 // Literals from a position on, with AND between and THEN at the end.
-fn literals_next(
-    text: &[u8],
-    rest: &[u8],
-    classes: &[u8; 256],
-    slotspans: &[usize; SLOTS],
-    valuespans: &[usize],
-    start: usize,
-) -> Condition
-    requires { Classes classes.now × (length valuespans.now ≡ pair_places) }
-    ensures { ((base : ℕ) (slots : List Slot) → Looked text.now slots slotspans.now valuespans.now
-        → read_literals slots literal_limit [] (tokens_past rest.now base start) ≡ outcome_part rest.now base (literals_in result.list) result.outcome)
-        × StepLies (length rest.now) start result.outcome × Filled literal_limit zero_literal result.list.places result.list.count }
+fn literals_next(s: Source, start: usize) -> Result<Read<Literals>, Fault>
+    ensures { ((base : ℕ) (slots : List Slot) → Looked s.entry.text.now slots s.entry.slotspans.now s.entry.valuespans.now
+        → read_literals slots literal_limit [] (tokens_past s.entry.tokens.rest.now base start) ≡ condition_part s.entry.tokens.rest.now base result) × ConditionLies (length s.entry.tokens.rest.now) start result }
 {
     let mut list = no_literals();
     let mut at = start;
-    loop {
-        let n = list.count;
-        if table::LITERALS <= n {
-            return Condition {
-                outcome: Step::Fault(no_more(rest, classes, at)),
-                list: list,
-            };
-        }
-        let read = literal_next(text, rest, classes, slotspans, valuespans, at);
-        match read {
-            LiteralRead::Took(literal, after) => {
-                list.places[n] = literal;
-                list.count = n + 1;
-                let way = fork_next(rest, classes, after, text::AND, text::THEN);
-                match way {
-                    Fork::First(next) => {
-                        at = next;
-                    }
-                    Fork::Second(next) => {
-                        return Condition {
-                            outcome: Step::At(next),
-                            list: list,
-                        };
-                    }
-                    Fork::Fault(k) => {
-                        return Condition {
-                            outcome: Step::Fault(k),
-                            list: list,
-                        };
-                    }
-                }
-            }
-            LiteralRead::Fault(k) => {
-                return Condition {
-                    outcome: Step::Fault(k),
-                    list: list,
-                };
-            }
+    // The list counts itself: a range would count beside it.
+    while list.count < LITERALS {
+        let read = literal_next(s, at)?;
+        list.push(read.value);
+        match s.tokens.fork(read.next, Word::And, Word::Then)? {
+            Fork::First(next) => at = next,
+            Fork::Second(next) => return Ok(Read { value: list, next }),
         }
     }
+    Err(no_more(s.tokens, at))
 }
 
 // A condition and its THEN: TRUE may open it.
-pub fn condition_next(
-    text: &[u8],
-    rest: &[u8],
-    classes: &[u8; 256],
-    slotspans: &[usize; SLOTS],
-    valuespans: &[usize],
-    at: usize,
-) -> Condition
-    requires { Classes classes.now × (length valuespans.now ≡ pair_places) }
-    ensures { ((base : ℕ) (slots : List Slot) → Looked text.now slots slotspans.now valuespans.now
-        → read_condition slots (tokens_past rest.now base at) ≡ outcome_part rest.now base (literals_in result.list) result.outcome)
-        × StepLies (length rest.now) at result.outcome × Filled literal_limit zero_literal result.list.places result.list.count }
+pub fn condition_next(s: Source, at: usize) -> Result<Read<Literals>, Fault>
+    ensures { ((base : ℕ) (slots : List Slot) → Looked s.entry.text.now slots s.entry.slotspans.now s.entry.valuespans.now
+        → read_condition slots (tokens_past s.entry.tokens.rest.now base at) ≡ condition_part s.entry.tokens.rest.now base result) × ConditionLies (length s.entry.tokens.rest.now) at result }
 {
-    let opening = word_next(rest, classes, at, text::TRUE);
-    match opening {
-        Step::At(after) => {
-            let way = fork_next(rest, classes, after, text::AND, text::THEN);
-            match way {
-                Fork::First(next) => literals_next(
-                    text, rest, classes, slotspans, valuespans, next,
-                ),
-                Fork::Second(next) => Condition {
-                    outcome: Step::At(next),
-                    list: no_literals(),
-                },
-                Fork::Fault(k) => Condition {
-                    outcome: Step::Fault(k),
-                    list: no_literals(),
-                },
-            }
-        }
-        Step::Fault(_) => literals_next(text, rest, classes, slotspans, valuespans, at),
+    match s.tokens.word(at, Word::True) {
+        Ok(after) => match s.tokens.fork(after, Word::And, Word::Then)? {
+            Fork::First(next) => literals_next(s, next),
+            Fork::Second(next) => Ok(Read {
+                value: no_literals(),
+                next,
+            }),
+        },
+        Err(_) => literals_next(s, at),
     }
 }

@@ -11,6 +11,7 @@ use Rattle.text.specs.Tokens.{Token, tokens_from, tokens}
 use Rattle.text.specs.Next.{tokens_at, shown, Lies}
 use Rattle.text.specs.declared.Token as code
 use Rattle.text.specs.declared.Token.TheVariants as v
+use Rattle.text.proofs.Numbers.{word_numbered}
 use Rattle.text.proofs.Position.{tokens_next, next_lies}
 use Rattle.cursor.specs.Readers.{at_start, peeked, advanced, advanced_by, nth_token}
 use Rattle.cursor.specs.declared.Reader.{Reader}
@@ -27,8 +28,8 @@ tokens_over s at h = rw (drop_of_length-le s h)
 -- A token shown before others is the first of them.
 shown_first : (s : List ℕ) (from next : ℕ) (t : code.Token) (ts : List Token) → Lies (length s) from t next → nth_token (shown s t ts) 0 ≡ t
 shown_first s from next v.End ts h = refl
-shown_first s from next (v.Word w) ts h = refl
-shown_first s from next (v.Name at len) ts h = ap (v.Name at) (stretch_length s at len next h.3 h.4)
+shown_first s from next (v.Word w) ts h = ap v.Word (word_numbered w)
+shown_first s from next (v.Name m) ts h = ap (λ (k : ℕ). v.Name (record { start = m.start; size = k })) (stretch_length s m.start m.size next h.3 h.4)
 shown_first s from next v.Long ts h = refl
 shown_first s from next v.Bad ts h = refl
 
@@ -36,7 +37,7 @@ shown_first s from next v.Bad ts h = refl
 shown_rest : (s : List ℕ) (from next : ℕ) (t : code.Token) (n : ℕ) → Lies (length s) from t next → nth_token (shown s t (tokens_at s next)) (suc n) ≡ nth_token (tokens_at s next) n
 shown_rest s from next v.End n h = rw (tokens_over s next h.1)
 shown_rest s from next (v.Word w) n h = refl
-shown_rest s from next (v.Name at len) n h = refl
+shown_rest s from next (v.Name m) n h = refl
 shown_rest s from next v.Long n h = refl
 shown_rest s from next v.Bad n h = refl
 

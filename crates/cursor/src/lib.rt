@@ -14,39 +14,44 @@ pub struct Reader<'a> {
     pub at: usize,
 }
 
-// The reader at the start of a text.
-pub fn new<'a>(text: &'a [u8]) -> Reader<'a>
-    ensures { result ≡ at_start text.entry }
-{
-    Reader { text, at: 0 }
-}
+impl<'a> Reader<'a> {
+    // The reader at the start of a text.
+    pub fn new(text: &'a [u8]) -> Reader<'a>
+        ensures { result ≡ at_start text.entry }
+    {
+        Reader { text, at: 0 }
+    }
 
-// The token at the reader's position, and the position after it.
-pub fn peek<'a>(r: Reader<'a>) -> Next
-    ensures { result ≡ peeked r.entry }
-{
-    text::token_at(r.text, r.at)
-}
+    // The token at the reader's position, and the position after it.
+    pub fn peek(self) -> Next
+        ensures { result ≡ peeked self.entry }
+    {
+        text::token_at(self.text, self.at)
+    }
 
-// The reader past that token.
-pub fn advance<'a>(r: Reader<'a>) -> Reader<'a>
-    ensures { result ≡ advanced r.entry }
-{
-    let next = text::token_at(r.text, r.at);
-    let at = next.at;
-    Reader { text: r.text, at }
+    // The reader past that token.
+    pub fn advance(self) -> Reader<'a>
+        ensures { result ≡ advanced self.entry }
+    {
+        let next = self.peek();
+        let at = next.at;
+        Reader {
+            text: self.text,
+            at,
+        }
+    }
 }
 
 // The first token of a text.
 pub fn first(text: &[u8]) -> Next
     ensures { result ≡ next_at text.now 0 }
 {
-    peek(new(text))
+    Reader::new(text).peek()
 }
 
 // The token after the one at a position.
 pub fn after(text: &[u8], at: usize) -> Next
     ensures { result ≡ next_at text.now (next_at text.now at).at }
 {
-    peek(advance(Reader { text, at }))
+    Reader { text, at }.advance().peek()
 }

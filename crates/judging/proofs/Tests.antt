@@ -3,50 +3,49 @@
 use mathlib.Core.Path.{◌≡◌, refl, ap, ◌∙◌}
 use mathlib.Core.Bool.{Bool, true, false, cond}
 use mathlib.Core.List.{List}
-use mathlib.Core.Logic.{⊎_elim}
-use Prim.Native.Nat.{ℕ, ◌+◌, ◌-◌, ◌*◌, ◌/◌, ◌%◌, ◌≤◌, ◌<◌}
+use Prim.Native.Nat.{ℕ, ◌+◌, ◌*◌, ◌/◌, ◌%◌, ◌<◌}
 use native.Mathlib.Omega.{arith}
 use lib.Dec.{eqb}
-use lib.ListN.{length, get_or, set, get_or-eq_default}
+use lib.ListN.{get_or, set}
 use borrow.Author.Tests.{eq-eqb, eqb-true, eqb-false}
 use Rattle.laws.specs.Truth.{◌∧ᵇ◌, ◌∨ᵇ◌, notᵇ}
 use Rattle.laws.specs.Limits.{slot_limit, row}
-use Rattle.laws.proofs.Truth.{le_or_lt}
 use Rattle.model.specs.Rules.{Literal, was}
 use Rattle.table.specs.Link.{literal_of}
 use Rattle.table.specs.inner.Flat.{pair_places, pair_at, place_of, set_of}
 use Rattle.table.proofs.Flat.{set_in}
 use Rattle.rows.specs.inner.Rows.{pair_in, literal_in}
 use Rattle.testing.proofs.Filling.{had_here, not_there, Begun, begun_next}
+use Rattle.truths.specs.declared.Truth3.{Truth3}
 use Rattle.truths.specs.declared.Truth3.TheVariants.{True, False, Unknown}
-use Rattle.truths.specs.Truths.{NOT₃, number}
+use Rattle.truths.specs.Truths.{NOT₃}
 use Rattle.marks.specs.Marks.{Marks, truth_had, truth_turns, truth_test, truth_literal}
-use Rattle.truths.proofs.Laws.{number_top}
-use Rattle.judging.specs.inner.Known.{Known, known, marks_of, Truths, Three}
+use Rattle.judging.specs.declared.truth.Known.{Known}
+use Rattle.judging.specs.inner.Known.{known, marks_of, Truths}
 
 -- A pair that the card has: `|=` is True and `*=` is False.
-number_had : (S : List ℕ) (Z : Marks) (q : ℕ) → was S (pair_at q) ≡ true → 2 ≡ number (truth_had S Z (pair_at q))
-unfolding truth_had number
-number_had S Z q e = rw e
+is_had : (S : List ℕ) (Z : Marks) (q : ℕ) → was S (pair_at q) ≡ true → True ≡ truth_had S Z (pair_at q)
+unfolding truth_had
+is_had S Z q e = rw e
 
-number_turned : (S : List ℕ) (Z : Marks) (q : ℕ) → was S (pair_at q) ≡ true → 0 ≡ number (truth_turns S Z (pair_at q))
-unfolding truth_turns number ◌∧ᵇ◌ ◌∨ᵇ◌ notᵇ
-number_turned S Z q e = rw e (go (Z.positive (pair_at q)) (Z.negative (pair_at q)))
+is_turned : (S : List ℕ) (Z : Marks) (q : ℕ) → was S (pair_at q) ≡ true → False ≡ truth_turns S Z (pair_at q)
+unfolding truth_turns ◌∧ᵇ◌ ◌∨ᵇ◌ notᵇ
+is_turned S Z q e = rw e (go (Z.positive (pair_at q)) (Z.negative (pair_at q)))
   where
-    go : (a b : Bool) → 0 ≡ number (cond (a ∧ᵇ notᵇ true) True (cond (b ∨ᵇ true) False Unknown))
+    go : (a b : Bool) → False ≡ cond (a ∧ᵇ notᵇ true) True (cond (b ∨ᵇ true) False Unknown)
     go true true = refl
     go true false = refl
     go false true = refl
     go false false = refl
 
 -- Another: `|=` is False.
-number_had_not : (S : List ℕ) (Z : Marks) (q : ℕ) → was S (pair_at q) ≡ false → 0 ≡ number (truth_had S Z (pair_at q))
-unfolding truth_had number
-number_had_not S Z q e = rw e
+is_had_not : (S : List ℕ) (Z : Marks) (q : ℕ) → was S (pair_at q) ≡ false → False ≡ truth_had S Z (pair_at q)
+unfolding truth_had
+is_had_not S Z q e = rw e
 
 -- What a pair comes to by its marks alone.
-abbrev pub mark_at : List Bool → List Bool → ℕ → ℕ
-mark_at positive negative q = cond (get_or positive q false) 2 (cond (get_or negative q false) 0 1)
+abbrev pub mark_at : List Bool → List Bool → ℕ → Truth3
+mark_at positive negative q = cond (get_or positive q false) True (cond (get_or negative q false) False Unknown)
 
 module _ (S : List ℕ) (positive negative : List Bool) where
   -- The marks of two arrays.
@@ -54,49 +53,36 @@ module _ (S : List ℕ) (positive negative : List Bool) where
   Z = record { positive = set_of positive; negative = set_of negative }
 
   -- What the two tests of each pair come to.
-  abbrev pub had_at : ℕ → ℕ
-  had_at q = number (truth_had S Z (pair_at q))
+  abbrev pub had_at : ℕ → Truth3
+  had_at q = truth_had S Z (pair_at q)
 
-  abbrev pub turns_at : ℕ → ℕ
-  turns_at q = number (truth_turns S Z (pair_at q))
+  abbrev pub turns_at : ℕ → Truth3
+  turns_at q = truth_turns S Z (pair_at q)
 
   -- Of a pair that the card has not, `*=` is what the marks say.
-  number_turns : (q : ℕ) → was S (pair_at q) ≡ false → mark_at positive negative q ≡ turns_at q
-  unfolding truth_turns number ◌∧ᵇ◌ ◌∨ᵇ◌ notᵇ
-  number_turns q e =
+  is_marked : (q : ℕ) → was S (pair_at q) ≡ false → mark_at positive negative q ≡ turns_at q
+  unfolding truth_turns ◌∧ᵇ◌ ◌∨ᵇ◌ notᵇ
+  is_marked q e =
       let z : place_of (pair_at q) ≡ q = omega arith in
       rw (e, set_in positive (pair_at q) (omega arith), set_in negative (pair_at q) (omega arith), z) (go (get_or positive q false) (get_or negative q false))
     where
-      go : (a b : Bool) → cond a 2 (cond b 0 1) ≡ number (cond (a ∧ᵇ notᵇ false) True (cond (b ∨ᵇ false) False Unknown))
+      go : (a b : Bool) → cond a True (cond b False Unknown) ≡ cond (a ∧ᵇ notᵇ false) True (cond (b ∨ᵇ false) False Unknown)
       go true true = refl
       go true false = refl
       go false true = refl
       go false false = refl
 
   -- The value of one slot more is entered.
-  pub slot_next : (truth : List ℕ) (s v : ℕ) → s < slot_limit → get_or S s 0 ≡ v → v < row → Begun 0 (mark_at positive negative) had_at turns_at truth s
-      → Begun 0 (mark_at positive negative) had_at turns_at (set (set truth (s * row + v) 2) (pair_places + (s * row + v)) 0) (s + 1)
-  slot_next truth s v h e k b = begun_next 0 (mark_at positive negative) had_at turns_at truth s v 2 0 h k (number_had S Z (s * row + v) there) (number_turned S Z (s * row + v) there)
-      (λ q d n. let z = not_there S s v q e d n in (number_had_not S Z q z, number_turns q z)) b
+  pub slot_next : (truth : List Truth3) (s v : ℕ) → s < slot_limit → get_or S s 0 ≡ v → v < row → Begun False (mark_at positive negative) had_at turns_at truth s
+      → Begun False (mark_at positive negative) had_at turns_at (set (set truth (s * row + v) True) (pair_places + (s * row + v)) False) (s + 1)
+  slot_next truth s v h e k b = begun_next False (mark_at positive negative) had_at turns_at truth s v True False h k (is_had S Z (s * row + v) there) (is_turned S Z (s * row + v) there)
+      (λ q d n. let z = not_there S s v q e d n in (is_had_not S Z q z, is_marked q z)) b
     where
       there : was S (pair_at (s * row + v)) ≡ true
       there = had_here S s v k e
 
-  pub slots_end : (truth : List ℕ) → Begun 0 (mark_at positive negative) had_at turns_at truth slot_limit → Truths S (known positive negative truth)
+  pub slots_end : (truth : List Truth3) → Begun False (mark_at positive negative) had_at turns_at truth slot_limit → Truths S (known positive negative truth)
   slots_end truth b = record { size = b.size; had = λ q h. b.had_in q (omega arith); turns = λ q h. b.turns_in q (omega arith) }
-
--- Every test is one of three.
-pub truths_three : (S : List ℕ) (k : Known) → Truths S k → Three k.truth
-unfolding Three number
-truths_three S k t q = ⊎_elim (λ beyond. rw (get_or-eq_default k.truth 0 {n = q} beyond) (omega arith)) inside (le_or_lt (length k.truth) q)
-  where
-    inside : q < length k.truth → get_or k.truth q 0 ≤ 2
-    inside h = ⊎_elim (λ (l : pair_places ≤ q). upper l) (λ (l : q < pair_places). rw (t.had q l) (number_top (truth_had S (marks_of k) (pair_at q)))) (le_or_lt pair_places q)
-      where
-        upper : pair_places ≤ q → get_or k.truth q 0 ≤ 2
-        upper l =
-            let z : pair_places + (q - pair_places) ≡ q = omega arith in
-            rw (← z) (rw (t.turns (q - pair_places) (omega (arith, t.size))) (number_top (truth_turns S (marks_of k) (pair_at (q - pair_places)))))
 
 module _ (S : List ℕ) (Z : Marks) where
   -- The test of a `*=` and of a `|=`.
@@ -130,15 +116,15 @@ module _ (S : List ℕ) (Z : Marks) where
   trigger_test x e = test_turns (literal_of (literal_in x)) (let h : x / pair_places % 2 ≡ 1 = omega arith in eq-eqb (x / pair_places % 2) 1 h)
 
 -- A test that is not under NOT stands at its number.
-pub test_at : (S : List ℕ) (k : Known) (x : ℕ) → x < 2 * pair_places → Truths S k → get_or k.truth x 0 ≡ number (truth_test S (marks_of k) (literal_of (literal_in x)))
+pub test_at : (S : List ℕ) (k : Known) (x : ℕ) → x < 2 * pair_places → Truths S k → get_or k.truth x False ≡ truth_test S (marks_of k) (literal_of (literal_in x))
 test_at S k x h t = go (eqb (x / pair_places % 2) 1) refl
   where
-    go : (b : Bool) → eqb (x / pair_places % 2) 1 ≡ b → get_or k.truth x 0 ≡ number (truth_test S (marks_of k) (literal_of (literal_in x)))
+    go : (b : Bool) → eqb (x / pair_places % 2) 1 ≡ b → get_or k.truth x False ≡ truth_test S (marks_of k) (literal_of (literal_in x))
     go true e =
         let y = eqb-true (x / pair_places % 2) 1 e in
         let z : x ≡ pair_places + x % pair_places = omega arith in
-        ap (λ (q : ℕ). get_or k.truth q 0) z ∙ (rw (test_turns S (marks_of k) (literal_of (literal_in x)) e) (t.turns (x % pair_places) (omega arith)))
+        ap (λ (q : ℕ). get_or k.truth q False) z ∙ (rw (test_turns S (marks_of k) (literal_of (literal_in x)) e) (t.turns (x % pair_places) (omega arith)))
     go false e =
         let y = eqb-false (x / pair_places % 2) 1 e in
         let z : x ≡ x % pair_places = omega arith in
-        ap (λ (q : ℕ). get_or k.truth q 0) z ∙ (rw (test_had S (marks_of k) (literal_of (literal_in x)) e) (t.had (x % pair_places) (omega arith)))
+        ap (λ (q : ℕ). get_or k.truth q False) z ∙ (rw (test_had S (marks_of k) (literal_of (literal_in x)) e) (t.had (x % pair_places) (omega arith)))

@@ -8,7 +8,8 @@ use Prim.Native.Nat.{ℕ, zero, suc, ◌+◌, ◌-◌, ◌/◌, ◌≤◌, ◌<�
 use native.Mathlib.Nat.{eq-or-lt_of_le}
 use native.Mathlib.Omega.{arith}
 use lib.Dec.{T}
-use lib.ListN.{length, get_or, set}
+use lib.ListN.{length, get_or, set, take}
+use lib.Seq.{get_or-take, length-take-le}
 use Rattle.laws.specs.Numbers.{Numbered}
 use Rattle.laws.specs.inner.Flags.{all_set}
 use Rattle.laws.proofs.Truth.{bool_ext, le_or_lt}
@@ -36,6 +37,13 @@ use Rattle.leastness.proofs.Flagging.{FlaggedAll}
 use Rattle.leastness.proofs.Chains.{On, first, later, Falls, on_none, on_split}
 use Rattle.leastness.proofs.Carried.{Carried, Valid, level_pair, last, carries_justified, justified_carries}
 use Rattle.leastness.proofs.Closing.{Waits, Stands, Closing, held_more, flagging_of, as_flagging, waits_held}
+
+-- Flags cut to the first n are all set exactly where the first n are.
+pub cut_set : (held : List Bool) (n : ℕ) → n ≤ length held → all_set (take n held) (length (take n held)) ≡ all_set held n
+cut_set held n l =
+    rw (length-take-le n held l) (bool_ext (all_set (take n held) n) (all_set held n)
+    (λ u. all_set_i held n (λ k h. rw (get_or-take n held k false h) at (all_set_e (take n held) n u k h)))
+    (λ u. all_set_i (take n held) n (λ k h. rw (get_or-take n held k false h) (all_set_e held n u k h))))
 
 module _ (t : Table) (hs : List ℕ) where
   -- The rules that need a pair at one of the first `at` places of the queue, level with its highest number, are held.

@@ -9,7 +9,8 @@ ghost use Rattle.model.specs.Strata.{needed, barred};
 ghost use Rattle.laws.specs.Limits.{rule_limit};
 ghost use Rattle.table.specs.inner.Flat.{pair_places};
 ghost use Rattle.table.specs.Link.{rule_of, assignments_of};
-ghost use Rattle.rows.specs.inner.Rows.{rule_in, table_in, RowFits, RowsFit};
+ghost use Rattle.rows.specs.inner.Rows.{rule_in};
+ghost use Rattle.rows.specs.inner.RuleRows.{numbers_of, rows_table};
 ghost use Rattle.strata.specs.inner.Heights.{Small};
 ghost use Rattle.leastness.specs.CarriesLeast.{carries_least};
 ghost use Rattle.leastness.specs.inner.Low.{Low, Unheld, Unchained};
@@ -17,22 +18,26 @@ ghost use Rattle.leastness.specs.inner.OneBelow.{one_below};
 ghost use Rattle.leastness.specs.inner.Chains.{needs_places, head_at, nexts_at, heads_with, nexts_with};
 ghost use Rattle.leastness.specs.inner.Flagging.{flagging, Room, flag_all};
 
-use rows::{FEW, NUMBERS, SOME};
+use rows::{FEW, RuleRow, SOME};
 use table::{LITERALS, PAIRS, RULES};
 
-// The places where a rule can need a pair: its trigger and its literals.
+// The places where a rule can need a pair: its trigger and its literals. (`marking` has as many; neither crate uses the other.)
 const EACH: usize = LITERALS + 1;
 
+const FEW_PLACES: usize = FEW * EACH;
+
+const SOME_PLACES: usize = SOME * EACH;
+
+const ALL_PLACES: usize = RULES * EACH;
+
 // Whether a pair that a rule tests under NOT has a number one below s.
-fn one_below(row: &[u16; NUMBERS], s: u16, high: &[u16; PAIRS]) -> bool
-    requires { RowFits row.now × Small high.now }
-    ensures { result ≡ one_below high.now s (barred (rule_of (rule_in row.now))) }
+fn one_below(row: &RuleRow, s: u16, high: &[u16; PAIRS]) -> bool
+    requires { Small high.now }
+    ensures { result ≡ one_below high.now s (barred (rule_of (rule_in row.now.numbers))) }
 {
-    let m = rows::tested(row);
-    let mut j: usize = 0;
-    'literals: while j < m {
-        let x = rows::literal(row, j);
-        j += 1;
+    let m = row.tested();
+    'literals: for j in 0..m {
+        let x = row.literal(j);
         if !rows::is_under_not(x) {
             continue 'literals;
         }
@@ -45,7 +50,7 @@ fn one_below(row: &[u16; NUMBERS], s: u16, high: &[u16; PAIRS]) -> bool
     false
 }
 
-// Chains the place o to the pair at k, if that has the number s.
+// Chains the place o to the pair at k, if that has the number s; places are counted from 1 and 0 ends a chain (two bytes a place, where an `Option` takes four).
 fn chain(
     k: usize,
     o: usize,
@@ -67,27 +72,25 @@ fn chain(
 
 // Chains the places of rule i, from 0, to the pairs of number s that it needs.
 fn chain_needed(
-    row: &[u16; NUMBERS],
+    row: &RuleRow,
     i: usize,
     s: u16,
     high: &[u16; PAIRS],
     heads: &mut [u16; PAIRS],
     nexts: &mut [u16],
 )
-    requires { RowFits row.now × (i < rule_limit) × ((i + 1) * 9 ≤ length nexts.old) }
-    ensures { (heads.new ≡ heads_with high.now s (needed (rule_of (rule_in row.now))) (i * 9) heads.old)
-        × (nexts.new ≡ nexts_with high.now s (needed (rule_of (rule_in row.now))) (i * 9) heads.old nexts.old) }
+    requires { (i < rule_limit) × ((i + 1) * 9 ≤ length nexts.old) }
+    ensures { (heads.new ≡ heads_with high.now s (needed (rule_of (rule_in row.now.numbers))) (i * 9) heads.old)
+        × (nexts.new ≡ nexts_with high.now s (needed (rule_of (rule_in row.now.numbers))) (i * 9) heads.old nexts.old) }
 {
-    let t = rows::trigger(row);
+    let t = row.trigger();
     let at = rows::place(t);
     let first = i * EACH;
     chain(at, first, s, high, heads, nexts);
     let mut o = first + 1;
-    let m = rows::tested(row);
-    let mut j: usize = 0;
-    'literals: while j < m {
-        let x = rows::literal(row, j);
-        j += 1;
+    let m = row.tested();
+    'literals: for j in 0..m {
+        let x = row.literal(j);
         if !rows::is_plain(x) {
             continue 'literals;
         }
@@ -97,24 +100,22 @@ fn chain_needed(
     }
 }
 
-// Flags the pairs of number s that a rule assigns, and puts those that were not flagged behind the first `top` of the queue; how many stand there then.
+// Flags the pairs of number s that a rule assigns, and puts those that were not flagged behind the first `top` of the queue, an array that is lent since there is no heap; how many stand there then.
 fn flag_assigned(
-    row: &[u16; NUMBERS],
+    row: &RuleRow,
     s: u16,
     high: &[u16; PAIRS],
     flags: &mut [bool; PAIRS],
     queue: &mut [u16; PAIRS],
     top: usize,
 ) -> usize
-    requires { RowFits row.now × Room flags.old top }
-    ensures { flagging flags.new queue.new result ≡ flag_all high.now s (assignments_of (rule_in row.now)) (flagging flags.old queue.old top) }
+    requires { Room flags.old top }
+    ensures { flagging flags.new queue.new result ≡ flag_all high.now s (assignments_of (rule_in row.now.numbers)) (flagging flags.old queue.old top) }
 {
-    let m = rows::assigned(row);
+    let m = row.assigned();
     let mut n = top;
-    let mut k: usize = 0;
-    'pairs: while k < m {
-        let x = rows::assignment(row, k);
-        k += 1;
+    'pairs: for k in 0..m {
+        let x = row.assignment(k);
         let p = rows::place(x);
         if high[p] != s {
             continue 'pairs;
@@ -129,79 +130,70 @@ fn flag_assigned(
     n
 }
 
-// Whether the first n rules are held.
-fn all_held(held: &[bool], n: usize) -> bool
-    requires { n ≤ length held.now }
-    ensures { result ≡ all_set held.now n }
+// Whether all rules are held.
+fn all_held(held: &[bool]) -> bool
+    ensures { result ≡ all_set held.now (length held.now) }
 {
-    let mut j: usize = 0;
-    while j < n {
-        if !held[j] {
+    for &is_held in held {
+        if !is_held {
             return false;
         }
-        j += 1;
     }
     true
 }
 
 // Whether no rule carries a stratum above the number of rules: none of the least is.
-fn is_low(rows: &[[u16; NUMBERS]], n: usize) -> bool
-    requires { RowsFit rows.now n }
-    ensures { (result ≡ true → Low rows.now n) × (result ≡ false → false ≡ carries_least (table_in rows.now n)) }
+fn is_low(rows: &[RuleRow]) -> bool
+    requires { length rows.now ≤ rule_limit }
+    ensures { (result ≡ true → Low (numbers_of rows.now) (length rows.now)) × (result ≡ false → false ≡ carries_least (rows_table rows.now)) }
 {
-    let mut i: usize = 0;
-    while i < n {
-        let s = rows::wide(rows::stratum(&rows[i]));
-        if n < s {
+    for row in rows {
+        if rows.len() < usize::from(row.stratum()) {
             return false;
         }
-        i += 1;
     }
     true
 }
 
 // Whether rows with such strata carry the least: each stratum is at least as high as it is asked, and each rule is held once its number is
 // found justified, by itself or from the queue of pairs that a held rule assigns at their highest number.
-fn are_held(rows: &[[u16; NUMBERS]], n: usize, held: &mut [bool], nexts: &mut [u16]) -> bool
-    requires { RowsFit rows.now n × Low rows.now n × Unheld n held.old × Unchained n nexts.old }
-    ensures { result ≡ carries_least (table_in rows.now n) }
+fn are_held(rows: &[RuleRow], held: &mut [bool], nexts: &mut [u16]) -> bool
+    requires { (length rows.now ≤ rule_limit) × Low (numbers_of rows.now) (length rows.now) × Unheld (length rows.now) held.old × Unchained (length rows.now) nexts.old }
+    ensures { result ≡ carries_least (rows_table rows.now) }
 {
     let mut high: [u16; PAIRS] = [0; PAIRS];
-    let mut i: usize = 0;
-    'gather: while i < n {
-        let s = rows::stratum(&rows[i]);
-        strata::least::raise(&rows[i], s, &mut high);
-        i += 1;
+    'gather: for row in rows {
+        let s = row.stratum();
+        strata::least::raise(row, s, &mut high);
     }
     let mut flags: [bool; PAIRS] = [false; PAIRS];
     let mut queue: [u16; PAIRS] = [0; PAIRS];
     let mut top: usize = 0;
     let mut heads: [u16; PAIRS] = [0; PAIRS];
-    let mut k: usize = 0;
-    'ask: while k < n {
-        let s = rows::stratum(&rows[k]);
-        let h = strata::least::asked(&rows[k], &high);
+    'ask: for (k, row) in rows.iter().enumerate() {
+        let s = row.stratum();
+        let h = strata::least::asked(row, &high);
         if s < h {
             return false;
         }
-        let e = k;
-        k += 1;
         if s <= 1 {
-            held[e] = true;
+            held[k] = true;
             continue 'ask;
         }
-        if one_below(&rows[e], s, &high) {
-            held[e] = true;
-            top = flag_assigned(&rows[e], s, &high, &mut flags, &mut queue, top);
+        if one_below(row, s, &high) {
+            held[k] = true;
+            top = flag_assigned(row, s, &high, &mut flags, &mut queue, top);
             continue 'ask;
         }
-        chain_needed(&rows[e], e, s, &high, &mut heads, nexts);
+        chain_needed(row, k, s, &high, &mut heads, nexts);
     }
     let mut at: usize = 0;
+    // The queue grows on the way: no range is known before.
     'work: while at < top {
-        let p = rows::wide(queue[at]);
+        let p = usize::from(queue[at]);
         at += 1;
         let mut x = heads[p];
+        // A chain ends where its next is 0.
         'chain: while 0 < x {
             let o = (x - 1) as usize;
             x = nexts[o];
@@ -210,32 +202,38 @@ fn are_held(rows: &[[u16; NUMBERS]], n: usize, held: &mut [bool], nexts: &mut [u
                 continue 'chain;
             }
             held[m] = true;
-            let s = rows::stratum(&rows[m]);
-            top = flag_assigned(&rows[m], s, &high, &mut flags, &mut queue, top);
+            let row = &rows[m];
+            let s = row.stratum();
+            top = flag_assigned(row, s, &high, &mut flags, &mut queue, top);
         }
     }
-    all_held(held, n)
+    all_held(&held[..rows.len()])
+}
+
+// Whether low rows carry the least strata, with room for N rules set aside, and for M places.
+fn is_least_in<const N: usize, const M: usize>(rows: &[RuleRow]) -> bool
+    requires { Low (numbers_of rows.now) (length rows.now) × (length rows.now ≤ N) × (N ≤ rule_limit) × (M ≡ 9 * N) }
+    ensures { result ≡ carries_least (rows_table rows.now) }
+{
+    let mut held: [bool; N] = [false; N];
+    let mut nexts: [u16; M] = [0; M];
+    are_held(rows, &mut held, &mut nexts)
 }
 
 // Whether rows carry the least strata.
-pub fn is_least(rows: &[[u16; NUMBERS]], n: usize) -> bool
-    requires { RowsFit rows.now n }
-    ensures { result ≡ carries_least (table_in rows.now n) }
+pub fn is_least(rows: &[RuleRow]) -> bool
+    requires { length rows.now ≤ rule_limit }
+    ensures { result ≡ carries_least (rows_table rows.now) }
 {
-    if !is_low(rows, n) {
+    let n = rows.len();
+    if !is_low(rows) {
         return false;
     }
     if n <= FEW {
-        let mut held: [bool; FEW] = [false; FEW];
-        let mut nexts: [u16; FEW * EACH] = [0; FEW * EACH];
-        return are_held(rows, n, &mut held, &mut nexts);
+        return is_least_in::<FEW, { FEW_PLACES }>(rows);
     }
     if n <= SOME {
-        let mut held: [bool; SOME] = [false; SOME];
-        let mut nexts: [u16; SOME * EACH] = [0; SOME * EACH];
-        return are_held(rows, n, &mut held, &mut nexts);
+        return is_least_in::<SOME, { SOME_PLACES }>(rows);
     }
-    let mut held: [bool; RULES] = [false; RULES];
-    let mut nexts: [u16; RULES * EACH] = [0; RULES * EACH];
-    are_held(rows, n, &mut held, &mut nexts)
+    is_least_in::<RULES, { ALL_PLACES }>(rows)
 }

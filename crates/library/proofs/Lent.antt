@@ -3,7 +3,8 @@
 use mathlib.Core.Path.{◌≡◌, refl, sym, ap, subst, ◌∙◌}
 use mathlib.Core.Bool.{true}
 use mathlib.Core.List.{List}
-use Prim.Native.Nat.{ℕ, ◌-◌, ◌<◌, ◌≤◌}
+use Prim.Native.Nat.{ℕ, ◌-◌, ◌<◌}
+use native.Mathlib.Omega.{arith}
 use lib.ListN.{length, get_or, set}
 use Rattle.laws.specs.Answers.{OrRefused}
 use Rattle.table.specs.declared.Table.{Table}
@@ -16,9 +17,8 @@ use Rattle.tally.proofs.EditorLaws.{placed_own, placed_none}
 use Rattle.response.specs.Ending.{Answer}
 use Rattle.response.specs.Respond.{Rooms, Outputs, rooms_of, outputs, outputs_after, outcome_of, records_after, answer_at, response_at, answer_in}
 use Rattle.library.specs.declared.RlResponse.{RlResponse}
-use Rattle.library.specs.declared.at_record.Counted.{Counted}
+use Rattle.response.specs.Outcomes.{Response}
 use Rattle.library.specs.Results.{response_numbers}
-use Rattle.library.specs.inner.AtRecord.{counted_numbers}
 
 -- 44 by numbers.
 abbrev pub answer_44 : RlResponse
@@ -33,9 +33,9 @@ module _ (way : Way) (t : Table) (card slip renewed changes fired : List ℕ) wh
   abbrev answered : Editors → OrRefused Answer
   answered y = answer_in way t y card slip rooms
 
-  -- What is said of a response at one record: its numbers with the record after it, and the outputs.
-  abbrev pub SaidAt : Tally → Counted → Outputs → Type 0
-  SaidAt x c o = (c ≡ counted_numbers (response_at way t x card slip rooms)) × (o ≡ outputs_after (answer_at way t x card slip rooms) (outputs renewed changes fired))
+  -- What is said of a response at one record: the response with the record after it, and the outputs.
+  abbrev pub SaidAt : Tally → Response → Outputs → Type 0
+  SaidAt x r o = (r ≡ response_at way t x card slip rooms) × (o ≡ outputs_after (answer_at way t x card slip rooms) (outputs renewed changes fired))
 
   -- What is said of a response over the table: its numbers, the records after it, and the outputs.
   abbrev pub Said : Editors → RlResponse → List Tally → Outputs → Type 0
@@ -47,17 +47,17 @@ module _ (way : Way) (t : Table) (card slip renewed changes fired : List ℕ) wh
     y = lent records editor
 
     -- The caller has a record: what is said at it is said over the table with the record after it in its place.
-    own_at : (c : Counted) (o : Outputs) → has_record y ≡ true → SaidAt (get_or records (editor - 1) fresh) c o → Said y c.response (set records (editor - 1) c.tally) o
+    own_at : (r : Response) (o : Outputs) → has_record y ≡ true → SaidAt (get_or records (editor - 1) fresh) r o → Said y (response_numbers r.outcome) (set records (editor - 1) r.tally) o
     unfolding answer_in records_after response_at
-    own_at c o e s = rw e (ap (λ (x : Counted). x.response) s.0, ap (λ (x : Counted). set records (editor - 1) x.tally) s.0, s.1)
+    own_at r o e s = rw e (ap (λ (x : Response). response_numbers x.outcome) s.0, ap (λ (x : Response). set records (editor - 1) x.tally) s.0, s.1)
 
     -- So at the place that the code goes by, where that is inside the table.
-    pub own_said : (at : ℕ) (c : Counted) (o : Outputs) → at ≡ record_place (length records) editor → at < length records → SaidAt (get_or records at fresh) c o → Said y c.response (set records at c.tally) o
-    own_said at c o e h =
-        let p = placed_own y (subst (λ (i : ℕ). i < length records) e h) in
-        subst (λ (i : ℕ). SaidAt (get_or records i fresh) c o → Said y c.response (set records i c.tally) o) (sym (e ∙ p.1)) (own_at c o p.0)
+    pub own_said : (at : ℕ) (r : Response) (o : Outputs) → (at < length records) × (record_place (length records) editor ≡ at) → SaidAt (get_or records at fresh) r o → Said y (response_numbers r.outcome) (set records at r.tally) o
+    own_said at r o e =
+        let p = placed_own y (subst (λ (i : ℕ). i < length records) (sym e.1) e.0) in
+        subst (λ (i : ℕ). SaidAt (get_or records i fresh) r o → Said y (response_numbers r.outcome) (set records i r.tally) o) (sym p.1 ∙ e.1) (own_at r o p.0)
 
-    -- Past its end the caller has none: 44, and nothing changes.
-    pub none_said : (at : ℕ) → at ≡ record_place (length records) editor → length records ≤ at → Said y answer_44 records (outputs renewed changes fired)
+    -- Where there is none it is 44, and nothing changes.
+    pub none_said : record_place (length records) editor ≡ length records → Said y answer_44 records (outputs renewed changes fired)
     unfolding answer_in records_after outcome_of outputs_after
-    none_said at e h = rw (placed_none y (subst (λ (i : ℕ). length records ≤ i) e h)) (refl, refl, refl)
+    none_said e = rw (placed_none y (omega (arith, e))) (refl, refl, refl)

@@ -1,3 +1,2 @@
-pub mod Places
-pub mod Results
+pub mod Standing
 pub mod Lent

@@ -1,16 +1,12 @@
 -- The results of the boundary: the answers of the entry points with document 01's numbers in place of the enums.
 use Rattle.std.specs.Prelude.{ℕ, length}
-use Rattle.reader.specs.declared.FileRead.{FileRead}
-use Rattle.reader.specs.Tables.{reading_refusal, reading_second}
-use Rattle.printing.specs.declared.Printing.{Printing}
-use Rattle.printing.specs.Printing.{printing_refusal, printing_second, printing_length}
+use Rattle.reader.specs.Tables.{FileRead, reading_refusal, reading_second}
+use Rattle.printing.specs.Printing.{Printing, printing_refusal, printing_second, printing_length}
 use Rattle.names.specs.Names.{Showing}
-use Rattle.cards.specs.declared.CardRead.{CardRead}
-use Rattle.cards.specs.declared.SlipRead.{SlipRead}
-use Rattle.cards.specs.declared.Packing.{Packing}
+use Rattle.cards.specs.Outcomes.{CardRead, SlipRead}
+use Rattle.cards.specs.Packings.{Packing}
 use Rattle.cards.specs.Cards.{unpacking_refusal, unpacking_second, packing_refusal, packing_second, packing_length}
-use Rattle.response.specs.declared.Outcome.{Outcome}
-use Rattle.response.specs.declared.Outcome.TheVariants.{Answered, Refused}
+use Rattle.response.specs.Outcomes.{Outcome, Answered, Refused}
 use Rattle.response.specs.Respond.{response_refusal, response_second}
 use Rattle.library.specs.declared.RlRead.{RlRead}
 use Rattle.library.specs.declared.RlPrinted.{RlPrinted}

@@ -1,1 +1,1 @@
-pub mod AtRecord
+pub mod Places

@@ -1,24 +1,26 @@
 // The entry points for programs in C and Rust: each hands on exactly what the function of the crate below says, with numbers where that has an enum; the responses find the caller's record in the lent table, or say 44, and put the record after in its place.
 #![tactic(auto)]
 
-pub mod at_record;
+pub mod places;
 
 ghost use Rattle.std.specs.Prelude.{◌≡◌, length};
 ghost use Rattle.laws.specs.Answers.{output_of};
-ghost use Rattle.names.specs.Names.{show_name, show_slot, show_value_of, show_value};
+ghost use Rattle.names.specs.Names.{show_slot, show_value};
 ghost use Rattle.soundness.specs.Sound.{sound};
-ghost use Rattle.reader.specs.Tables.{reading_refusal, reading_second};
-ghost use Rattle.rule_file.specs.Whole.{reading, reading_without_18};
-ghost use Rattle.printing.specs.Printing.{print_into, printing_of};
-ghost use Rattle.cards.specs.Cards.{unpacked_card, unpacked_slip, packed_card, packed_slip, card_read, slip_read, packing_of};
+ghost use Rattle.table.specs.declared.Limits.TheVariants.{Library};
+ghost use Rattle.rule_file.specs.Whole.{read_within, reading, reading_without_18};
+ghost use Rattle.printing.specs.Printing.{print_into, printing_of, printing_said};
+ghost use Rattle.cards.specs.Cards.{unpacked_card, unpacked_slip, packed_card, packed_slip, card_read, card_read_of, slip_read, slip_read_of, packing_of, packing_said};
 ghost use Rattle.tally.specs.Editors.{lent};
-ghost use Rattle.response.specs.Respond.{rooms_of, outputs, outputs_after, outcome_of, records_after, answer_to, marks_answer_to};
+ghost use Rattle.response.specs.Respond.{rooms_of, outputs, outputs_after, outcome_of, outcome_said, records_after, answer_in, answer_to, marks_answer_to};
+ghost use Rattle.library.specs.inner.Places.{place_numbers};
 ghost use Rattle.library.specs.Results.{reading_numbers, print_numbers, name_numbers, card_numbers, slip_numbers, packing_numbers, response_numbers};
 
-use at_record::{respond_at, respond_by_marks_at};
-use cards::{Card, Packing, Slip};
-use printing::Printing;
-use table::{Limits, Name, Slot, Table, Way};
+use cards::{Card, Change, Slip};
+use places::{Place, slot_place, value_place};
+use refusals::Refusal;
+use response::Answered;
+use table::{Limits, SLOTS, Table, Way};
 use tally::Tally;
 
 // A reading: the number of its refusal, 0 where the text is accepted, its second number, and the table, without slots or rules after a refusal.
@@ -85,24 +87,20 @@ pub struct RlResponse {
     pub fired: usize,
 }
 
-// The number of a reading's refusal, 0 for none.
-fn refusal_of(outcome: reader::Outcome) -> u8
-    ensures { result ≡ reading_refusal outcome }
+// A reading by numbers: the table is read where it is handed out, so that none is copied.
+fn read_numbered(text: &[u8], way: Way) -> RlRead
+    ensures { result ≡ reading_numbers (read_within way Library text.now) }
 {
-    match outcome {
-        reader::Outcome::Accepted => 0,
-        reader::Outcome::Refused(number, second) => number,
+    let mut read = RlRead {
+        number: 0,
+        second: 0,
+        table: table::empty_table(),
+    };
+    if let Err(refusal) = rule_file::read(text, way, Limits::Library, &mut read.table) {
+        read.number = refusal.number();
+        read.second = refusal.second();
     }
-}
-
-// Its second number.
-fn second_of(outcome: reader::Outcome) -> usize
-    ensures { result ≡ reading_second outcome }
-{
-    match outcome {
-        reader::Outcome::Accepted => 0,
-        reader::Outcome::Refused(number, second) => second,
-    }
+    read
 }
 
 // Reads a rule text: 10 to 18.
@@ -110,14 +108,7 @@ fn second_of(outcome: reader::Outcome) -> usize
 pub extern "C" fn rl_read(text: &[u8]) -> RlRead
     ensures { result ≡ reading_numbers (reading text.now) }
 {
-    let read = rule_file::read(text, Way::Strata, Limits::Library);
-    let outcome = read.outcome;
-    let t = read.table;
-    RlRead {
-        number: refusal_of(outcome),
-        second: second_of(outcome),
-        table: t,
-    }
+    read_numbered(text, Way::Strata)
 }
 
 // Reads a rule text without test 18, for the response by marks: 10 to 17; the table has stratum 0 throughout.
@@ -125,34 +116,25 @@ pub extern "C" fn rl_read(text: &[u8]) -> RlRead
 pub extern "C" fn rl_read_unlayered(text: &[u8]) -> RlRead
     ensures { result ≡ reading_numbers (reading_without_18 text.now) }
 {
-    let read = rule_file::read(text, Way::Marks, Limits::Library);
-    let outcome = read.outcome;
-    let t = read.table;
-    RlRead {
-        number: refusal_of(outcome),
-        second: second_of(outcome),
-        table: t,
-    }
+    read_numbered(text, Way::Marks)
 }
 
 // A print by numbers.
-fn print_numbers(printing: Printing) -> RlPrinted
-    ensures { result ≡ print_numbers printing }
-{
-    match printing {
-        Printing::Printed(length) => {
-            return RlPrinted {
+impl From<Result<usize, Refusal>> for RlPrinted {
+    ghost from_gives = { λ p r. r ≡ print_numbers (printing_said p) };
+
+    fn from(printing: Result<usize, Refusal>) -> RlPrinted {
+        match printing {
+            Ok(length) => RlPrinted {
                 number: 0,
                 second: 0,
-                length: length,
-            };
-        }
-        Printing::Refused(number, second) => {
-            return RlPrinted {
-                number: number,
-                second: second,
+                length,
+            },
+            Err(refusal) => RlPrinted {
+                number: refusal.number(),
+                second: refusal.second(),
                 length: 0,
-            };
+            },
         }
     }
 }
@@ -163,8 +145,7 @@ pub extern "C" fn rl_print(text: &[u8], out: &mut [u8]) -> RlPrinted
     ensures { (result ≡ print_numbers (printing_of (print_into text.now (length out.old))))
         × (out.new ≡ output_of (print_into text.now (length out.old)) out.old) }
 {
-    let result = printing::print(text, out);
-    print_numbers(result)
+    RlPrinted::from(printing::print(text, out))
 }
 
 // Whether a table is in order: where it is not, the other functions say 31.
@@ -175,26 +156,23 @@ pub extern "C" fn rl_is_sound(t: Table) -> bool
     soundness::is_sound(t)
 }
 
-// Where a name stands in the text; 31 where it stands outside.
-fn name_place(text: &[u8], name: Name) -> RlName
-    ensures { result ≡ name_numbers (show_name text.now name) }
-{
-    let start = name.start as usize;
-    let size = name.size as usize;
-    let length = text.len();
-    if start <= length {
-        if size <= length - start {
-            return RlName {
+// The place of a name by numbers.
+impl From<Result<Place, Refusal>> for RlName {
+    ghost from_gives = { λ place r. r ≡ place_numbers place };
+
+    fn from(place: Result<Place, Refusal>) -> RlName {
+        match place {
+            Ok(place) => RlName {
                 number: 0,
-                start: start,
-                size: size,
-            };
+                start: place.start,
+                size: place.size,
+            },
+            Err(refusal) => RlName {
+                number: refusal.number(),
+                start: 0,
+                size: 0,
+            },
         }
-    }
-    RlName {
-        number: 31,
-        start: 0,
-        size: 0,
     }
 }
 
@@ -203,34 +181,7 @@ fn name_place(text: &[u8], name: Name) -> RlName
 pub extern "C" fn rl_slot_name(text: &[u8], t: Table, slot: usize) -> RlName
     ensures { result ≡ name_numbers (show_slot text.now t slot) }
 {
-    let width = t.width as usize;
-    if !names::has_slot(width, slot) {
-        return RlName {
-            number: 31,
-            start: 0,
-            size: 0,
-        };
-    }
-    let named = t.slots[slot];
-    let name = named.name;
-    name_place(text, name)
-}
-
-// Where the name of a value of this slot stands in the text, values counted from 1, or 31.
-fn value_place(text: &[u8], s: Slot, value: usize) -> RlName
-    ensures { result ≡ name_numbers (show_value_of text.now s value) }
-{
-    let count = s.count as usize;
-    if !names::has_value(count, value) {
-        return RlName {
-            number: 31,
-            start: 0,
-            size: 0,
-        };
-    }
-    let k = value - 1;
-    let name = s.values[k];
-    name_place(text, name)
+    RlName::from(slot_place(text, &t, slot))
 }
 
 // Where the name of a value of a slot stands in the text, values counted from 1, or 31.
@@ -238,16 +189,30 @@ fn value_place(text: &[u8], s: Slot, value: usize) -> RlName
 pub extern "C" fn rl_value_name(text: &[u8], t: Table, slot: usize, value: usize) -> RlName
     ensures { result ≡ name_numbers (show_value text.now t slot value) }
 {
-    let width = t.width as usize;
-    if !names::has_slot(width, slot) {
-        return RlName {
-            number: 31,
-            start: 0,
-            size: 0,
-        };
+    RlName::from(value_place(text, &t, slot, value))
+}
+
+// An unpacked card by numbers.
+impl From<Result<Card, Refusal>> for RlCard {
+    ghost from_gives = { λ read r. r ≡ card_numbers (card_read_of read) };
+
+    fn from(read: Result<Card, Refusal>) -> RlCard {
+        match read {
+            Ok(card) => RlCard {
+                number: 0,
+                second: 0,
+                card,
+            },
+            Err(refusal) => RlCard {
+                number: refusal.number(),
+                second: refusal.second(),
+                card: Card {
+                    values: [0; SLOTS],
+                    count: 0,
+                },
+            },
+        }
     }
-    let s = t.slots[slot];
-    value_place(text, s, value)
 }
 
 // Unpacks bytes as a card: 31, 20 to 23.
@@ -255,23 +220,28 @@ pub extern "C" fn rl_value_name(text: &[u8], t: Table, slot: usize, value: usize
 pub extern "C" fn rl_unpack_card(t: Table, bytes: &[u8]) -> RlCard
     ensures { result ≡ card_numbers (card_read (unpacked_card t bytes.now)) }
 {
-    let read = unpacking::unpack_card(t, bytes);
-    let outcome = read.outcome;
-    let card = read.card;
-    match outcome {
-        cards::Outcome::Accepted => {
-            return RlCard {
+    RlCard::from(unpacking::unpack_card(t, bytes))
+}
+
+// An unpacked slip by numbers.
+impl From<Result<Slip, Refusal>> for RlSlip {
+    ghost from_gives = { λ read r. r ≡ slip_numbers (slip_read_of read) };
+
+    fn from(read: Result<Slip, Refusal>) -> RlSlip {
+        match read {
+            Ok(slip) => RlSlip {
                 number: 0,
                 second: 0,
-                card: card,
-            };
-        }
-        cards::Outcome::Refused(number, second) => {
-            return RlCard {
-                number: number,
-                second: second,
-                card: card,
-            };
+                slip,
+            },
+            Err(refusal) => RlSlip {
+                number: refusal.number(),
+                second: refusal.second(),
+                slip: Slip {
+                    changes: [Change { slot: 0, value: 0 }; SLOTS],
+                    count: 0,
+                },
+            },
         }
     }
 }
@@ -281,45 +251,25 @@ pub extern "C" fn rl_unpack_card(t: Table, bytes: &[u8]) -> RlCard
 pub extern "C" fn rl_unpack_slip(t: Table, bytes: &[u8]) -> RlSlip
     ensures { result ≡ slip_numbers (slip_read (unpacked_slip t bytes.now)) }
 {
-    let read = unpacking::unpack_slip(t, bytes);
-    let outcome = read.outcome;
-    let slip = read.slip;
-    match outcome {
-        cards::Outcome::Accepted => {
-            return RlSlip {
-                number: 0,
-                second: 0,
-                slip: slip,
-            };
-        }
-        cards::Outcome::Refused(number, second) => {
-            return RlSlip {
-                number: number,
-                second: second,
-                slip: slip,
-            };
-        }
-    }
+    RlSlip::from(unpacking::unpack_slip(t, bytes))
 }
 
-// A packing by numbers.
-fn packing_numbers(packing: Packing) -> RlPacked
-    ensures { result ≡ packing_numbers packing }
-{
-    match packing {
-        Packing::Packed(length) => {
-            return RlPacked {
+// A packing by numbers, in a type of its own beside that of a print: the C interface names both.
+impl From<Result<usize, Refusal>> for RlPacked {
+    ghost from_gives = { λ p r. r ≡ packing_numbers (packing_said p) };
+
+    fn from(packing: Result<usize, Refusal>) -> RlPacked {
+        match packing {
+            Ok(length) => RlPacked {
                 number: 0,
                 second: 0,
-                length: length,
-            };
-        }
-        Packing::Refused(number, second) => {
-            return RlPacked {
-                number: number,
-                second: second,
+                length,
+            },
+            Err(refusal) => RlPacked {
+                number: refusal.number(),
+                second: refusal.second(),
                 length: 0,
-            };
+            },
         }
     }
 }
@@ -330,8 +280,7 @@ pub extern "C" fn rl_pack_card(t: Table, card: Card, out: &mut [u8]) -> RlPacked
     ensures { (result ≡ packing_numbers (packing_of (packed_card t card (length out.old))))
         × (out.new ≡ output_of (packed_card t card (length out.old)) out.old) }
 {
-    let result = packing::pack_card(t, card, out);
-    packing_numbers(result)
+    RlPacked::from(packing::pack_card(t, card, out))
 }
 
 // Packs a slip into the output: 31, 24 to 27, and 30 with 2.
@@ -340,8 +289,55 @@ pub extern "C" fn rl_pack_slip(t: Table, slip: Slip, out: &mut [u8]) -> RlPacked
     ensures { (result ≡ packing_numbers (packing_of (packed_slip t slip (length out.old))))
         × (out.new ≡ output_of (packed_slip t slip (length out.old)) out.old) }
 {
-    let result = packing::pack_slip(t, slip, out);
-    packing_numbers(result)
+    RlPacked::from(packing::pack_slip(t, slip, out))
+}
+
+// A response's outcome by numbers.
+impl From<Result<Answered, Refusal>> for RlResponse {
+    ghost from_gives = { λ o r. r ≡ response_numbers (outcome_said o) };
+
+    fn from(outcome: Result<Answered, Refusal>) -> RlResponse {
+        match outcome {
+            Ok(answer) => RlResponse {
+                number: 0,
+                second: 0,
+                length: answer.length,
+                fired: answer.fired,
+            },
+            Err(refusal) => RlResponse {
+                number: refusal.number(),
+                second: refusal.second(),
+                length: 0,
+                fired: 0,
+            },
+        }
+    }
+}
+
+// The response by the way asked for, counted in the caller's record of the lent table, or 44.
+fn respond_in_table(
+    way: Way,
+    t: &Table,
+    records: &mut [Tally],
+    editor: usize,
+    card: &[u8],
+    slip: &[u8],
+    renewed: &mut [u8],
+    changes: &mut [u8],
+    fired: &mut [u8],
+) -> RlResponse
+    ensures { (result ≡ response_numbers (outcome_of (answer_in way t.now (lent records.old editor) card.now slip.now (rooms_of renewed.old changes.old fired.old))))
+        × (records.new ≡ records_after (lent records.old editor) (answer_in way t.now (lent records.old editor) card.now slip.now (rooms_of renewed.old changes.old fired.old)))
+        × (outputs renewed.new changes.new fired.new
+        ≡ outputs_after (answer_in way t.now (lent records.old editor) card.now slip.now (rooms_of renewed.old changes.old fired.old)) (outputs renewed.old changes.old fired.old)) }
+{
+    let Some(at) = tally::place(records.len(), editor) else {
+        return RlResponse::from(Err(Refusal::NoEditor));
+    };
+    let tally = records[at];
+    let response = response::respond_by(way, t, tally, card, slip, renewed, changes, fired);
+    records[at] = response.tally;
+    RlResponse::from(response.outcome)
 }
 
 // Responds to an editor's card and slip by strata: 44, 32, 31, 20 to 28, 30, 40; an answer writes the new card, the changes and the fired record, a refusal nothing. It is counted in the editor's own record, 44 and 32 in none.
@@ -361,19 +357,17 @@ pub extern "C" fn rl_respond(
         × (outputs renewed.new changes.new fired.new
         ≡ outputs_after (answer_to t (lent records.old editor) card.now slip.now (rooms_of renewed.old changes.old fired.old)) (outputs renewed.old changes.old fired.old)) }
 {
-    let at = tally::place(records.len(), editor);
-    if at < records.len() {
-        let counted = respond_at(t, records[at], card, slip, renewed, changes, fired);
-        records[at] = counted.tally;
-        return counted.response;
-    } else {
-        return RlResponse {
-            number: 44,
-            second: 0,
-            length: 0,
-            fired: 0,
-        };
-    }
+    respond_in_table(
+        Way::Strata,
+        &t,
+        records,
+        editor,
+        card,
+        slip,
+        renewed,
+        changes,
+        fired,
+    )
 }
 
 // Responds to an editor's card and slip by marks: 44, 32, 31, 20 to 28, 30, 41, 42; what is written and counted is the same.
@@ -393,17 +387,15 @@ pub extern "C" fn rl_respond_by_marks(
         × (outputs renewed.new changes.new fired.new
         ≡ outputs_after (marks_answer_to t (lent records.old editor) card.now slip.now (rooms_of renewed.old changes.old fired.old)) (outputs renewed.old changes.old fired.old)) }
 {
-    let at = tally::place(records.len(), editor);
-    if at < records.len() {
-        let counted = respond_by_marks_at(t, records[at], card, slip, renewed, changes, fired);
-        records[at] = counted.tally;
-        return counted.response;
-    } else {
-        return RlResponse {
-            number: 44,
-            second: 0,
-            length: 0,
-            fired: 0,
-        };
-    }
+    respond_in_table(
+        Way::Marks,
+        &t,
+        records,
+        editor,
+        card,
+        slip,
+        renewed,
+        changes,
+        fired,
+    )
 }

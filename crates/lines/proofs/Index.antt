@@ -22,9 +22,11 @@ use Rattle.steps.specs.inner.Places.{name_past, NamedLies}
 use Rattle.steps.specs.inner.Spans.{key_of, keyed, span, span_start, SpanLies, Listed}
 use Rattle.lines.specs.inner.Index.{span_name, span_names, span_slot, Spanned, row_of, Indexed, stretch_at, slot_by}
 use Rattle.grammar.specs.TableFor.{name_for, slot_for}
-use Rattle.lines.specs.inner.Lines.{Remainder, DeclaredLies, ValuesLie}
-use Rattle.steps.specs.declared.step.Named.TheVariants as named
-use Rattle.lines.specs.declared.Declared.TheVariants as declared
+use Rattle.lines.specs.inner.Lines.{DeclaredLies, ValuesLie}
+use Rattle.lines.specs.inner.Remainder.{Remainder}
+use Rattle.std.specs.Prelude.{Ok}
+use Rattle.text.specs.declared.Span.{Span}
+use Rattle.steps.specs.declared.step.Read.{Read}
 
 -- A span's key, place and length.
 pub start_of : (key start size : ℕ) → size < 32 → start * 32 + size < keyed → span_start (span key start size) ≡ start
@@ -37,32 +39,32 @@ pub key_at : (key start size : ℕ) → start * 32 + size < keyed → span key s
 key_at key start size h = omega arith
 
 -- A name of the remainder ends within the text.
-pub past_ends : (text rest : List ℕ) (base at start size next : ℕ) → Remainder text rest base → NamedLies (length rest) at (named.At start size next) → base + start + size ≤ length text
-past_ends text rest base at start size next R l = omega (arith, l.1, l.2, l.4, ap length R.begins ∙ length-drop base text)
+pub past_ends : (text rest : List ℕ) (base at : ℕ) (n : Read Span) → Remainder text rest base → NamedLies (length rest) at (Ok n) → base + n.value.start + n.value.size ≤ length text
+past_ends text rest base at n R l = omega (arith, l.1, l.2, l.4, ap length R.begins ∙ length-drop base text)
 
 -- So its place and length are below a key.
-past_below : (text rest : List ℕ) (base at start size next : ℕ) → Remainder text rest base → NamedLies (length rest) at (named.At start size next) → (base + start) * 32 + size < keyed
-past_below text rest base at start size next R l = omega (arith, past_ends text rest base at start size next R l, R.short)
+past_below : (text rest : List ℕ) (base at : ℕ) (n : Read Span) → Remainder text rest base → NamedLies (length rest) at (Ok n) → (base + n.value.start) * 32 + n.value.size < keyed
+past_below text rest base at n R l = omega (arith, past_ends text rest base at n R l, R.short)
 
 -- It is the name at its span in the text.
-pub span_past : (text rest : List ℕ) (base at start size next key : ℕ) → Remainder text rest base → NamedLies (length rest) at (named.At start size next)
-    → name_past rest base start size ≡ span_name text (span key (base + start) size)
-span_past text rest base at start size next key R l =
-    let s : size < 32 = omega (arith, l.3) in
-    rw (start_of key (base + start) size s (past_below text rest base at start size next R l), size_of key (base + start) size s, R.begins, drop-drop start base text)
+pub span_past : (text rest : List ℕ) (base at : ℕ) (n : Read Span) (key : ℕ) → Remainder text rest base → NamedLies (length rest) at (Ok n)
+    → name_past rest base n.value ≡ span_name text (span key (base + n.value.start) n.value.size)
+span_past text rest base at n key R l =
+    let s : n.value.size < 32 = omega (arith, l.3) in
+    rw (start_of key (base + n.value.start) n.value.size s (past_below text rest base at n R l), size_of key (base + n.value.start) n.value.size s, R.begins, drop-drop n.value.start base text)
 
 -- The span lies in the text where it has the name's key.
-pub past_lies : (text rest : List ℕ) (base at start size next key : ℕ) → Remainder text rest base → NamedLies (length rest) at (named.At start size next) → key ≡ key_of (take size (drop start rest))
-    → DeclaredLies text (length rest) at (declared.At (span key (base + start) size) next)
-past_lies text rest base at start size next key R l e =
-    let s : size < 32 = omega (arith, l.3) in
-    let b = past_below text rest base at start size next R l in
-    let o = start_of key (base + start) size s b in
-    let z = size_of key (base + start) size s in (
+pub past_lies : (text rest : List ℕ) (base at : ℕ) (n : Read Span) (key : ℕ) → Remainder text rest base → NamedLies (length rest) at (Ok n) → key ≡ key_of (take n.value.size (drop n.value.start rest))
+    → DeclaredLies text (length rest) at (Ok (record { value = span key (base + n.value.start) n.value.size; next = n.next }))
+past_lies text rest base at n key R l e =
+    let s : n.value.size < 32 = omega (arith, l.3) in
+    let b = past_below text rest base at n R l in
+    let o = start_of key (base + n.value.start) n.value.size s b in
+    let z = size_of key (base + n.value.start) n.value.size s in (
       omega (arith, l.2),
       record {
-        within = rw (o, z) (past_ends text rest base at start size next R l);
-        key = key_at key (base + start) size b ∙ e ∙ ap (λ (n : Name). key_of n.letters) (span_past text rest base at start size next key R l);
+        within = rw (o, z) (past_ends text rest base at n R l);
+        key = key_at key (base + n.value.start) n.value.size b ∙ e ∙ ap (λ (m : Name). key_of m.letters) (span_past text rest base at n key R l);
       },
       l.0,
       l.1,

@@ -10,12 +10,10 @@ use Rattle.text.specs.Tokens.{Name, Token, place, SLOT, OPEN, CLOSE, COMMA, SEMI
 use Rattle.laws.specs.Limits.{text_limit, value_limit}
 use Rattle.grammar.specs.Files.{Slot, spellings, slot_names}
 use Rattle.grammar.specs.Reading.{Part, took, stop, ◌then◌, expects, a_name, new, new_name, no_value, read_list, read_values, read_line}
-use Rattle.steps.specs.inner.Places.{Choice, which, step_part, outcome_part}
-use Rattle.steps.specs.inner.Spans.{SpanLies}
+use Rattle.steps.specs.inner.Places.{Choice, which}
 use Rattle.lines.specs.inner.Index.{span_name, span_names}
-use Rattle.lines.specs.inner.Lines.{Remainder, read_head, ValuesLie, LineLies}
-use Rattle.steps.specs.declared.step.Step.{Step}
-use Rattle.steps.specs.declared.step.Step.TheVariants as step
+use Rattle.lines.specs.inner.Lines.{read_head, ValuesLie}
+use Rattle.lines.specs.inner.Remainder.{Remainder}
 use Rattle.steps.proofs.Places.{follow, fork_which}
 use Rattle.lines.proofs.Index.{names_more}
 
@@ -24,14 +22,13 @@ pub new_none : (names : List Name) (ts : List Token) (k : ℕ) → a_name ts ≡
 unfolding new_name ◌then◌
 new_none names ts k e = rw e
 
-pub new_taken : (names : List Name) (ts left : List Token) (n : Name) (p : ℕ) → a_name ts ≡ took n left → p ≡ place n.letters (spellings names) → (p ≡ 0 → ⊥) → new_name names ts ≡ stop 14
+pub new_taken : (names : List Name) (ts left : List Token) (n : Name) (p : ℕ) → a_name ts ≡ took n left → suc p ≡ place n.letters (spellings names) → new_name names ts ≡ stop 14
 unfolding new_name ◌then◌ new
-new_taken names ts left n zero e f z = absurd (z refl)
-new_taken names ts left n (suc p) e f z = rw (e, ← f)
+new_taken names ts left n p e f = rw (e, ← f)
 
-pub new_free : (names : List Name) (ts left : List Token) (n : Name) (p : ℕ) → a_name ts ≡ took n left → p ≡ place n.letters (spellings names) → p ≡ 0 → new_name names ts ≡ took n left
+pub new_free : (names : List Name) (ts left : List Token) (n : Name) → a_name ts ≡ took n left → 0 ≡ place n.letters (spellings names) → new_name names ts ≡ took n left
 unfolding new_name ◌then◌ new
-new_free names ts left n p e f z = rw (e, ← f, z)
+new_free names ts left n e f = rw (e, ← f)
 
 -- The values, where `room` more may come: no new name; one too many; one more, and what follows it.
 pub values_fault : (room : ℕ) (sofar : List Name) (ts : List Token) (k : ℕ) → new_name sofar ts ≡ stop k → read_values room sofar ts ≡ stop k
@@ -105,17 +102,17 @@ pub line_values : (slots : List Slot) (ts begin left : List Token) (n : Name) (k
 unfolding ◌then◌ values_then
 line_values slots ts begin left n k w e f = line_then slots ts begin w ∙ rw (e, f)
 
-pub line_end : (slots : List Slot) (ts begin left more : List Token) (n : Name) (vs : List Name) (rest : List ℕ) (base : ℕ) (r : Step)
-    → expects SLOT ts ≡ took tt begin → read_head slots begin ≡ took n left → read_values value_limit [] left ≡ took vs more → expects SEMICOLON more ≡ step_part rest base r
-    → read_line slots ts ≡ outcome_part rest base (record { name = n; values = vs }) r
+pub line_stop : (slots : List Slot) (ts begin left more : List Token) (n : Name) (vs : List Name) (k : ℕ)
+    → expects SLOT ts ≡ took tt begin → read_head slots begin ≡ took n left → read_values value_limit [] left ≡ took vs more → expects SEMICOLON more ≡ stop k
+    → read_line slots ts ≡ stop k
 unfolding ◌then◌ values_then
-line_end slots ts begin left more n vs rest base (step.At next) w e f g = line_then slots ts begin w ∙ rw (e, f, g)
-line_end slots ts begin left more n vs rest base (step.Fault k) w e f g = line_then slots ts begin w ∙ rw (e, f, g)
+line_stop slots ts begin left more n vs k w e f g = line_then slots ts begin w ∙ rw (e, f, g)
 
--- The spans of a line, whatever its outcome.
-pub line_lies : (text spans : List ℕ) (name count : ℕ) (r : Step) → 0 < name → SpanLies text name → ValuesLie text spans count → LineLies text name spans count r
-line_lies text spans name count (step.At next) z l L = (z, l, L)
-line_lies text spans name count (step.Fault k) z l L = tt
+pub line_end : (slots : List Slot) (ts begin left more last : List Token) (n : Name) (vs : List Name)
+    → expects SLOT ts ≡ took tt begin → read_head slots begin ≡ took n left → read_values value_limit [] left ≡ took vs more → expects SEMICOLON more ≡ took tt last
+    → read_line slots ts ≡ took (record { name = n; values = vs }) last
+unfolding ◌then◌ values_then
+line_end slots ts begin left more last n vs w e f g = line_then slots ts begin w ∙ rw (e, f, g)
 
 -- The whole text is its own remainder; and the remainder after a step.
 pub remainder_whole : (text : List ℕ) → length text ≤ text_limit → Remainder text text 0

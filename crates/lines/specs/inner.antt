@@ -1,2 +1,3 @@
 pub mod Index
 pub mod Lines
+pub mod Remainder

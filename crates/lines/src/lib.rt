@@ -3,205 +3,102 @@
 
 ghost use Rattle.std.specs.Prelude.{◌≡◌, List, [], ◌+◌, ◌*◌, ◌≤◌, ◌<◌, length, set};
 ghost use Rattle.std.proofs.lemmas.List.Edits.{sets};
-ghost use Rattle.classes.specs.Classes.{Classes};
 ghost use Rattle.text.specs.Tokens.{Name, Token, SLOT};
 ghost use Rattle.laws.specs.Limits.{value_limit, slot_limit, row};
 ghost use Rattle.grammar.specs.Files.{Slot, spellings, slot_names};
 ghost use Rattle.grammar.specs.Reading.{took, expects, new_name, read_values, read_line};
-ghost use Rattle.steps.specs.inner.Places.{tokens_past, StepLies, outcome_part};
+ghost use Rattle.steps.specs.inner.Places.{tokens_past};
 ghost use Rattle.steps.specs.inner.Spans.{Listed};
-ghost use Rattle.lines.specs.inner.Index.{span_names, span_slot, stretch_at, slot_by};
-ghost use Rattle.lines.specs.inner.Lines.{Remainder, read_head, declared_part, DeclaredLies, ValuesLie, LineLies};
+ghost use Rattle.lines.specs.inner.Index.{stretch_at, slot_by};
+ghost use Rattle.lines.specs.inner.Lines.{read_head, declared_part, DeclaredLies, values_part, ValuesRead, line_part, LineLies};
 
+pub mod front;
+
+use crate::front::Front;
 use steps::lookup::{KEYED, find, key_of};
-use steps::step::{Fork, Named, Step, fork_next, name_next, word_next};
+use steps::parts::Parts;
+use steps::step::{Fault, Fork, Read};
 use table::{Offset, PAIRS, ROW, SLOTS, VALUES};
-use text::{CLOSE, COMMA, OPEN, SEMICOLON};
+use text::Word;
 
-// The span of a name to be declared, and the position after it or after what stands behind it; or a refusal.
-#[derive(Clone, Copy)]
-pub enum Declared {
-    At(usize, usize),
-    Fault(u8),
-}
+// The names of values, as spans, with the number used.
+pub type Values = Parts<usize, VALUES>;
 
-// The names of values, as spans with the number used; the outcome has the position after the `}`.
-#[derive(Clone, Copy)]
-pub struct Values {
-    pub outcome: Step,
-    pub spans: [usize; VALUES],
-    pub count: usize,
-}
-
-// A slot line: the span of its slot's name and those of its values; the outcome has the position after the `;`.
+// A slot line: the span of its slot's name and those of its values.
 #[derive(Clone, Copy)]
 pub struct Line {
-    pub outcome: Step,
     pub name: usize,
-    pub spans: [usize; VALUES],
-    pub count: usize,
+    pub values: Values,
 }
 
-// A name to be declared must stand at a position, none of those at the spans.
-pub fn new_next(
-    text: &[u8],
-    rest: &[u8],
-    classes: &[u8; 256],
-    base: usize,
-    spans: &[usize],
-    at: usize,
-) -> Declared
-    requires { Classes classes.now × Remainder text.now rest.now base }
-    ensures { ((names : List Name) → Listed text.now spans.now (spellings names)
-        → new_name names (tokens_past rest.now base at) ≡ declared_part text.now rest.now base result) × DeclaredLies text.now (length rest.now) at result }
+// A name to be declared must stand at a position, none of those at the spans; its span.
+pub fn new_next(f: Front, spans: &[usize], at: usize) -> Result<Read<usize>, Fault>
+    ensures { ((names : List Name) → Listed f.entry.text.now spans.now (spellings names)
+        → new_name names (tokens_past f.entry.tokens.rest.now f.entry.base at) ≡ declared_part f.entry.text.now f.entry.tokens.rest.now f.entry.base result) × DeclaredLies f.entry.text.now (length f.entry.tokens.rest.now) at result }
 {
-    let named = name_next(rest, classes, at);
-    match named {
-        Named::At(start, size, next) => {
-            let end = start + size;
-            let place = find(text, spans, &rest[start..end]);
-            if place == 0 {
-                let key = key_of(&rest[start..end]);
-                return Declared::At(key * KEYED + (base + start) * 32 + size, next);
-            }
-            Declared::Fault(14)
-        }
-        Named::Fault(k) => Declared::Fault(k),
+    let named = f.tokens.name(at)?;
+    let span = named.value;
+    let rest = f.tokens.rest;
+    let name = &rest[span.start..span.start + span.size];
+    match find(f.text, spans, name) {
+        Some(_) => Err(Fault::DeclaredTwice),
+        None => Ok(Read {
+            value: key_of(name) * KEYED + (f.base + span.start) * 32 + span.size,
+            next: named.next,
+        }),
     }
 }
 
 // The names of a slot's values, from after `{` to after `}`.
-pub fn values_next(
-    text: &[u8],
-    rest: &[u8],
-    classes: &[u8; 256],
-    base: usize,
-    start: usize,
-) -> Values
-    requires { Classes classes.now × Remainder text.now rest.now base }
-    ensures { (read_values value_limit [] (tokens_past rest.now base start) ≡ outcome_part rest.now base (span_names text.now result.spans result.count) result.outcome)
-        × StepLies (length rest.now) start result.outcome × ValuesLie text.now result.spans result.count }
+pub fn values_next(f: Front, start: usize) -> Result<Read<Values>, Fault>
+    ensures { (read_values value_limit [] (tokens_past f.entry.tokens.rest.now f.entry.base start) ≡ values_part f.entry.text.now f.entry.tokens.rest.now f.entry.base result) × ValuesRead f.entry.text.now (length f.entry.tokens.rest.now) start result }
 {
-    let mut spans: [usize; VALUES] = [0; VALUES];
-    let mut count: usize = 0;
+    let mut values = Parts::new(0);
     let mut at = start;
-    loop {
-        let declared = new_next(text, rest, classes, base, &spans, at);
-        match declared {
-            Declared::At(span, next) => {
-                if VALUES <= count {
-                    return Values {
-                        outcome: Step::Fault(15),
-                        spans: spans,
-                        count: count,
-                    };
-                }
-                spans[count] = span;
-                count += 1;
-                let fork = fork_next(rest, classes, next, COMMA, CLOSE);
-                match fork {
-                    Fork::First(after) => {
-                        at = after;
-                    }
-                    Fork::Second(after) => {
-                        return Values {
-                            outcome: Step::At(after),
-                            spans: spans,
-                            count: count,
-                        };
-                    }
-                    Fork::Fault(k) => {
-                        return Values {
-                            outcome: Step::Fault(k),
-                            spans: spans,
-                            count: count,
-                        };
-                    }
-                }
-            }
-            Declared::Fault(k) => {
-                return Values {
-                    outcome: Step::Fault(k),
-                    spans: spans,
-                    count: count,
-                };
+    // The list counts itself: a range would count beside it.
+    while values.count < VALUES {
+        let declared = new_next(f, &values.places, at)?;
+        values.push(declared.value);
+        match f.tokens.fork(declared.next, Word::Comma, Word::Close)? {
+            Fork::First(next) => at = next,
+            Fork::Second(next) => {
+                return Ok(Read {
+                    value: values,
+                    next,
+                });
             }
         }
     }
+    new_next(f, &values.places, at)?;
+    Err(Fault::TooMany)
 }
 
-// A slot line from after SLOT to after `{`.
-pub fn head_next(
-    text: &[u8],
-    rest: &[u8],
-    classes: &[u8; 256],
-    base: usize,
-    slotspans: &[usize; SLOTS],
-    start: usize,
-) -> Declared
-    requires { Classes classes.now × Remainder text.now rest.now base }
-    ensures { ((slots : List Slot) → Listed text.now slotspans.now (spellings (slot_names slots))
-        → read_head slots (tokens_past rest.now base start) ≡ declared_part text.now rest.now base result) × DeclaredLies text.now (length rest.now) start result }
+// A slot line from after SLOT to after `{`: the span of its slot's name.
+pub fn head_next(f: Front, slotspans: &[usize; SLOTS], start: usize) -> Result<Read<usize>, Fault>
+    ensures { ((slots : List Slot) → Listed f.entry.text.now slotspans.now (spellings (slot_names slots))
+        → read_head slots (tokens_past f.entry.tokens.rest.now f.entry.base start) ≡ declared_part f.entry.text.now f.entry.tokens.rest.now f.entry.base result) × DeclaredLies f.entry.text.now (length f.entry.tokens.rest.now) start result }
 {
-    let declared = new_next(text, rest, classes, base, slotspans, start);
-    match declared {
-        Declared::At(span, next) => {
-            let brace = word_next(rest, classes, next, OPEN);
-            match brace {
-                Step::At(after) => Declared::At(span, after),
-                Step::Fault(k) => Declared::Fault(k),
-            }
-        }
-        Declared::Fault(k) => Declared::Fault(k),
-    }
+    let name = new_next(f, slotspans, start)?;
+    let next = f.tokens.word(name.next, Word::Open)?;
+    Ok(Read {
+        value: name.value,
+        next,
+    })
 }
 
 // A slot line, from after SLOT to after `;`.
-pub fn line_next(
-    text: &[u8],
-    rest: &[u8],
-    classes: &[u8; 256],
-    base: usize,
-    slotspans: &[usize; SLOTS],
-    start: usize,
-) -> Line
-    requires { Classes classes.now × Remainder text.now rest.now base }
-    ensures { ((ts : List Token) (slots : List Slot) → expects SLOT ts ≡ took tt (tokens_past rest.now base start) → Listed text.now slotspans.now (spellings (slot_names slots))
-        → read_line slots ts ≡ outcome_part rest.now base (span_slot text.now result.name result.spans result.count) result.outcome)
-        × StepLies (length rest.now) start result.outcome × LineLies text.now result.name result.spans result.count result.outcome }
+pub fn line_next(f: Front, slotspans: &[usize; SLOTS], start: usize) -> Result<Read<Line>, Fault>
+    ensures { ((ts : List Token) (slots : List Slot) → expects SLOT ts ≡ took tt (tokens_past f.entry.tokens.rest.now f.entry.base start) → Listed f.entry.text.now slotspans.now (spellings (slot_names slots))
+        → read_line slots ts ≡ line_part f.entry.text.now f.entry.tokens.rest.now f.entry.base result) × LineLies f.entry.text.now (length f.entry.tokens.rest.now) start result }
 {
-    let head = head_next(text, rest, classes, base, slotspans, start);
-    match head {
-        Declared::At(name, next) => {
-            let values = values_next(text, rest, classes, base, next);
-            let spans = values.spans;
-            let count = values.count;
-            let outcome = values.outcome;
-            match outcome {
-                Step::At(after) => {
-                    let end = word_next(rest, classes, after, SEMICOLON);
-                    Line {
-                        outcome: end,
-                        name: name,
-                        spans: spans,
-                        count: count,
-                    }
-                }
-                Step::Fault(k) => Line {
-                    outcome: Step::Fault(k),
-                    name: name,
-                    spans: spans,
-                    count: count,
-                },
-            }
-        }
-        Declared::Fault(k) => Line {
-            outcome: Step::Fault(k),
-            name: 0,
-            spans: [0; VALUES],
-            count: 0,
-        },
-    }
+    let head = head_next(f, slotspans, start)?;
+    let values = values_next(f, head.next)?;
+    let next = f.tokens.word(values.next, Word::Semicolon)?;
+    let value = Line {
+        name: head.value,
+        values: values.value,
+    };
+    Ok(Read { value, next })
 }
 
 // The place and the length of a span.
@@ -219,18 +116,10 @@ pub fn slot_of(span: usize, spans: [usize; VALUES], count: usize) -> table::Slot
     requires { count ≤ value_limit }
     ensures { result ≡ slot_by span spans count }
 {
-    let none = table::Name { start: 0, size: 0 };
-    let mut values = [none; VALUES];
-    let mut i: usize = 0;
-    while i < VALUES {
-        let name = name_of(spans[i]);
-        values[i] = name;
-        i += 1;
-    }
-    let name = name_of(span);
+    let values = spans.map(name_of);
     table::Slot {
-        name: name,
-        values: values,
+        name: name_of(span),
+        values,
         count: count as u16,
     }
 }
@@ -248,9 +137,5 @@ pub fn enter(
 {
     slotspans[number] = span;
     let first = number * ROW + 1;
-    let mut i: usize = 0;
-    while i < VALUES {
-        valuespans[first + i] = spans[i];
-        i += 1;
-    }
+    valuespans[first..first + VALUES].copy_from_slice(&spans);
 }

@@ -22,8 +22,7 @@ use Rattle.names.specs.Names.{not_shown, has_slot, has_value, show_slot, show_va
 use Rattle.names.proofs.Names.{slot_inside, value_inside}
 use Rattle.strata.specs.Layered.{with_strata}
 use Rattle.grammar.specs.TableFor.{table_for}
-use Rattle.reader.specs.declared.Outcome.TheVariants.{Accepted}
-use Rattle.reader.specs.declared.FileRead.{FileRead}
+use Rattle.reader.specs.Tables.{Accepted, FileRead}
 use Rattle.rule_file.specs.Whole.{reading, program_reading}
 use Rattle.rule_file.proofs.Within.{program_accepted, program_few}
 use Rattle.rule_file.specs.Carries.{Carries, declared, declared_slot, declared_value}

@@ -18,8 +18,7 @@ use Rattle.model.specs.Rules.{Pair}
 use Rattle.table.specs.declared.Table.{Table}
 use Rattle.table.specs.declared.Way.TheVariants.{Strata}
 use Rattle.names.specs.Names.{show_slot, show_value}
-use Rattle.reader.specs.declared.Outcome.{Outcome}
-use Rattle.reader.specs.declared.Outcome.TheVariants.{Accepted, Refused}
+use Rattle.reader.specs.Tables.{ReadingOutcome, Accepted, Refused}
 use Rattle.rule_file.specs.Whole.{program_reading}
 use Rattle.cards.specs.Forms.{card_bits, changes_in}
 use Rattle.cards.proofs.Taken.{changes_length}
@@ -149,7 +148,7 @@ reading_bounded : (text card slip : List ℕ) (n : ℕ) → is_editor n ≡ true
 unfolding list_reading printed
 reading_bounded text card slip n w = go (program_reading text).outcome refl (reading_small text)
   where
-    go : (q : Outcome) → (program_reading text).outcome ≡ q → SmallOutcome q → length (printed (list_reading text q (program_reading text).table (program_editors n) card slip)) ≤ page
+    go : (q : ReadingOutcome) → (program_reading text).outcome ≡ q → SmallOutcome q → length (printed (list_reading text q (program_reading text).table (program_editors n) card slip)) ≤ page
     go Accepted o h =
         rw (program_answer n w (program_reading text).table card slip program_rooms)
         (response_bounded text o n card slip (answer_at Strata (program_reading text).table fresh card slip program_rooms) w refl

@@ -17,8 +17,7 @@ use Rattle.laws.specs.Limits.{program_text_limit, program_rule_limit}
 use Rattle.grammar.proofs.Forward.{read_long}
 use Rattle.table.specs.declared.Way.TheVariants.{Strata}
 use Rattle.soundness.specs.Sound.{takes}
-use Rattle.reader.specs.declared.Outcome.{Outcome}
-use Rattle.reader.specs.declared.Outcome.TheVariants.{Accepted, Refused}
+use Rattle.reader.specs.Tables.{ReadingOutcome, Accepted, Refused}
 use Rattle.rule_file.specs.Whole.{answered_whole, program_reading}
 use Rattle.cards.specs.Forms.{read_card, read_slip}
 use Rattle.cards.proofs.Taken.{card_short, slip_short}
@@ -67,7 +66,7 @@ answer_cut t y card slip rooms =
     (cond (takes Strata t) (u and_then λ S. v and_then λ I. if_room (length (value_counts t)) (length (rules_of t)) rooms (answer_by Strata (value_counts t) (rules_of t) S I)) (refused 31 0))) (refused 44 0))
     (card_cut (value_counts t) card) (slip_cut (value_counts t) slip)
 
-entries_cut : (text card slip : List ℕ) (q : Outcome) (t : Table) (y : Editors) → list_reading text q t y (take card_room card) (take slip_room slip) ≡ list_reading text q t y card slip
+entries_cut : (text card slip : List ℕ) (q : ReadingOutcome) (t : Table) (y : Editors) → list_reading text q t y (take card_room card) (take slip_room slip) ≡ list_reading text q t y card slip
 unfolding list_reading
 entries_cut text card slip Accepted t y = ap (list_response text t y) (answer_cut t y card slip program_rooms)
 entries_cut text card slip (Refused k n) t y = refl

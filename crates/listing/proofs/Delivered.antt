@@ -13,8 +13,7 @@ use Rattle.table.specs.declared.Way.TheVariants.{Strata}
 use Rattle.tally.specs.declared.Tally.{Tally}
 use Rattle.tally.specs.Counting.{fresh}
 use Rattle.tally.specs.Editors.{Editors, is_editor}
-use Rattle.response.specs.declared.Outcome.TheVariants.{Answered, Refused}
-use Rattle.response.specs.declared.Response.{Response}
+use Rattle.response.specs.Outcomes.{Answered, Refused, Response}
 use Rattle.response.specs.Ending.{Answer}
 use Rattle.response.specs.Respond.{Outputs, outputs, outputs_after, answer_at, outcome_of, tally_after, response_at}
 use Rattle.listing.specs.Listing.{refusal, program_rooms, program_editors, list_response}

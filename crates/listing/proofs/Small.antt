@@ -31,9 +31,7 @@ use Rattle.strata.specs.Layered.{with_strata}
 use Rattle.table.specs.declared.Way.TheVariants.{Strata}
 use Rattle.soundness.specs.Sound.{takes}
 use Rattle.grammar.specs.TableFor.{table_for}
-use Rattle.reader.specs.declared.FileRead.{FileRead}
-use Rattle.reader.specs.declared.Outcome.{Outcome}
-use Rattle.reader.specs.declared.Outcome.TheVariants.{Accepted, Refused}
+use Rattle.reader.specs.Tables.{FileRead, ReadingOutcome, Accepted, Refused}
 use Rattle.rule_file.specs.Whole.{layered, answered_whole, program_reading}
 use Rattle.rule_file.proofs.Answers.{refused_range}
 use Rattle.cards.specs.Forms.{card_bits, slip_bits, count_in, values_in, changes_in, padding, values_test, card_test, change_fault, changes_test, read_card, read_slip}
@@ -90,7 +88,7 @@ low_read text = go (leb (length text) program_text_limit)
     go false = omega arith
 
 -- The whole reading.
-abbrev pub SmallOutcome : Outcome → Type 0
+abbrev pub SmallOutcome : ReadingOutcome → Type 0
 SmallOutcome Accepted = Unit
 SmallOutcome (Refused k n) = Small k n
 

@@ -8,8 +8,10 @@ use Rattle.model.specs.Rules.{Pair}
 use Rattle.table.specs.declared.Table.{Table}
 use Rattle.table.specs.Link.{stratum_at}
 use Rattle.names.specs.Names.{show_slot, show_value}
-use Rattle.reader.specs.declared.Outcome as reader
-use Rattle.reader.specs.declared.Outcome.TheVariants.{Accepted, Refused}
+use Rattle.reader.specs.Tables as reader
+use Rattle.reader.specs.Tables.{Accepted, Refused}
+use Rattle.refusals.specs.declared.Refusal.{Refusal}
+use Rattle.refusals.specs.Numbers.{refusal_number, refusal_second}
 use Rattle.rule_file.specs.Whole.{program_reading}
 use Rattle.laws.specs.Answers.{OrRefused, taken, refused}
 use Rattle.cards.specs.Forms.{card_bits, slip_bits, changes_in}
@@ -67,7 +69,7 @@ list_response text t y (taken a) =
 list_response text t y (refused k s) = refusal k s
 
 -- The listing of what a reading comes to.
-unfoldable pub list_reading : List ℕ → reader.Outcome → Table → Editors → List ℕ → List ℕ → Listing
+unfoldable pub list_reading : List ℕ → reader.ReadingOutcome → Table → Editors → List ℕ → List ℕ → Listing
 list_reading text Accepted t y card slip = list_response text t y (answer_to t y card slip program_rooms)
 list_reading text (Refused k n) t y card slip = refusal k n
 

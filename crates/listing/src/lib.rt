@@ -5,16 +5,18 @@ ghost use Rattle.std.specs.Prelude.{◌≡◌, true, ◌≤◌, length};
 ghost use Rattle.laws.specs.Limits.{rule_limit};
 ghost use Rattle.tally.specs.Editors.{is_editor};
 ghost use Rattle.response.specs.Respond.{answer_to};
-ghost use Rattle.reader.specs.declared.Outcome.TheVariants.{Accepted};
+ghost use Rattle.reader.specs.Tables.{Accepted};
 ghost use Rattle.rule_file.specs.Whole.{program_reading};
 ghost use Rattle.writing.specs.inner.Puts.{longest};
-ghost use Rattle.listing.specs.Listing.{refusal, program_rooms, editor_number, program_editors, list_response, listing};
+ghost use Rattle.listing.specs.Listing.{program_rooms, editor_number, program_editors, list_response, listing};
+ghost use Rattle.listing.specs.inner.Refused.{refusal_listed};
 ghost use Rattle.listing.specs.Printed.{printed, placed};
 ghost use Rattle.listing.specs.inner.AnswerLines.{answer_bytes, list_answer, ChangesWhole};
 
 use answers::{put_answer, put_refusal};
 use cards::fields::bytes_for;
 use reader::{PROGRAM_RULES, PROGRAM_TEXT_LIMIT};
+use refusals::Refusal;
 use table::{Limits, SLOTS, Table, Way};
 use tally::{Tally, is_editor};
 use text::NAME_LIMIT;
@@ -44,9 +46,11 @@ pub const SLIP_ROOM: usize = (6 + 9 * 63 + 7) / 8 + 1;
 pub const EDITOR_ROOM: usize = 2;
 
 // Lists a refusal: counted first, with no room to write, then written where the output has room.
-fn list_refusal(number: u8, second: usize, out: &mut [u8]) -> usize
-    ensures { (result ≡ length (printed (refusal number second))) × (out.new ≡ placed (printed (refusal number second)) out.old) }
+fn list_refusal(refusal: Refusal, out: &mut [u8]) -> usize
+    ensures { (result ≡ length (printed (refusal_listed refusal))) × (out.new ≡ placed (printed (refusal_listed refusal)) out.old) }
 {
+    let number = refusal.number();
+    let second = refusal.second();
     let mut nowhere: [u8; 1] = [0; 1];
     let size = put_refusal(&mut nowhere, number, second);
     if out.len() < size {
@@ -99,26 +103,22 @@ fn list_response(
     let mut changes: [u8; CHANGES] = [0; CHANGES];
     let mut bits: [u8; RECORD] = [0; RECORD];
     let response = response::respond(t, tally, card, slip, &mut renewed, &mut changes, &mut bits);
-    let outcome = response.outcome;
-    let after = response.tally;
-    match outcome {
-        response::Outcome::Answered(length, count) => {
+    match response.outcome {
+        Ok(answer) => {
             let n = bytes_for(6 + 4 * t.width as usize);
             let m = bytes_for(t.count as usize);
-            return list_answer(
+            list_answer(
                 text,
                 t,
                 &renewed[..n],
-                &changes[..length],
+                &changes[..answer.length],
                 &bits[..m],
                 editor,
-                after,
+                response.tally,
                 out,
-            );
+            )
         }
-        response::Outcome::Refused(number, second) => {
-            return list_refusal(number, second, out);
-        }
+        Err(refusal) => list_refusal(refusal, out),
     }
 }
 
@@ -126,10 +126,10 @@ fn list_response(
 fn editor_number(bytes: &[u8]) -> usize
     ensures { result ≡ editor_number bytes.now }
 {
-    if bytes.len() != 1 {
-        return 0;
+    match bytes {
+        [editor] => usize::from(*editor),
+        _ => 0,
     }
-    bytes[0] as usize
 }
 
 // Lists any rule text, card, slip and editor file of any length: says how many bytes the program prints, and puts them at the front of the output where it has room for them, else leaves it.
@@ -139,17 +139,11 @@ pub fn list(text: &[u8], card: &[u8], slip: &[u8], editor: &[u8], out: &mut [u8]
 {
     let caller = editor_number(editor);
     if !is_editor(caller) {
-        return list_refusal(44, 0, out);
+        return list_refusal(Refusal::NoEditor, out);
     }
-    let read = rule_file::read(text, Way::Strata, Limits::Program);
-    let outcome = read.outcome;
-    let t = read.table;
-    match outcome {
-        reader::Outcome::Accepted => {
-            return list_response(text, t, caller, card, slip, out);
-        }
-        reader::Outcome::Refused(number, second) => {
-            return list_refusal(number, second, out);
-        }
+    let mut t = table::empty_table();
+    match rule_file::read(text, Way::Strata, Limits::Program, &mut t) {
+        Ok(()) => list_response(text, t, caller, card, slip, out),
+        Err(refusal) => list_refusal(refusal, out),
     }
 }

@@ -1,21 +1,19 @@
 // Numbers in decimal and bytes in hexadecimal.
 ghost use Rattle.std.specs.Prelude.{◌+◌, ◌≤◌, ◌<◌, ◌≡◌, length};
-ghost use Rattle.writing.specs.inner.Puts.{longest, Puts};
+ghost use Rattle.writing.specs.inner.Puts.{longest, PutsOn};
 ghost use Rattle.listing.specs.Printed.{decimal, hex_digit, hex_digits, hexadecimal};
 
-use writing::put::put;
+use writing::sheet::Sheet;
 
 // Puts a number in decimal: the digits of its tenth where it has some, then the last one.
-pub fn put_number(out: &mut [u8], at: usize, n: usize) -> usize
-    requires { at + length (decimal n) ≤ longest }
-    ensures { Puts out.old at (decimal n) out.new result }
+pub fn put_number(sheet: &mut Sheet, n: usize)
+    requires { sheet.old.at + length (decimal n) ≤ longest }
+    ensures { PutsOn sheet.old (decimal n) sheet.new }
 {
-    let last: [u8; 1] = [48 + (n % 10) as u8; 1];
-    if n < 10 {
-        return put(out, at, &last);
+    if n >= 10 {
+        put_number(sheet, n / 10);
     }
-    let k = put_number(out, at, n / 10);
-    put(out, k, &last)
+    sheet.put(&[b'0' + (n % 10) as u8]);
 }
 
 // A hexadecimal digit, a capital where it is a letter.
@@ -23,31 +21,23 @@ fn digit(n: u8) -> u8
     requires { n < 16 }
     ensures { result ≡ hex_digit n }
 {
-    if n < 10 {
-        return 48 + n;
-    }
-    55 + n
+    if n < 10 { b'0' + n } else { b'A' + (n - 10) }
 }
 
 // Puts a byte in hexadecimal: two digits.
-fn put_byte(out: &mut [u8], at: usize, b: u8) -> usize
-    requires { at + 2 ≤ longest }
-    ensures { Puts out.old at (hex_digits b) out.new result }
+fn put_byte(sheet: &mut Sheet, b: u8)
+    requires { sheet.old.at + 2 ≤ longest }
+    ensures { PutsOn sheet.old (hex_digits b) sheet.new }
 {
-    let two = [digit(b / 16), digit(b % 16)];
-    put(out, at, &two)
+    sheet.put(&[digit(b / 16), digit(b % 16)]);
 }
 
 // Puts bytes in hexadecimal.
-pub fn put_bytes(out: &mut [u8], at: usize, s: &[u8]) -> usize
-    requires { at + length (hexadecimal s.now) ≤ longest }
-    ensures { Puts out.old at (hexadecimal s.now) out.new result }
+pub fn put_bytes(sheet: &mut Sheet, bytes: &[u8])
+    requires { sheet.old.at + length (hexadecimal bytes.now) ≤ longest }
+    ensures { PutsOn sheet.old (hexadecimal bytes.now) sheet.new }
 {
-    let mut k = at;
-    let mut i: usize = 0;
-    while i < s.len() {
-        k = put_byte(out, k, s[i]);
-        i += 1;
+    for &byte in bytes {
+        put_byte(sheet, byte);
     }
-    k
 }

@@ -2,54 +2,47 @@
 ghost use Rattle.std.specs.Prelude.{◌+◌, ◌≤◌, ◌≡◌, length};
 ghost use Rattle.laws.specs.Limits.{rule_limit};
 ghost use Rattle.results.specs.Record.{bit_of};
-ghost use Rattle.writing.specs.inner.Puts.{longest, Puts};
+ghost use Rattle.writing.specs.inner.Puts.{longest, PutsOn};
 ghost use Rattle.listing.specs.Printed.{rule_text, rules_text};
 ghost use Rattle.listing.specs.inner.AnswerLines.{fired_line, fired_lines};
 
 use crate::numbers::put_number;
 use table::Table;
-use writing::put::put;
+use writing::sheet::Sheet;
 
 // Whether the bit of a rule, counted from 0, is one in a fired record.
 fn is_fired(bits: &[u8], i: usize) -> bool
     ensures { result ≡ bit_of bits.now (i + 1) }
 {
     let k = i / 8;
-    if k < bits.len() {
-        return (bits[k] >> (7 - i % 8)) % 2 == 1;
-    }
-    false
+    k < bits.len() && (bits[k] >> (7 - i % 8)) % 2 == 1
 }
 
 // Puts the line of a rule.
-fn put_rule(out: &mut [u8], at: usize, number: usize, stratum: usize, fired: bool) -> usize
-    requires { at + length (rule_text number (fired_line stratum fired)) ≤ longest }
-    ensures { Puts out.old at (rule_text number (fired_line stratum fired)) out.new result }
+#[tactic(auto, using(writing::proofs::Putting::room_first, writing::proofs::Putting::room_rest), unfolding(crate::specs::Printed::rule_text, crate::specs::Printed::fired_word, laws::specs::Quoted::bytes, laws::specs::Quoted::bytes_from))]
+fn put_rule(sheet: &mut Sheet, number: usize, stratum: usize, fired: bool)
+    requires { sheet.old.at + length (rule_text number (fired_line stratum fired)) ≤ longest }
+    ensures { PutsOn sheet.old (rule_text number (fired_line stratum fired)) sheet.new }
 {
-    let begun = put(out, at, b"rule ");
-    let numbered = put_number(out, begun, number);
-    let parted = put(out, numbered, b" stratum ");
-    let layered = put_number(out, parted, stratum);
+    sheet.put(b"rule ");
+    put_number(sheet, number);
+    sheet.put(b" stratum ");
+    put_number(sheet, stratum);
     if fired {
-        return put(out, layered, b" fired\n");
+        sheet.put(b" fired\n");
+    } else {
+        sheet.put(b" idle\n");
     }
-    put(out, layered, b" idle\n")
 }
 
 // Puts the lines of a table's rules in number order.
-pub fn put_rules(out: &mut [u8], at: usize, t: Table, bits: &[u8]) -> usize
-    requires { (t.count ≤ rule_limit) × (at + length (rules_text 1 (fired_lines t bits.now)) ≤ longest) }
-    ensures { Puts out.old at (rules_text 1 (fired_lines t bits.now)) out.new result }
+pub fn put_rules(sheet: &mut Sheet, t: Table, bits: &[u8])
+    requires { (t.count ≤ rule_limit) × (sheet.old.at + length (rules_text 1 (fired_lines t bits.now)) ≤ longest) }
+    ensures { PutsOn sheet.old (rules_text 1 (fired_lines t bits.now)) sheet.new }
 {
-    let n = t.count as usize;
-    let mut k = at;
-    let mut i: usize = 0;
-    while i < n {
-        let r = t.rules[i];
+    for i in 0..t.count as usize {
+        let stratum = usize::from(t.rules[i].stratum);
         let fired = is_fired(bits, i);
-        let stratum = rows::wide(r.stratum);
-        i += 1;
-        k = put_rule(out, k, i, stratum, fired);
+        put_rule(sheet, i + 1, stratum, fired);
     }
-    k
 }

@@ -1,15 +1,14 @@
--- Laws of the chains of tests, and of the rule looked at next.
+-- Laws of the chains of tests.
 -- Assumes nothing.
 use mathlib.Core.Path.{◌≡◌}
 use mathlib.Core.List.{List}
-use Prim.Native.Nat.{ℕ, zero, suc, ◌+◌, ◌-◌, ◌≤◌, ◌<◌}
+use Prim.Native.Nat.{ℕ, ◌+◌, ◌≤◌, ◌<◌}
 use native.Mathlib.Omega.{arith}
 use lib.ListN.{length, get_or, set, replicate, length-set}
 use Rattle.laws.proofs.Filled.{replicate_at}
 use Rattle.table.specs.inner.Flat.{pair_places}
-use Rattle.testing.specs.declared.waiting.Turn.{Turn}
 use Rattle.testing.proofs.Lists.{set_low}
-use Rattle.marking.specs.inner.Waking.{Chained, turn_at}
+use Rattle.marking.specs.inner.Waking.{Chained}
 
 -- At first nothing is chained.
 pub chained_start : (nexts : List ℕ) → ((o : ℕ) → get_or nexts o 0 ≡ 0) → Chained 0 (replicate pair_places 0) nexts
@@ -26,14 +25,3 @@ chained_more o p heads nexts h c = record {
   heads_low = set_low heads p (o + 1) (λ k. o + 1) (λ k. omega (arith, c.heads_low k)) (omega arith);
   nexts_fall = set_low nexts o (get_or heads p 0) (λ k. k) c.nexts_fall (c.heads_low p);
 }
-
--- The rule looked at next is the one woken last,
-pub turn_last : (k : ℕ) (woken : List ℕ) (left : ℕ) → 0 < left → ◌≡◌ {A = Turn} (record { rule = get_or woken (left - 1) 0; place = k; left = left - 1 }) (turn_at k woken left)
-unfolding turn_at
-turn_last k woken zero h = absurd (omega arith)
-turn_last k woken (suc left) h = let z : suc left - 1 ≡ left = omega arith in rw z
-
--- or where none is left rule k.
-pub turn_none : (k : ℕ) (woken : List ℕ) (left : ℕ) → left ≡ 0 → ◌≡◌ {A = Turn} (record { rule = k; place = k + 1; left = 0 }) (turn_at k woken left)
-unfolding turn_at
-turn_none k woken left e = rw e

@@ -7,7 +7,7 @@ use Prim.Native.Nat.{ℕ, ◌+◌, ◌*◌, ◌/◌, ◌≤◌, ◌<◌}
 use native.Mathlib.Numerals.{add-one}
 use native.Mathlib.Omega.{arith}
 use lib.Dec.{T, eqb}
-use lib.ListN.{get_or}
+use lib.ListN.{length, get_or}
 use borrow.Author.Tests.{eq-eqb, ne_eqb}
 use Rattle.laws.specs.Truth.{◌∨ᵇ◌, notᵇ}
 use Rattle.laws.specs.Limits.{row, value_limit}
@@ -16,7 +16,7 @@ use Rattle.laws.proofs.Equations.{is_true, from_true}
 use Rattle.model.specs.Rules.{Pair, among}
 use Rattle.model.proofs.Pairs.{same_refl}
 use Rattle.table.specs.inner.Flat.{place_of}
-use Rattle.judging.specs.inner.Known.{Known}
+use Rattle.judging.specs.declared.truth.Known.{Known}
 use Rattle.marking.specs.inner.Marked.{ruled_out, rival_out, rivals_out, marked, assigned_one, assigned, clashes, unassigned_one, unassigned_out}
 
 -- A value is passed over where it is the pair's own or negative,
@@ -55,7 +55,7 @@ rivals_more p v j k n e i =
     subst (λ (x : Known). ruled_out q x ≡ rivals_out p (v + 1) k) (sym i)
     (sym (rivals_next p v k ∙ rival_new p q (rivals_out p v k) n (subst (λ (x : Known). get_or x.negative q false ≡ false) i e)))
 
--- No slot of some pairs has too many values.
+-- The slots of some pairs have places, and none of them too many values.
 unfoldable pub Few : List ℕ → List Pair → Type 0
 Few counts ps = (p : Pair) → T (among p ps) → get_or counts p.slot 0 ≤ value_limit
 

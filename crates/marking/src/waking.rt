@@ -1,39 +1,17 @@
-// Which rule selection looks at next. The rules that test a pair by `*=` are chained to it, and are woken when it is marked; this saves sweeps over the rules and decides nothing.
-ghost use Rattle.std.specs.Prelude.{◌≡◌, ◌+◌, ◌*◌, ◌≤◌, ◌<◌, length};
+// The rules that test a pair by `*=` are chained to it, and are woken when it is marked, to be looked at next; this saves sweeps over the rules and decides nothing. The rules woken are a stack in an array that is lent, with how many stand on it beside it: there is no heap. What waking is lent is no struct: each function would have to say of each lent array in it that it comes back.
+ghost use Rattle.std.specs.Prelude.{◌+◌, ◌*◌, ◌≤◌, ◌<◌, length};
 ghost use Rattle.laws.specs.Limits.{rule_limit};
 ghost use Rattle.table.specs.inner.Flat.{pair_places};
-ghost use Rattle.rows.specs.inner.Rows.{RowFits};
 ghost use Rattle.testing.specs.inner.Waiting.{Woken};
-ghost use Rattle.marking.specs.inner.Waking.{Chained, test_places, turn_at};
+ghost use Rattle.marking.specs.inner.Waking.{Chained, test_places};
 
-use rows::{NUMBERS, wide};
+use rows::RuleRow;
 use table::{LITERALS, PAIRS};
-use testing::waiting::Turn;
 
 // The places where a rule can test a pair: its trigger and its literals.
 pub const EACH: usize = LITERALS + 1;
 
-// The rule woken last, or else rule k.
-pub fn next_rule(k: usize, woken: &[u16], left: usize) -> Turn
-    requires { (left ≤ length woken.now) × (k ≤ rule_limit) }
-    ensures { result ≡ turn_at k woken.now left }
-{
-    if 0 < left {
-        let rest = left - 1;
-        return Turn {
-            rule: wide(woken[rest]),
-            place: k,
-            left: rest,
-        };
-    }
-    Turn {
-        rule: k,
-        place: k + 1,
-        left: 0,
-    }
-}
-
-// Chains the place o to the pair at p.
+// Chains the place o to the pair at p; places are counted from 1 and 0 ends a chain (two bytes a place, where an `Option` takes four).
 fn link(p: usize, o: usize, heads: &mut [u16; PAIRS], nexts: &mut [u16])
     requires { (p < pair_places) × (o < test_places) × (o < length nexts.old) }
     ensures { Chained o heads.old nexts.old → Chained (o + 1) heads.new nexts.new }
@@ -44,24 +22,19 @@ fn link(p: usize, o: usize, heads: &mut [u16; PAIRS], nexts: &mut [u16])
 }
 
 // Chains the places of rule i, from 0, to the pairs that it tests by `*=`.
-pub fn chain(row: &[u16; NUMBERS], i: usize, heads: &mut [u16; PAIRS], nexts: &mut [u16])
-    requires { RowFits row.now × (i < rule_limit) × ((i + 1) * 9 ≤ length nexts.old) }
+pub fn chain(row: &RuleRow, i: usize, heads: &mut [u16; PAIRS], nexts: &mut [u16])
+    requires { (i < rule_limit) × ((i + 1) * 9 ≤ length nexts.old) }
     ensures { Chained (i * 9) heads.old nexts.old → Chained ((i + 1) * 9) heads.new nexts.new }
 {
     let first = i * EACH;
-    let trigger = rows::trigger(row);
+    let trigger = row.trigger();
     let at = rows::place(trigger);
     link(at, first, heads, nexts);
-    let m = rows::tested(row);
-    let mut j: usize = 0;
-    'literals: while j < m {
-        let x = rows::literal(row, j);
-        j += 1;
-        if !rows::is_becomes(x) {
-            continue 'literals;
+    'literals: for j in 0..row.tested() {
+        let x = row.literal(j);
+        if rows::is_becomes(x) {
+            link(rows::place(x), first + 1 + j, heads, nexts);
         }
-        let p = rows::place(x);
-        link(p, first + j, heads, nexts);
     }
 }
 
@@ -80,14 +53,12 @@ pub fn wake(
 {
     let mut top = left;
     let mut x = heads[p];
+    // A chain, as long as its numbers lead on: no range is known before.
     'chain: while 0 < x {
-        let o = wide(x) - 1;
+        let o = usize::from(x) - 1;
         x = nexts[o];
         let i = o / EACH;
-        if queued[i] {
-            continue 'chain;
-        }
-        if n <= top {
+        if queued[i] || n <= top {
             continue 'chain;
         }
         queued[i] = true;

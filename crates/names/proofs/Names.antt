@@ -1,13 +1,16 @@
 -- The tests by which a name is found.
 -- Assumes nothing.
-use mathlib.Core.Path.{◌≡◌, sym, ap}
+use mathlib.Core.Path.{◌≡◌, sym, ap, ◌∙◌}
 use mathlib.Core.Bool.{true, false}
-use mathlib.Core.List.{List}
+use mathlib.Core.List.{List, []}
 use Prim.Native.Nat.{ℕ, ◌+◌, ◌-◌, ◌≤◌, ◌<◌}
-use native.Mathlib.Nat.{add_comm, add-zero}
+use native.Mathlib.Nat.{add_comm}
 use lib.Dec.{leb, ltb, leb→le, ltb→lt}
 use lib.ListN.{length, take, drop, get_or}
 use borrow.Author.Tests.{le-leb, lt-leb}
+use Rattle.std.specs.Prelude.{Option, Some, None}
+use Rattle.std.specs.Option.{unwrap_or}
+use Rattle.std.specs.Borrow.{Bor}
 use Rattle.laws.specs.Truth.{◌∧ᵇ◌}
 use Rattle.laws.proofs.Truth.{and_l, and_r}
 use Rattle.laws.proofs.Equations.{from_true}
@@ -16,7 +19,7 @@ use Rattle.table.specs.declared.Slot.{Slot}
 use Rattle.table.specs.declared.Table.{Table}
 use Rattle.laws.specs.Limits.{slot_limit, value_limit}
 use Rattle.table.specs.Zero.{zero_name, zero_slot}
-use Rattle.names.specs.Names.{part_place, not_shown, has_slot, has_value, show_name, show_slot, show_value_of, show_value}
+use Rattle.names.specs.Names.{Showing, not_shown, IsShown, has_slot, has_value, show_name, show_slot, show_value_of, show_value}
 
 pub slot_inside : (width slot : ℕ) → has_slot width slot ≡ true → (slot < slot_limit) × (slot < width)
 unfolding has_slot
@@ -63,10 +66,11 @@ pub value_lacking : (text : List ℕ) (t : Table) (slot value : ℕ) → has_slo
 unfolding show_value
 value_lacking text t slot value e = rw e
 
--- The empty part of a refusal lies at the beginning of the text,
-pub at_beginning : (text : ℕ × ℕ) → text ≡ part_place text not_shown
-at_beginning text = ap (λ (o : ℕ). (text.0, o)) (sym (add-zero text.1))
-
--- and any other as far from it as it begins.
+-- A part lies as far from the beginning of its text as it begins.
 pub begins_at : (text : ℕ × ℕ) (start : ℕ) → ◌≡◌ {A = ℕ × ℕ} (text.0, start + text.1) (text.0, text.1 + start)
 begins_at text start = ap (λ (o : ℕ). (text.0, o)) (add_comm start text.1)
+
+-- What is shown, and nothing in its place where nothing is.
+pub shown_part : (text : ℕ × ℕ) (s : Showing) (o : Option (Bor (List ℕ))) (d r : Bor (List ℕ)) → r ≡ unwrap_or o d → d.now ≡ [] → IsShown text s o → r.now ≡ s.part
+shown_part text s None d r e z h = ap (λ (b : Bor (List ℕ)). b.now) e ∙ z ∙ sym (ap (λ (x : Showing). x.part) h)
+shown_part text s (Some part) d r e z h = ap (λ (b : Bor (List ℕ)). b.now) e ∙ h.1.0

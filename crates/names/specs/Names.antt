@@ -1,6 +1,7 @@
 -- Document 01, 'Rule text': a name is shown as the very stretch of text where it was declared; 31 where the table lacks the slot or value asked for or puts its name outside the text.
 -- A table has the slots and values that its numbers count, and at most the limits: a number above the limit gives it no more.
-use Rattle.std.specs.Prelude.{Bool, cond, List, [], ℕ, ◌+◌, ◌-◌, leb, ltb, length, take, drop, get_or}
+use Rattle.std.specs.Borrow.{Bor}
+use Rattle.std.specs.Prelude.{Bool, cond, List, [], Option, MatchOption, ◌≡◌, ℕ, ◌+◌, ◌-◌, leb, ltb, length, take, drop, get_or}
 use Rattle.laws.specs.Truth.{◌∧ᵇ◌}
 use Rattle.table.specs.declared.Name.{Name}
 use Rattle.table.specs.declared.Slot.{Slot}
@@ -25,6 +26,10 @@ unplaced s = record { code = s.code; start = 0; part = s.part }
 -- A part lies in a text where its showing says: in the same block of memory, as far from the text's first byte as it begins.
 abbrev pub part_place : ℕ × ℕ → Showing → ℕ × ℕ
 part_place text s = (text.0, text.1 + s.start)
+
+-- What shows a name of a text that lies at `text`: the very part that the showing says, at its place; or nothing, where the showing is refusal 31.
+abbrev pub IsShown : ℕ × ℕ → Showing → Option (Bor (List ℕ)) → Type 0
+IsShown text s shown = MatchOption shown (s ≡ not_shown) (λ part. (s.code ≡ 0) × ((part.now ≡ s.part) × (part.ref_ptr ≡ part_place text s)))
 
 -- A name: the stretch of text from its start, as long as its size.
 unfoldable pub show_name : List ℕ → Name → Showing

@@ -36,7 +36,7 @@ use Rattle.soundness.proofs.WellFormed.{well_formed_e, well_formed_fits}
 use Rattle.steps.specs.inner.Spans.{span_start}
 use Rattle.lines.specs.inner.Index.{Spanned, row_of, Indexed}
 use Rattle.grammar.specs.TableFor.{table_for}
-use Rattle.reader.specs.declared.Outcome.TheVariants.{Accepted}
+use Rattle.reader.specs.Tables.{Accepted}
 use Rattle.rule_file.specs.Whole.{reading}
 use Rattle.rule_file.proofs.Answers.{accepted_table, reading_passes}
 use Rattle.style.specs.Layout.{token_bytes}

@@ -11,10 +11,10 @@ use Rattle.grammar.specs.Files.{File}
 use Rattle.grammar.specs.Meaning.{IsFile}
 use Rattle.grammar.specs.Reading.{parse}
 use Rattle.grammar.proofs.Accepts.{accepts_iff}
-use Rattle.reader.specs.declared.Outcome.TheVariants.{Accepted, Refused}
+use Rattle.reader.specs.Tables.{Accepted, Refused}
 use Rattle.rule_file.specs.Whole.{reading}
 use Rattle.style.specs.Printed.{print}
-use Rattle.printing.specs.declared.Printing.TheVariants as printing
+use Rattle.printing.specs.Printing as printing
 use Rattle.writing.specs.inner.Puts.{put_in}
 use Rattle.printing.specs.Printing.{print_of, fitted, after_reading, print_into, printing_of}
 use Rattle.writing.proofs.Putting.{put_front}

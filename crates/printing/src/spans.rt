@@ -22,17 +22,14 @@ fn span_of(text: &[u8], n: Name) -> usize
     key * KEYED + start * 32 + size
 }
 
-// The spans of a slot's names of values, used or not.
+// The spans of a slot's names of values, used or not. (By `map` of the array its closure's calls stay to be proved; the loop needs no proof.)
 fn spans_of(text: &[u8], s: Slot) -> [usize; VALUES]
     requires { SmallNames text.now s.values }
     ensures { result ≡ map (span_of text.now) s.values }
 {
     let mut spans: [usize; VALUES] = [0; VALUES];
-    let mut i: usize = 0;
-    while i < VALUES {
-        let n = s.values[i];
-        spans[i] = span_of(text, n);
-        i += 1;
+    for i in 0..VALUES {
+        spans[i] = span_of(text, s.values[i]);
     }
     spans
 }
@@ -48,12 +45,9 @@ pub fn enter_slots(
     ensures { (slots : List files.Slot) → Tabled text.now slots t → Indexed text.now slots slotspans.new valuespans.new }
 {
     let width = t.width as usize;
-    let mut i: usize = 0;
-    while i < width {
+    for i in 0..width {
         let s = t.slots[i];
-        let name = s.name;
         let spans = spans_of(text, s);
-        enter(slotspans, valuespans, i, span_of(text, name), spans);
-        i += 1;
+        enter(slotspans, valuespans, i, span_of(text, s.name), spans);
     }
 }

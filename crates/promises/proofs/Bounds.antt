@@ -15,7 +15,7 @@ use Rattle.laws.proofs.Listed.{each_at}
 use Rattle.model.specs.Rules.{Pair, Literal, same, among}
 use Rattle.model.specs.Orders.{no_rule, rule_at, changes, firing_order}
 use Rattle.model.specs.Strata.{is_becomes, pairs_where, tested}
-use Rattle.model.specs.Result.{pair, Bounded}
+use Rattle.model.specs.Result.{Bounded}
 use Rattle.model.proofs.Pairs.{same_eq}
 use Rattle.model.proofs.Changes.{cause}
 use Rattle.model.proofs.Orders.{are_rules}
@@ -24,7 +24,7 @@ use Rattle.grammar.specs.Files.{Slot, File, no_slot, slot_counts}
 use Rattle.grammar.proofs.Declared.{DeclaredPair, slot_declared, value_declared, DeclaredRule, Valued, DeclaredFile}
 use Rattle.laws.specs.Answers.{passed}
 use Rattle.cards.specs.Forms.{slip_test}
-use Rattle.cards.proofs.Passed.{Slots}
+use Rattle.cards.specs.inner.Fitting.{Slots}
 use Rattle.cards.proofs.Having.{Has, tested_has}
 
 -- What each of some literals' pairs has, one among those of literals that pass has.

@@ -15,9 +15,7 @@ use Rattle.grammar.specs.Files.{File, slot_counts}
 use Rattle.grammar.specs.Meaning.{IsFile}
 use Rattle.grammar.proofs.Accepts.{one_meaning}
 use Rattle.soundness.specs.Sound.{stratum_0}
-use Rattle.reader.specs.declared.FileRead.{FileRead}
-use Rattle.reader.specs.declared.Outcome.TheVariants.{Refused}
-use Rattle.reader.specs.Tables.{reading_refusal}
+use Rattle.reader.specs.Tables.{FileRead, Refused, reading_refusal}
 use Rattle.rule_file.specs.Whole.{reading, reading_without_18}
 use Rattle.rule_file.specs.Carries.{CarriesBy}
 use Rattle.rule_file.proofs.Answers.{reading_no_refusal}

@@ -19,7 +19,7 @@ use Rattle.model.specs.Rules.{assigns, each_once}
 use Rattle.rule_file.specs.Whole.{reading}
 use Rattle.grammar.proofs.Cases.{after_slots}
 use Rattle.rule_file.proofs.Cases.{runs}
-use Rattle.laws.specs.Answers.{taken, refused, after}
+use Rattle.laws.specs.Answers.{taken, after}
 use Rattle.cards.specs.Forms.{card_fields, change_fields, slip_fields, card_bytes, slip_bytes, values_in, changes_in, values_test, card_test, change_fault, changes_test, read_card, read_slip}
 use Rattle.results.specs.Record.{bit_of, ones_in}
 use Rattle.response.specs.Ending.{Answer, fired_record, answer_of, unless_conflict, answer_by_firing}

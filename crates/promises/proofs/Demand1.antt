@@ -15,10 +15,7 @@ use Rattle.table.specs.Link.{rules_of, value_counts}
 use Rattle.grammar.specs.Reading.{parse}
 use Rattle.names.specs.Names.{show_slot, show_value}
 use Rattle.soundness.specs.Sound.{sound, takes}
-use Rattle.reader.specs.declared.Outcome.{Outcome}
-use Rattle.reader.specs.declared.Outcome.TheVariants.{Accepted}
-use Rattle.reader.specs.declared.FileRead.{FileRead}
-use Rattle.reader.specs.Tables.{reading_refusal, reading_second}
+use Rattle.reader.specs.Tables.{ReadingOutcome, Accepted, FileRead, reading_refusal, reading_second}
 use Rattle.rule_file.specs.Whole.{read_by}
 use Rattle.rule_file.proofs.Answers.{reading_accepted_iff}
 use Rattle.rule_file.proofs.Unlayered.{unlayered_accepted_iff}
@@ -51,7 +48,7 @@ file_back : (way : Way) (text : List ℕ)
 file_back way text =
     ⊎_elim (λ o. inl (ap reading_refusal o, ap reading_second o, file_right way text o))
     (λ w. let o = ap (λ (r : FileRead). r.outcome) w.3 in
-    inr (subst (λ (x : Outcome). FileReason text way (reading_refusal x) (reading_second x)) (sym o) (file_reason way text w.0 w.1 o), ap (λ (r : FileRead). r.table) w.3)) (text_comes way text)
+    inr (subst (λ (x : ReadingOutcome). FileReason text way (reading_refusal x) (reading_second x)) (sym o) (file_reason way text w.0 w.1 o), ap (λ (r : FileRead). r.table) w.3)) (text_comes way text)
 
 -- A print.
 print_back : (text out : List ℕ) (u : OrRefused (List ℕ)) → Prints text (length out) u → Comes (PrintReason text (length out)) (printing_refusal (printing_of u)) (printing_second (printing_of u))

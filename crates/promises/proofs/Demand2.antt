@@ -21,11 +21,10 @@ use Rattle.grammar.specs.Files.{File, slot_counts}
 use Rattle.grammar.specs.Meaning.{IsFile}
 use Rattle.grammar.proofs.Accepts.{one_meaning}
 use Rattle.soundness.specs.Sound.{sound}
-use Rattle.reader.specs.declared.Outcome.TheVariants.{Accepted}
-use Rattle.reader.specs.Tables.{reading_refusal, reading_second}
+use Rattle.reader.specs.Tables.{Accepted, reading_refusal, reading_second}
 use Rattle.rule_file.specs.Whole.{reading}
 use Rattle.rule_file.proofs.Answers.{reading_accepted_iff, reading_carries, reading_no_strata_iff, reading_18_iff, reading_no_refusal}
-use Rattle.cards.specs.declared.Packing.TheVariants.{Packed}
+use Rattle.cards.specs.Packings.{Packed}
 use Rattle.cards.specs.Forms.{read_card, read_slip}
 use Rattle.cards.specs.Cards.{if_sound, unpacked_card, unpacked_slip, card_read, slip_read, packing_of, unpacking_refusal}
 use Rattle.cards.proofs.EntryTrips.{unpack_pack_card, unpack_pack_slip}

@@ -11,7 +11,7 @@ use Rattle.model.specs.Response.{response}
 use Rattle.table.specs.declared.Way.TheVariants.{Strata}
 use Rattle.grammar.specs.Files.{File, slot_counts}
 use Rattle.grammar.specs.Meaning.{IsFile}
-use Rattle.reader.specs.declared.Outcome.TheVariants.{Accepted}
+use Rattle.reader.specs.Tables.{Accepted}
 use Rattle.rule_file.specs.Whole.{reading}
 use Rattle.grammar.proofs.Declared.{DeclaredFile, file_declared}
 use Rattle.rule_file.proofs.Answers.{reading_accepted_iff}

@@ -22,7 +22,7 @@ use Rattle.soundness.proofs.Taken.{sound_taken}
 use Rattle.grammar.specs.Files.{File, slot_counts}
 use Rattle.grammar.specs.Meaning.{IsFile}
 use Rattle.grammar.proofs.Accepts.{one_meaning}
-use Rattle.reader.specs.declared.Outcome.TheVariants.{Accepted}
+use Rattle.reader.specs.Tables.{Accepted}
 use Rattle.rule_file.specs.Whole.{reading}
 use Rattle.rule_file.proofs.Answers.{reading_carries, reading_passes}
 use Rattle.cards.specs.Forms.{card_bits, read_card, read_slip}

@@ -19,7 +19,7 @@ use Rattle.table.specs.Link.{rules_of, value_counts}
 use Rattle.soundness.specs.Sound.{stratum_0, takes}
 use Rattle.soundness.proofs.Taken.{sound_taken}
 use Rattle.marks.proofs.AfterMoves.{selects_all}
-use Rattle.reader.specs.declared.Outcome.TheVariants.{Accepted}
+use Rattle.reader.specs.Tables.{Accepted}
 use Rattle.rule_file.specs.Whole.{reading, reading_without_18}
 use Rattle.rule_file.proofs.Answers.{reading_passes}
 use Rattle.rule_file.proofs.Unlayered.{unlayered_taken}

@@ -17,7 +17,8 @@ use Rattle.model.proofs.Pairs.{among_at}
 use Rattle.model.proofs.Results.{value_in_right, is_changed_i, slip_e, slip_i, slip_length, slip_rising, new_card_length, new_card_at, new_value_kept, new_value_is}
 use Rattle.cards.specs.Forms.{card_test, slip_test, card_bytes, slip_bytes, read_card, read_slip}
 use Rattle.cards.proofs.Tested.{same_count, no_pair}
-use Rattle.cards.proofs.Passed.{Slots, values_pass, card_pass}
+use Rattle.cards.specs.inner.Fitting.{Slots}
+use Rattle.cards.proofs.Passed.{values_pass, card_pass}
 use Rattle.cards.proofs.Having.{rising_passes, within_passes}
 use Rattle.cards.proofs.RoundTrip.{card_reads_back, slip_reads_back}
 

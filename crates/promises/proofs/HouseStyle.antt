@@ -26,7 +26,7 @@ use Rattle.style.specs.Printed.{print, Agree}
 use Rattle.style.proofs.Trees.{canonical_means}
 use Rattle.style.proofs.Tidied.{canonical_tidy, tidy_print}
 use Rattle.style.proofs.Prints.{print_tokens, print_read, agree_print, print_agree}
-use Rattle.reader.specs.declared.Outcome.TheVariants.{Accepted}
+use Rattle.reader.specs.Tables.{Accepted}
 use Rattle.rule_file.specs.Whole.{reading}
 use Rattle.rule_file.specs.Carries.{Carries}
 use Rattle.rule_file.proofs.Answers.{reading_accepted_iff, reading_carries, reading_passes}

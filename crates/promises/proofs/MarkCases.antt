@@ -25,8 +25,7 @@ use Rattle.cards.specs.Forms.{read_card, read_slip}
 use Rattle.tally.specs.declared.Tally.{Tally}
 use Rattle.tally.specs.Counting.{fresh}
 use Rattle.tally.specs.Editors.{Editors, lent, fresh_records}
-use Rattle.response.specs.declared.Outcome.{Outcome}
-use Rattle.response.specs.declared.Outcome.TheVariants.{Answered, Refused}
+use Rattle.response.specs.Outcomes.{Outcome, Answered, Refused}
 use Rattle.response.specs.Ending.{unless_refused, answer_by_marks}
 use Rattle.response.specs.Respond.{Outputs, outputs, outcome_of, response_in, outputs_after}
 use Rattle.promises.specs.Returned.{told_in, left_in}

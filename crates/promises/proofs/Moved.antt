@@ -27,8 +27,7 @@ use Rattle.cards.specs.Forms.{card_bits, read_card, read_slip}
 use Rattle.tally.specs.declared.Tally.{Tally}
 use Rattle.tally.specs.Counting.{is_full}
 use Rattle.tally.specs.Editors.{Editors, has_record, own_record}
-use Rattle.response.specs.declared.Outcome.{Outcome}
-use Rattle.response.specs.declared.Outcome.TheVariants.{Answered}
+use Rattle.response.specs.Outcomes.{Outcome, Answered}
 use Rattle.results.specs.Record.{bit_of, ones_in}
 use Rattle.response.specs.Ending.{Answer, fired_record}
 use Rattle.response.specs.Respond.{◌and_then◌, Rooms, changes_room, if_room, answer_by, answer_by_rules, outcome_of, counted, tally_after, records_after, Responded}

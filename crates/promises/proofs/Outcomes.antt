@@ -24,10 +24,7 @@ use Rattle.grammar.specs.Refusals.{StandsAt}
 use Rattle.grammar.proofs.Refusals.{text_refused_iff}
 use Rattle.strata.specs.Layered.{with_strata}
 use Rattle.grammar.specs.TableFor.{table_for}
-use Rattle.reader.specs.declared.Outcome.{Outcome}
-use Rattle.reader.specs.declared.Outcome.TheVariants.{Accepted, Refused}
-use Rattle.reader.specs.Tables.{reading_refusal, reading_second}
-use Rattle.reader.specs.declared.FileRead.{FileRead}
+use Rattle.reader.specs.Tables.{ReadingOutcome, Accepted, Refused, reading_refusal, reading_second, FileRead}
 use Rattle.rule_file.specs.Whole.{layered, answered_whole, reading, unlayered, read_by}
 use Rattle.rule_file.proofs.Answers.{reading_file, without_18_file, whole_refused, refused_range, reading_18_iff, by_library}
 use Rattle.table.specs.declared.Limits.TheVariants.{Library}
@@ -38,7 +35,7 @@ use Rattle.promises.specs.Reasons.{FileReason, over_long, at_token, no_strata}
 use Rattle.promises.proofs.Refusals.{Only, Other}
 
 -- A refusal by its numbers.
-pub by_numbers : (x : Outcome) (k n : ℕ) → 0 < k → reading_refusal x ≡ k → reading_second x ≡ n → x ≡ Refused k n
+pub by_numbers : (x : ReadingOutcome) (k n : ℕ) → 0 < k → reading_refusal x ≡ k → reading_second x ≡ n → x ≡ Refused k n
 by_numbers Accepted k n l e q = absurd (omega (arith, l, e))
 by_numbers (Refused j m) k n l e q = ap₂ Refused e q
 

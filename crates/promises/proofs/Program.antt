@@ -18,9 +18,7 @@ use Rattle.table.specs.declared.Way.{Way}
 use Rattle.table.specs.declared.Way.TheVariants.{Strata}
 use Rattle.table.specs.Link.{rules_of, value_counts}
 use Rattle.soundness.specs.Sound.{sound, takes}
-use Rattle.reader.specs.declared.FileRead.{FileRead}
-use Rattle.reader.specs.declared.Outcome.{Outcome}
-use Rattle.reader.specs.declared.Outcome.TheVariants.{Accepted, Refused}
+use Rattle.reader.specs.Tables.{FileRead, ReadingOutcome, Accepted, Refused}
 use Rattle.rule_file.specs.Whole.{reading, program_reading}
 use Rattle.rule_file.specs.Carries.{Carries}
 use Rattle.rule_file.proofs.Within.{program_accepted, program_few, program_range}
@@ -118,7 +116,7 @@ module _ (text card slip editor : List ℕ) where
   response_refuses (taken a) k s e = absurd (let z : ◌≡◌ {A = ℕ} 0 1 = cc in omega arith)
   response_refuses (refused j r) k s e = let x : j ≡ k = cc in let z : r ≡ s = cc in rw (x, z) refl
 
-  refuses : (o : Outcome) → (program_reading text).outcome ≡ o → (k s : ℕ) → list_reading text o t y card slip ≡ refusal k s → (((program_reading text).outcome ≡ Accepted) × (came ≡ refused k s)) ⊎ (k ≤ 18)
+  refuses : (o : ReadingOutcome) → (program_reading text).outcome ≡ o → (k s : ℕ) → list_reading text o t y card slip ≡ refusal k s → (((program_reading text).outcome ≡ Accepted) × (came ≡ refused k s)) ⊎ (k ≤ 18)
   unfolding list_reading
   refuses Accepted q k s e = inl (q, response_refuses came k s e)
   refuses (Refused j n) q k s e = let x : j ≡ k = cc in inr (omega (arith, program_range text j n q, x))
@@ -160,7 +158,7 @@ module _ (text card slip editor : List ℕ) where
         (x, z ∙ program_after (editor_number editor) i (taken a) ∙ ap (λ (b : Bool). cond b fresh (one_answered fresh)) (not_full fresh (omega arith) (omega arith)))
     response_lists i (refused k s) e = absurd (let z : ◌≡◌ {A = ℕ} 0 1 = cc in omega arith)
 
-    reading_lists : is_editor (editor_number editor) ≡ true → (o : Outcome) → list_reading text o t y card slip ≡ listed rs cs new n r → (editor_number editor ≡ n) × (r ≡ one_answered fresh)
+    reading_lists : is_editor (editor_number editor) ≡ true → (o : ReadingOutcome) → list_reading text o t y card slip ≡ listed rs cs new n r → (editor_number editor ≡ n) × (r ≡ one_answered fresh)
     unfolding list_reading
     reading_lists i Accepted e = response_lists i came e
     reading_lists i (Refused k m) e = absurd (let z : ◌≡◌ {A = ℕ} 0 1 = cc in omega arith)

@@ -2,20 +2,17 @@
 -- Assumes nothing.
 use Prim.Native.Nat.{ℕ, ◌≤◌, ◌<◌}
 use native.Mathlib.Omega.{arith}
-use mathlib.Core.Path.{◌≡◌, sym, ap, ◌∙◌}
+use mathlib.Core.Path.{◌≡◌, ap, ◌∙◌}
 use mathlib.Core.List.{List}
 use mathlib.Core.Logic.{◌⊎◌, inl, inr, ⊎_elim}
 use lib.ListN.{length}
 use Rattle.laws.specs.Limits.{text_limit, rule_limit, program_text_limit, program_rule_limit}
 use Rattle.table.specs.declared.Limits.TheVariants.{Program}
-use Rattle.grammar.specs.Files.{File}
 use Rattle.grammar.specs.Reading.{Parsed, accepted, refused, parse, parse_by}
 use Rattle.grammar.specs.Within.{RulesAtMost, Beyond, Smaller}
 use Rattle.grammar.proofs.Forward.{read_long}
 use Rattle.grammar.proofs.Within.{smaller, smaller_same, smaller_many, smaller_either}
-use Rattle.reader.specs.declared.Outcome.{Outcome}
-use Rattle.reader.specs.declared.Outcome.TheVariants.{Refused}
-use Rattle.reader.specs.declared.FileRead.{FileRead}
+use Rattle.reader.specs.Tables.{FileRead}
 use Rattle.rule_file.specs.Whole.{answered_whole, reading, program_reading}
 use Rattle.listing.specs.Listing.{refusal, editor_number, program_editors, list_reading, listing}
 use Rattle.listing.proofs.Callers.{listing_read}

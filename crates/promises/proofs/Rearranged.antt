@@ -24,7 +24,7 @@ use Rattle.table.specs.declared.Way.TheVariants.{Strata}
 use Rattle.grammar.specs.Files.{File, slot_counts}
 use Rattle.grammar.specs.Meaning.{IsFile}
 use Rattle.grammar.specs.Pieces.{Rearranges}
-use Rattle.reader.specs.declared.Outcome.TheVariants.{Accepted}
+use Rattle.reader.specs.Tables.{Accepted}
 use Rattle.rule_file.specs.Whole.{reading}
 use Rattle.rule_file.proofs.Answers.{reading_accepted_iff}
 use Rattle.laws.specs.Answers.{taken, refused}

@@ -38,7 +38,7 @@ use Rattle.marks.specs.Marks.{declared_pairs, is_both, is_unknown}
 use Rattle.marks.specs.Selection.{no_clash, all_known, selection_refusal}
 use Rattle.marks.proofs.Selections.{all_pairs_e}
 use Rattle.cards.specs.Forms.{card_bits, values_in, changes_in, read_card, read_slip}
-use Rattle.cards.proofs.Passed.{Slots}
+use Rattle.cards.specs.inner.Fitting.{Slots}
 use Rattle.cards.proofs.Having.{tested_has, slip_tested}
 use Rattle.response.specs.Ending.{Answer, answer_of, unless_conflict, answer_by_firing, unless_refused, answer_by_marks}
 use Rattle.response.specs.Respond.{◌and_then◌, Rooms, changes_room, if_room, answer_by, answer_by_rules, answer_by_table}

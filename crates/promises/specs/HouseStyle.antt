@@ -13,7 +13,7 @@ use Rattle.names.specs.Names.{unplaced, show_slot, show_value}
 use Rattle.style.specs.Layout.{layout, by_letters}
 use Rattle.style.specs.Printed.{canonical}
 use Rattle.style.specs.Tidy.{Tidy}
-use Rattle.reader.specs.declared.Outcome.TheVariants.{Accepted, Refused}
+use Rattle.reader.specs.Tables.{Accepted, Refused}
 use Rattle.rule_file.specs.Whole.{reading}
 use Rattle.printing.specs.Printing.{print_of, print_into}
 use Rattle.tally.specs.Editors.{Editors}

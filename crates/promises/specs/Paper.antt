@@ -16,7 +16,7 @@ use Rattle.grammar.specs.Meaning.{IsFile}
 use Rattle.reader.specs.Tables.{reading_refusal, reading_second}
 use Rattle.rule_file.specs.Whole.{reading}
 use Rattle.cards.specs.Forms.{read_card, read_slip}
-use Rattle.cards.specs.declared.Packing.TheVariants.{Packed}
+use Rattle.cards.specs.Packings.{Packed}
 use Rattle.cards.specs.Cards.{unpacking_refusal}
 use Rattle.tally.specs.Editors.{Editors}
 use Rattle.response.specs.Ending.{Answer}

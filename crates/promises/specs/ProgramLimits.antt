@@ -4,8 +4,7 @@ use Rattle.laws.specs.Limits.{program_text_limit, program_rule_limit}
 use Rattle.table.specs.Empty.{empty_table}
 use Rattle.grammar.specs.Files.{File}
 use Rattle.grammar.specs.Reading.{accepted, refused, parse}
-use Rattle.reader.specs.declared.Outcome.TheVariants.{Refused}
-use Rattle.reader.specs.declared.FileRead.{FileRead}
+use Rattle.reader.specs.Tables.{Refused, FileRead}
 use Rattle.rule_file.specs.Whole.{reading, program_reading}
 use Rattle.listing.specs.Listing.{refusal, listing}
 use Rattle.promises.specs.Program.{OneEditor}

@@ -6,17 +6,15 @@ use Rattle.table.specs.declared.Way.{Way}
 use Rattle.table.specs.declared.Way.TheVariants.{Strata}
 use Rattle.reader.specs.Tables.{reading_refusal}
 use Rattle.rule_file.specs.Whole.{reading}
-use Rattle.printing.specs.declared.Printing.{Printing}
-use Rattle.printing.specs.Printing.{print_into, printing_of}
+use Rattle.printing.specs.Printing.{Printing, print_into, printing_of}
 use Rattle.cards.specs.declared.Card.{Card}
 use Rattle.cards.specs.declared.Slip.{Slip}
-use Rattle.cards.specs.declared.CardRead.{CardRead}
-use Rattle.cards.specs.declared.SlipRead.{SlipRead}
-use Rattle.cards.specs.declared.Packing.{Packing}
+use Rattle.cards.specs.Outcomes.{CardRead, SlipRead}
+use Rattle.cards.specs.Packings.{Packing}
 use Rattle.cards.specs.Cards.{unpacked_card, unpacked_slip, packed_card, packed_slip, card_read, slip_read, packing_of}
 use Rattle.tally.specs.Editors.{Editors}
 use Rattle.results.specs.Record.{ones_in}
-use Rattle.response.specs.declared.Outcome.TheVariants.{Answered}
+use Rattle.response.specs.Outcomes.{Answered}
 use Rattle.response.specs.Ending.{Answer}
 use Rattle.response.specs.Respond.{Outputs, outputs, rooms_of, Responded, answer_in, response_in, outputs_after, response_refusal, response_second}
 

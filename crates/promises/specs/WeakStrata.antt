@@ -12,7 +12,7 @@ use Rattle.table.specs.declared.Table.{Table}
 use Rattle.table.specs.Link.{rules_of, stratum_at}
 use Rattle.grammar.specs.Files.{File, slot_counts}
 use Rattle.grammar.specs.Meaning.{IsFile}
-use Rattle.reader.specs.declared.Outcome.TheVariants.{Accepted}
+use Rattle.reader.specs.Tables.{Accepted}
 use Rattle.rule_file.specs.Whole.{reading}
 use Rattle.soundness.specs.Sound.{well_formed, sound}
 use Rattle.cards.specs.Forms.{read_card, read_slip}

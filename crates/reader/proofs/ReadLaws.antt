@@ -20,7 +20,8 @@ use Rattle.steps.specs.inner.Places.{tokens_past}
 use Rattle.steps.specs.inner.Spans.{SpanLies}
 use Rattle.lines.specs.inner.Index.{Indexed, span_slot, slot_by}
 use Rattle.grammar.specs.TableFor.{slot_for, rule_for, table_for}
-use Rattle.lines.specs.inner.Lines.{Remainder, ValuesLie}
+use Rattle.lines.specs.inner.Lines.{ValuesLie}
+use Rattle.lines.specs.inner.Remainder.{Remainder}
 use Rattle.reader.specs.inner.Rules.{PlainRule}
 use Rattle.reader.specs.inner.Statements.{read_on}
 use Rattle.lines.proofs.Index.{indexed_none, indexed_more, slot_placed}

@@ -6,24 +6,19 @@ use mathlib.Core.List.{List}
 use Rattle.text.specs.Tokens.{Token, WHEN, IF, BECOMES, SEMICOLON}
 use Rattle.model.specs.Rules.{Pair, Literal, Rule}
 use Rattle.grammar.specs.Files.{Slot}
-use Rattle.grammar.specs.Reading.{Part, took, stop, ◌then◌, expects, read_slot, read_value, read_condition, read_assign, read_rule}
+use Rattle.grammar.specs.Reading.{Part, took, stop, ◌then◌, expects, a_name, read_slot, read_value, read_condition, read_assign, read_rule}
 use Rattle.model.specs.Result.{pair}
-use Rattle.reader.specs.inner.Rules.{trigger_pair, read_trigger, read_rest, PlainRule}
-use Rattle.steps.specs.inner.Places.{step_part, outcome_part}
-use Rattle.steps.specs.declared.step.Step.{Step}
-use Rattle.steps.specs.declared.step.Step.TheVariants as step
-use Rattle.laws.proofs.Filled.{filled_none}
-use Rattle.laws.specs.Limits.{literal_limit, assignment_limit}
-use Rattle.table.specs.Zero.{zero_literal, zero_assignment}
-use Rattle.table.specs.Empty.{unused_rule}
-use Rattle.table.specs.Link.{rule_of}
-use Rattle.table.specs.declared.Rule as ruled
+use Rattle.reader.specs.inner.Rules.{trigger_pair, read_trigger, read_rest}
 
 -- A trigger, part by part.
 pub pair_took : (slots : List Slot) (ts t1 t2 t3 : List Token) (s v : ℕ) → read_slot slots ts ≡ took s t1 → expects BECOMES t1 ≡ took tt t2 → read_value slots s t2 ≡ took v t3
     → trigger_pair slots ts ≡ took (pair s v) t3
 unfolding trigger_pair ◌then◌
 pair_took slots ts t1 t2 t3 s v e f g = rw (e, f, g)
+
+pub pair_no_name : (slots : List Slot) (ts : List Token) (k : ℕ) → a_name ts ≡ stop k → trigger_pair slots ts ≡ stop k
+unfolding trigger_pair read_slot ◌then◌
+pair_no_name slots ts k e = rw e
 
 pub pair_no_slot : (slots : List Slot) (ts : List Token) (k : ℕ) → read_slot slots ts ≡ stop k → trigger_pair slots ts ≡ stop k
 unfolding trigger_pair ◌then◌
@@ -95,21 +90,15 @@ unfolding read_rule ◌then◌
 rule_no_when slots ts k e = rw e
 
 -- The rest of a rule, part by part.
-rest_last : (slots : List Slot) (p : Pair) (ts t1 t2 : List Token) (ls : List Literal) (ps : List Pair) → read_condition slots ts ≡ took ls t1 → read_assign slots t1 ≡ took ps t2
-    → read_rest slots p ts ≡ (expects SEMICOLON t2 then λ u t3. took (record { trigger = p; literals = ls; assignments = ps }) t3)
+pub rest_took : (slots : List Slot) (p : Pair) (ts t1 t2 t3 : List Token) (ls : List Literal) (ps : List Pair) → read_condition slots ts ≡ took ls t1 → read_assign slots t1 ≡ took ps t2 → expects SEMICOLON t2 ≡ took tt t3
+    → read_rest slots p ts ≡ took (record { trigger = p; literals = ls; assignments = ps }) t3
 unfolding read_rest ◌then◌
-rest_last slots p ts t1 t2 ls ps e f = rw (e, f)
+rest_took slots p ts t1 t2 t3 ls ps e f g = rw (e, f, g)
 
-ended : (m : Part (Unit {0})) (rest : List ℕ) (base : ℕ) (x : Rule) (r : ruled.Rule) (s : Step) → m ≡ step_part rest base s → x ≡ rule_of r → (m then λ u ts. took x ts) ≡ outcome_part rest base (rule_of r) s
-unfolding ◌then◌
-ended m rest base x r (step.At next) e f = rw (e, f)
-ended m rest base x r (step.Fault k) e f = rw e
-
--- The `;` after a rule, or a refusal there.
-pub rest_ended : (slots : List Slot) (p : Pair) (ts t1 t2 : List Token) (ls : List Literal) (ps : List Pair) (rest : List ℕ) (base : ℕ) (r : ruled.Rule) (s : Step)
-    → read_condition slots ts ≡ took ls t1 → read_assign slots t1 ≡ took ps t2 → expects SEMICOLON t2 ≡ step_part rest base s → record { trigger = p; literals = ls; assignments = ps } ≡ rule_of r
-    → read_rest slots p ts ≡ outcome_part rest base (rule_of r) s
-rest_ended slots p ts t1 t2 ls ps rest base r s e f g h = rest_last slots p ts t1 t2 ls ps e f ∙ ended (expects SEMICOLON t2) rest base _ r s g h
+pub rest_no_end : (slots : List Slot) (p : Pair) (ts t1 t2 : List Token) (ls : List Literal) (ps : List Pair) (k : ℕ) → read_condition slots ts ≡ took ls t1 → read_assign slots t1 ≡ took ps t2 → expects SEMICOLON t2 ≡ stop k
+    → read_rest slots p ts ≡ stop k
+unfolding read_rest ◌then◌
+rest_no_end slots p ts t1 t2 ls ps k e f g = rw (e, f, g)
 
 pub rest_no_condition : (slots : List Slot) (p : Pair) (ts : List Token) (k : ℕ) → read_condition slots ts ≡ stop k → read_rest slots p ts ≡ stop k
 unfolding read_rest ◌then◌
@@ -118,7 +107,3 @@ rest_no_condition slots p ts k e = rw e
 pub rest_no_assign : (slots : List Slot) (p : Pair) (ts t1 : List Token) (ls : List Literal) (k : ℕ) → read_condition slots ts ≡ took ls t1 → read_assign slots t1 ≡ stop k → read_rest slots p ts ≡ stop k
 unfolding read_rest ◌then◌
 rest_no_assign slots p ts t1 ls k e f = rw (e, f)
-
--- A rule's place that is not used is a plain rule.
-pub unused_plain : PlainRule unused_rule
-unused_plain = record { literals_filled = filled_none literal_limit zero_literal; assignments_filled = filled_none assignment_limit zero_assignment; no_stratum = refl }

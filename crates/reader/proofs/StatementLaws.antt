@@ -13,19 +13,20 @@ use Rattle.laws.specs.Limits.{slot_limit}
 use Rattle.grammar.specs.Files.{Slot}
 use Rattle.grammar.specs.Reading.{took, stop, accepted, refused, begins_with, if_next, expects, go_on, read_line, read_rule, read_lines, read_rules}
 use Rattle.grammar.proofs.Forward.{rules_begin}
-use types.Run.{miss}
-use borrow.Enum.Refused.{Among, opened}
-use denote.Enum.Declared.{tag_of}
 use Rattle.text.specs.declared.Token as code
 use Rattle.text.specs.declared.Token.TheVariants as v
-use Rattle.text.specs.contracts.Token as kinds
 use Rattle.steps.specs.inner.Places.{shown_past}
 use Rattle.lines.specs.inner.Index.{Indexed}
 use Rattle.clauses.specs.inner.Literals.{Looked}
 use Rattle.lines.proofs.Index.{indexed_slots, indexed_values}
 use Rattle.laws.proofs.Truth.{le_or_lt}
 use Rattle.reader.specs.inner.Statements.{read_on, RuleNext}
+use Rattle.reader.specs.inner.Rules.{RuleLies}
 use Rattle.reader.proofs.RuleLaws.{rule_no_when}
+use Rattle.std.specs.Prelude.{Result, Ok, Err}
+use Rattle.table.specs.declared.Rule as ruled
+use Rattle.steps.specs.declared.step.Fault.{Fault}
+use Rattle.steps.specs.declared.step.Read.{Read}
 
 longer : {A : Type 0} (xs : List A) (x : A) → length (xs ++ x ∷ []) ≡ suc (length xs)
 longer xs x = length-append xs (x ∷ []) ∙ omega arith
@@ -157,10 +158,10 @@ no_rules [] e = refl
 no_rules (r ∷ rs) e = absurd (omega arith)
 
 -- Something that is not the end stands there.
-pub not_ended : (rest : List ℕ) (base : ℕ) (t : code.Token) (ts : List Token) → Among (1 ∷ 2 ∷ 3 ∷ 4 ∷ []) (tag_of kinds.the_type t) → shown_past rest base t ts ≡ [] → ⊥
-not_ended rest base v.End ts h e = miss (1 ∷ 2 ∷ 3 ∷ 4 ∷ []) 0 tt (opened h)
+pub not_ended : (rest : List ℕ) (base : ℕ) (t : code.Token) (ts : List Token) → (t ≡ v.End → ⊥) → shown_past rest base t ts ≡ [] → ⊥
+not_ended rest base v.End ts h e = h refl
 not_ended rest base (v.Word w) ts h e = let z : ◌≡◌ {A = ℕ} 0 1 = cc in omega arith
-not_ended rest base (v.Name start size) ts h e = let z : ◌≡◌ {A = ℕ} 0 1 = cc in omega arith
+not_ended rest base (v.Name n) ts h e = let z : ◌≡◌ {A = ℕ} 0 1 = cc in omega arith
 not_ended rest base v.Long ts h e = let z : ◌≡◌ {A = ℕ} 0 1 = cc in omega arith
 not_ended rest base v.Bad ts h e = let z : ◌≡◌ {A = ℕ} 0 1 = cc in omega arith
 
@@ -169,3 +170,8 @@ pub rule_stands : (rules : List Rule) (ts : List Token) → (ts ≡ [] → ⊥) 
 rule_stands rules [] h f = h refl
 rule_stands [] (t ∷ ts) h f = f refl
 rule_stands (r ∷ rs) (t ∷ ts) h f = tt
+
+-- What lies behind a later position lies behind an earlier one.
+pub rule_earlier : (size from later : ℕ) (r : Result (Read ruled.Rule) Fault) → from ≤ later → RuleLies size later r → RuleLies size from r
+rule_earlier size from later (Ok r) h d = (omega (arith, d.0), d.1, d.2)
+rule_earlier size from later (Err k) h d = tt

@@ -1,10 +1,10 @@
-// The statements of a rule file, and what its reading comes to.
+// The statements of a rule file, and what the library and the program take of it.
 #![tactic(auto)]
 
 ghost use Rattle.std.specs.Prelude.{◌≡◌};
 ghost use Rattle.grammar.specs.Reading.{bytes_by, rules_by};
 
-use table::{Limits, RULES, Table};
+use table::{Limits, RULES};
 
 pub mod rules;
 pub mod statements;
@@ -35,18 +35,4 @@ pub fn most_rules(limits: Limits) -> usize
         Limits::Library => RULES,
         Limits::Program => PROGRAM_RULES,
     }
-}
-
-// What a reading comes to: a refusal has its number and its second number.
-#[derive(Clone, Copy)]
-pub enum Outcome {
-    Accepted,
-    Refused(u8, usize),
-}
-
-// The outcome and the table, without slots or rules where it is refused.
-#[derive(Clone, Copy)]
-pub struct FileRead {
-    pub outcome: Outcome,
-    pub table: Table,
 }

@@ -1,167 +1,85 @@
 // One statement at the front of the remainder: a slot line, a rule, or the end.
-ghost use Rattle.std.specs.Prelude.{◌≡◌, List, [], ℕ, ◌<◌, length};
-ghost use Rattle.classes.specs.Classes.{Classes};
+ghost use Rattle.std.specs.Prelude.{◌≡◌, List, [], ℕ, length};
 ghost use Rattle.text.specs.Tokens.{SLOT, WHEN};
-ghost use Rattle.table.specs.inner.Flat.{pair_places};
 ghost use Rattle.model.specs.Rules as model;
 ghost use Rattle.grammar.specs.Files.{Slot};
 ghost use Rattle.grammar.specs.Reading.{took, expects};
 ghost use Rattle.steps.specs.inner.Places.{tokens_past};
 ghost use Rattle.lines.specs.inner.Index.{Indexed};
-ghost use Rattle.lines.specs.inner.Lines.{Remainder};
+ghost use Rattle.lines.specs.inner.Remainder.{Remainder};
 ghost use Rattle.reader.specs.inner.Statements.{read_on, RuleNext, statement_answer, StatementLies};
 
 use crate::rules::rule_next;
+use lines::front::Front;
 use lines::{Line, line_next};
-use steps::step::{Step, word_of};
+use steps::source::Source;
+use steps::step::{Fault, Read, word_of};
 use table::{Rule, SLOTS};
-use text::Token;
+use text::{Token, Word};
 
-// What stands at the front: a slot line or a rule with the position after it, the end, or a refusal.
+// What stands at the front: the end, a slot line or a rule.
 #[derive(Clone, Copy)]
-pub enum Kind {
+pub enum Statement {
     End,
-    Slot(usize),
-    Rule(usize),
-    Refused(u8),
-}
-
-// A statement: the slot line and the rule are those read where the kind says so.
-#[derive(Clone, Copy)]
-pub struct Statement {
-    pub kind: Kind,
-    pub line: Line,
-    pub rule: Rule,
-}
-
-// No slot line.
-fn no_line() -> Line {
-    Line {
-        outcome: Step::Fault(0),
-        name: 0,
-        spans: [0; table::VALUES],
-        count: 0,
-    }
+    Slot(Read<Line>),
+    Rule(Read<Rule>),
 }
 
 // A slot line after `width` others, its SLOT read.
-fn slot_statement(
-    text: &[u8],
-    rest: &[u8],
-    classes: &[u8; 256],
-    base: usize,
-    slotspans: &[usize; SLOTS],
-    at: usize,
-    width: usize,
-) -> Statement
-    requires { Classes classes.now × Remainder text.now rest.now base }
-    ensures { ((most : ℕ) (slots : List Slot) (valuespans : List ℕ) → Indexed text.now slots slotspans.now valuespans → width ≡ length slots
-        → expects SLOT (tokens_past rest.now base 0) ≡ took tt (tokens_past rest.now base at) → read_on most slots [] (tokens_past rest.now base 0) ≡ statement_answer most text.now rest.now base slots [] result)
-        × ((most : ℕ) → StatementLies most text.now (length rest.now) width 0 result) }
+fn slot_statement(s: Source, base: usize, at: usize, width: usize) -> Result<Statement, Fault>
+    requires { Remainder s.text.now s.tokens.rest.now base }
+    ensures { ((most : ℕ) (slots : List Slot) → Indexed s.entry.text.now slots s.entry.slotspans.now s.entry.valuespans.now → width ≡ length slots
+        → expects SLOT (tokens_past s.entry.tokens.rest.now base 0) ≡ took tt (tokens_past s.entry.tokens.rest.now base at) → read_on most slots [] (tokens_past s.entry.tokens.rest.now base 0) ≡ statement_answer most s.entry.text.now s.entry.tokens.rest.now base slots [] result)
+        × ((most : ℕ) → StatementLies most s.entry.text.now (length s.entry.tokens.rest.now) width 0 result) }
 {
     if SLOTS <= width {
-        return Statement {
-            kind: Kind::Refused(15),
-            line: no_line(),
-            rule: table::empty_rule(),
-        };
+        return Err(Fault::TooMany);
     }
-    let line = line_next(text, rest, classes, base, slotspans, at);
-    let outcome = line.outcome;
-    match outcome {
-        Step::At(next) => Statement {
-            kind: Kind::Slot(next),
-            line: line,
-            rule: table::empty_rule(),
-        },
-        Step::Fault(k) => Statement {
-            kind: Kind::Refused(k),
-            line: line,
-            rule: table::empty_rule(),
-        },
-    }
+    let front = Front {
+        text: s.text,
+        tokens: s.tokens,
+        base,
+    };
+    let line = line_next(front, s.slotspans, at)?;
+    Ok(Statement::Slot(line))
 }
 
 // A rule after `count` others of `most` that are taken, its WHEN read.
-fn rule_statement(
-    text: &[u8],
-    rest: &[u8],
-    classes: &[u8; 256],
-    slotspans: &[usize; SLOTS],
-    valuespans: &[usize],
-    at: usize,
-    count: usize,
-    most: usize,
-) -> Statement
-    requires { Classes classes.now × (length valuespans.now ≡ pair_places) }
-    ensures { ((base : ℕ) (slots : List Slot) (rules : List model.Rule) → Indexed text.now slots slotspans.now valuespans.now → count ≡ length rules
-        → RuleNext rules (tokens_past rest.now base 0) → expects WHEN (tokens_past rest.now base 0) ≡ took tt (tokens_past rest.now base at)
-        → read_on most slots rules (tokens_past rest.now base 0) ≡ statement_answer most text.now rest.now base slots rules result)
-        × ((width : ℕ) → StatementLies most text.now (length rest.now) width count result) }
+fn rule_statement(s: Source, at: usize, count: usize, most: usize) -> Result<Statement, Fault>
+    ensures { ((base : ℕ) (slots : List Slot) (rules : List model.Rule) → Indexed s.entry.text.now slots s.entry.slotspans.now s.entry.valuespans.now → count ≡ length rules
+        → RuleNext rules (tokens_past s.entry.tokens.rest.now base 0) → expects WHEN (tokens_past s.entry.tokens.rest.now base 0) ≡ took tt (tokens_past s.entry.tokens.rest.now base at)
+        → read_on most slots rules (tokens_past s.entry.tokens.rest.now base 0) ≡ statement_answer most s.entry.text.now s.entry.tokens.rest.now base slots rules result)
+        × ((width : ℕ) → StatementLies most s.entry.text.now (length s.entry.tokens.rest.now) width count result) }
 {
     if most <= count {
-        return Statement {
-            kind: Kind::Refused(15),
-            line: no_line(),
-            rule: table::empty_rule(),
-        };
+        return Err(Fault::TooMany);
     }
-    let read = rule_next(text, rest, classes, slotspans, valuespans, at);
-    let rule = read.rule;
-    let outcome = read.outcome;
-    match outcome {
-        Step::At(next) => Statement {
-            kind: Kind::Rule(next),
-            line: no_line(),
-            rule: rule,
-        },
-        Step::Fault(k) => Statement {
-            kind: Kind::Refused(k),
-            line: no_line(),
-            rule: rule,
-        },
-    }
+    let rule = rule_next(s, at)?;
+    Ok(Statement::Rule(rule))
 }
 
 // The statement at the front of the remainder, after `width` slot lines and `count` rules of `most` that are taken.
 pub fn statement_next(
-    text: &[u8],
-    rest: &[u8],
-    classes: &[u8; 256],
+    s: Source,
     base: usize,
-    slotspans: &[usize; SLOTS],
-    valuespans: &[usize],
     width: usize,
     count: usize,
     most: usize,
-) -> Statement
-    requires { Classes classes.now × Remainder text.now rest.now base × (length valuespans.now ≡ pair_places) }
-    ensures { ((slots : List Slot) (rules : List model.Rule) → Indexed text.now slots slotspans.now valuespans.now → width ≡ length slots → count ≡ length rules
-        → read_on most slots rules (tokens_past rest.now base 0) ≡ statement_answer most text.now rest.now base slots rules result)
-        × StatementLies most text.now (length rest.now) width count result }
+) -> Result<Statement, Fault>
+    requires { Remainder s.text.now s.tokens.rest.now base }
+    ensures { ((slots : List Slot) (rules : List model.Rule) → Indexed s.entry.text.now slots s.entry.slotspans.now s.entry.valuespans.now → width ≡ length slots → count ≡ length rules
+        → read_on most slots rules (tokens_past s.entry.tokens.rest.now base 0) ≡ statement_answer most s.entry.text.now s.entry.tokens.rest.now base slots rules result)
+        × StatementLies most s.entry.text.now (length s.entry.tokens.rest.now) width count result }
 {
-    let first = text::first_token(rest, classes);
-    let token = first.token;
-    if let Token::End = token {
-        return Statement {
-            kind: Kind::End,
-            line: no_line(),
-            rule: table::empty_rule(),
-        };
+    let first = s.tokens.first();
+    if first.token == Token::End {
+        return Ok(Statement::End);
     }
     if count == 0 {
-        let slot = word_of(first, text::SLOT);
-        if let Step::At(at) = slot {
-            return slot_statement(text, rest, classes, base, slotspans, at, width);
+        if let Ok(at) = word_of(first, Word::Slot) {
+            return slot_statement(s, base, at, width);
         }
     }
-    let when = word_of(first, text::WHEN);
-    match when {
-        Step::At(at) => rule_statement(text, rest, classes, slotspans, valuespans, at, count, most),
-        Step::Fault(k) => Statement {
-            kind: Kind::Refused(k),
-            line: no_line(),
-            rule: table::empty_rule(),
-        },
-    }
+    let at = word_of(first, Word::When)?;
+    rule_statement(s, at, count, most)
 }

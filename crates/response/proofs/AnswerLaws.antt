@@ -8,7 +8,7 @@ use Prim.Native.Nat.{ℕ, suc, zero, ◌≤◌, ◌<◌}
 use native.Mathlib.Omega.{arith}
 use lib.Dec.{T, ltb, ltb→lt}
 use lib.ListN.{length, get_or, take, drop, length-append, get_or-map}
-use lib.Seq.{take-append_seam}
+use lib.Seq.{take-append_seam, get_or-take, length-take-le}
 use borrow.Author.Tests.{lt-ltb, le-ltb}
 use Rattle.laws.specs.Truth.{◌∧ᵇ◌}
 use Rattle.laws.specs.Listed.{all_of}
@@ -36,10 +36,9 @@ use Rattle.cards.proofs.Formed.{slip_length}
 use Rattle.cards.proofs.EntryTrips.{card_of_values, slip_of_changes}
 use Rattle.cards.proofs.Written.{card_bytes_length, slip_bytes_length}
 use Rattle.results.specs.Record.{ones_in}
-use Rattle.results.specs.inner.Record.{fired_bits, flag_record}
 use Rattle.results.specs.inner.Ending.{new_places}
 use Rattle.response.specs.Ending.{fired_record, answer_of}
-use Rattle.response.specs.declared.Outcome.TheVariants.{Answered}
+use Rattle.response.specs.Outcomes.{Answered}
 use Rattle.response.specs.Respond.{outputs, outcome_of, outputs_after}
 use Rattle.response.specs.inner.InOrder.{Ends}
 use Rattle.response.proofs.InOrder.{values_same}
@@ -120,20 +119,19 @@ module _ (D : Pairs) (width : ℕ) (few : width ≤ slot_limit) where
   listed_room = omega (arith, slip_count, slip_few D width, few)
 
 -- The record of the flags is that of the rules fired.
-record_same : (ns : List ℕ) (ran : List Bool) (count : ℕ) → ((i : ℕ) → i < count → get_or ran i false ≡ names ns (suc i)) → flag_record ran count ≡ fired_record count ns
-unfolding flag_record fired_bits fired_record
-record_same ns ran count same =
-    ap pack (is_tabulate (λ i. names ns (suc i)) count false (tabulate (λ i. get_or ran i false) count)
-    (tabulate_length (λ i. get_or ran i false) count) (λ i l. tabulate_at (λ i. get_or ran i false) count i false l ∙ same i l))
+record_same : (ns : List ℕ) (ran : List Bool) → ((i : ℕ) → i < length ran → get_or ran i false ≡ names ns (suc i)) → pack ran ≡ fired_record (length ran) ns
+unfolding fired_record
+record_same ns ran same = ap pack (is_tabulate (λ i. names ns (suc i)) (length ran) false ran refl same)
 
--- The record takes the bytes that its bits fill.
-record_length : (ran : List Bool) (count : ℕ) → length (flag_record ran count) ≡ byte_count count
-unfolding flag_record fired_bits
-record_length ran count = pack_length (tabulate (λ i. get_or ran i false) count) ∙ ap (λ (k : ℕ). byte_count k) (tabulate_length (λ i. get_or ran i false) count)
+-- The first flags, as many as there are rules, are those of the rules that ran.
+module _ (n : ℕ) (ran : List Bool) (enough : n ≤ length ran) where
+  pub cut_answer : (width : ℕ) (S : List ℕ) (C : Pairs) (ns : List ℕ) → taken (answer_of width n S C ns) ≡ taken (answer_of width (length (take n ran)) S C ns)
+  cut_answer width S C ns = ap (λ (k : ℕ). taken (answer_of width k S C ns)) (sym (length-take-le n ran enough))
 
--- An output with the record at its front has room for it.
-pub record_there : (ran : List Bool) (count : ℕ) (c c' : List ℕ) → c' ≡ flag_record ran count ++ drop (byte_count count) c → byte_count count ≤ length c'
-record_there ran count c c' e = rw (e, length-append (flag_record ran count) (drop (byte_count count) c), record_length ran count) (omega arith)
+  pub cut_rules : (ns : List ℕ) → ((i : ℕ) → i < n → get_or ran i false ≡ names ns (suc i)) → (i : ℕ) → i < length (take n ran) → get_or (take n ran) i false ≡ names ns (suc i)
+  cut_rules ns same i h =
+      let k : i < n = omega (arith, h, length-take-le n ran enough) in
+      get_or-take n ran i false k ∙ same i k
 
 -- Written to the front of an output, bytes of so great a length.
 front_is : (ys out : List ℕ) (n : ℕ) → length ys ≡ n → ys ++ drop n out ≡ written ys out
@@ -147,7 +145,7 @@ next_in_order width card bs few same fits =
     (new_value_fits width (set_of bs) card.values (λ i h. fits.values_fit i (omega (arith, h, same))))
 
 -- The answer is written: of changes C and rules fired, which the arrays hold, over a card that is empty beyond its count.
-module _ (n width : ℕ) (card : Card) (bs ran : List Bool) (C : Pairs) (ns : List ℕ) (same_changes : set_of bs ≡ C) (same_rules : (i : ℕ) → i < n → get_or ran i false ≡ names ns (suc i))
+module _ (width : ℕ) (card : Card) (bs ran : List Bool) (C : Pairs) (ns : List ℕ) (same_changes : set_of bs ≡ C) (same_rules : (i : ℕ) → i < length ran → get_or ran i false ≡ names ns (suc i))
     (rest : (s : ℕ) → card.count ≤ s → get_or card.values s 0 ≡ 0) where
   next_values : card_values (record { values = new_places width bs card.values; count = width }) ≡ new_card width row C (card_values card)
   unfolding new_places
@@ -159,8 +157,8 @@ module _ (n width : ℕ) (card : Card) (bs ran : List Bool) (C : Pairs) (ns : Li
       → a' ≡ card_bytes (card_values (record { values = new_places width bs card.values; count = width })) ++ drop (byte_count (card_bits width)) a
       → (s : Slip) → s ≡ slip_of (changes_slip width row (set_of bs))
       → l ≡ byte_count (slip_bits s.count) → b' ≡ slip_bytes (changes_of s) ++ drop (byte_count (slip_bits s.count)) b
-      → c' ≡ flag_record ran n ++ drop (byte_count n) c → m ≡ ones_in (take (byte_count n) c')
-      → Ends (taken (answer_of width n (card_values card) C ns)) (Answered l m) (outputs a b c) (outputs a' b' c')
+      → c' ≡ pack ran ++ drop (byte_count (length ran)) c → m ≡ ones_in (take (byte_count (length ran)) c')
+      → Ends (taken (answer_of width (length ran) (card_values card) C ns)) (Answered l m) (outputs a b c) (outputs a' b' c')
   unfolding outcome_of outputs_after answer_of
   answer_ends l m a b c a' b' c' ea s es en eb ec em =
       (ap₂ (λ (i j : ℕ). Answered i j) (en ∙ changes_size) (em ∙ ap ones_in fired_front), λ i. outputs (card_part i) (changes_part i) (fired_part i))
@@ -174,16 +172,13 @@ module _ (n width : ℕ) (card : Card) (bs ran : List Bool) (C : Pairs) (ns : Li
       changes_size : byte_count (slip_bits s.count) ≡ length (slip_bytes (changes_slip width row C))
       changes_size = ap (λ (k : ℕ). byte_count (slip_bits k)) size ∙ sym (slip_bytes_length (changes_slip width row C))
 
-      record_is : flag_record ran n ≡ fired_record n ns
-      record_is = record_same ns ran n same_rules
+      record_is : pack ran ≡ fired_record (length ran) ns
+      record_is = record_same ns ran same_rules
 
-      record_size : length (flag_record ran n) ≡ byte_count n
-      record_size = record_length ran n
-
-      fired_front : take (byte_count n) c' ≡ fired_record n ns
+      fired_front : take (byte_count (length ran)) c' ≡ fired_record (length ran) ns
       fired_front =
-          ap (take (byte_count n)) ec ∙ ap (λ (k : ℕ). take k (flag_record ran n ++ drop (byte_count n) c)) (sym record_size)
-          ∙ take-append_seam (flag_record ran n) (drop (byte_count n) c) ∙ record_is
+          ap (take (byte_count (length ran))) ec ∙ ap (λ (k : ℕ). take k (pack ran ++ drop (byte_count (length ran)) c)) (sym (pack_length ran))
+          ∙ take-append_seam (pack ran) (drop (byte_count (length ran)) c) ∙ record_is
 
       card_part : a' ≡ written (card_bytes (new_card width row C (card_values card))) a
       card_part =
@@ -196,6 +191,6 @@ module _ (n width : ℕ) (card : Card) (bs ran : List Bool) (C : Pairs) (ns : Li
           eb ∙ ap (λ (ps : List Pair). slip_bytes ps ++ drop (byte_count (slip_bits s.count)) b) listed
           ∙ front_is (slip_bytes (changes_slip width row C)) b (byte_count (slip_bits s.count)) (sym changes_size)
 
-      fired_part : c' ≡ written (fired_record n ns) c
+      fired_part : c' ≡ written (fired_record (length ran) ns) c
       fired_part =
-          ec ∙ front_is (flag_record ran n) c (byte_count n) record_size ∙ ap (λ (ys : List ℕ). written ys c) record_is
+          ec ∙ front_is (pack ran) c (byte_count (length ran)) (pack_length ran) ∙ ap (λ (ys : List ℕ). written ys c) record_is

@@ -8,7 +8,7 @@ use mathlib.Core.List.{List}
 use native.Mathlib.Omega.{arith}
 use lib.Dec.{T}
 use lib.ListN.{length, get_or, replicate, length-replicate, get_or-eq_default}
-use Rattle.laws.specs.Limits.{slot_limit, row}
+use Rattle.laws.specs.Limits.{slot_limit, rule_limit, row}
 use Rattle.laws.specs.Tabulated.{tabulate}
 use Rattle.laws.proofs.Truth.{le_or_lt, or_e}
 use Rattle.laws.proofs.Tabulated.{tabulate_length, tabulate_at}
@@ -20,12 +20,13 @@ use Rattle.table.specs.Link.{rules_of}
 use Rattle.table.specs.inner.Flat.{Placed, add_pairs, pair_places}
 use Rattle.table.proofs.Link.{rules_length}
 use Rattle.table.proofs.Flat.{added_length}
-use Rattle.rows.specs.inner.Rows.{table_in, RowsFit}
-use Rattle.rows.proofs.Laws.{rows_count, rows_table_shaped}
+use Rattle.rows.specs.declared.RuleRow.{RuleRow}
+use Rattle.rows.specs.inner.RuleRows.{rows_table}
+use Rattle.rows.proofs.RuleRows.{all_count, all_shaped}
 use Rattle.cards.specs.declared.Card.{Card}
 use Rattle.cards.specs.declared.Slip.{Slip}
 use Rattle.cards.specs.Cards.{no_change, pair_of, card_values, changes_of}
-use Rattle.cards.specs.inner.Fitting.{counts_in, CardFits, SlipFits}
+use Rattle.cards.specs.inner.Fitting.{CardFits, SlipFits}
 use Rattle.response.specs.inner.InOrder.{NoneRan}
 
 -- A card whose places beyond its count are empty has the values of its places.
@@ -60,27 +61,12 @@ slip_placed s F p t =
 pub flags_length : (I : List Pair) → length (add_pairs I (replicate pair_places false)) ≡ pair_places
 flags_length I = added_length I (replicate pair_places false) ∙ length-replicate pair_places false
 
--- Rows have as many rules as are entered in them.
-pub rules_counted : (rows : List (List ℕ)) (n : ℕ) → RowsFit rows n → length (rules_of (table_in rows n)) ≡ n
-rules_counted rows n f =
-    let k = rows_count rows n in
-    rules_length (table_in rows n) ((rows_table_shaped rows n f).rule_places (omega (arith, f.few, k))) ∙ k
+-- Rows have as many rules as they are.
+pub rules_counted : (rows : List RuleRow) → length rows ≤ rule_limit → length (rules_of (rows_table rows)) ≡ length rows
+rules_counted rows few =
+    let k = all_count rows in
+    rules_length (rows_table rows) ((all_shaped rows few).rule_places (omega (arith, few, k))) ∙ k
 
--- Flags of which none is set are as many as the rows.
-module _ (rows : List (List ℕ)) (ran : List Bool) (none : NoneRan rows ran) where
-  ran_length : length ran ≡ length rows
-  ran_length = ap length none ∙ length-replicate (length rows) false
-
-  pub ran_room : (n : ℕ) → RowsFit rows n → n ≤ length ran
-  ran_room n f = omega (arith, f.inside, ran_length)
-
-  pub ran_clear : ran ≡ replicate (length ran) false
-  ran_clear = none ∙ ap (λ (k : ℕ). replicate k false) (sym ran_length)
-
-  pub ran_none : (i : ℕ) → get_or ran i false ≡ false
-  ran_none i = rw none (replicate_at (length rows) false i)
-
--- The counts of an array are as many as the slots.
-pub counts_length : (width : ℕ) (counts : List ℕ) → length (counts_in width counts) ≡ width
-unfolding counts_in
-counts_length width counts = tabulate_length (λ i. get_or counts i 0) width
+-- Flags of which none is set.
+pub ran_none : (n : ℕ) (ran : List Bool) → NoneRan n ran → (i : ℕ) → get_or ran i false ≡ false
+ran_none n ran N i = ap (λ (bs : List Bool). get_or bs i false) N.none ∙ replicate_at (length ran) false i

@@ -7,12 +7,13 @@ use mathlib.Core.Logic.{inl}
 use Prim.Native.Nat.{ℕ, ◌≤◌, ◌<◌}
 use native.Mathlib.Omega.{arith}
 use lib.Dec.{T}
-use lib.ListN.{length, get_or, get_or-eq_default}
+use lib.ListN.{length, get_or, take, get_or-eq_default}
+use lib.Seq.{length-take-le}
+use Rattle.std.proofs.lemmas.List.{get_or-take}
 use borrow.Author.Tests.{lt-ltb, le-ltb}
 use Rattle.laws.specs.Packed.{byte_count}
 use Rattle.laws.proofs.Equations.{from_true}
 use Rattle.laws.proofs.Fronts.{filled_at}
-use Rattle.laws.proofs.Tabulated.{tabulate_at}
 use Rattle.model.specs.Rules.{Pair, Rule}
 use Rattle.table.specs.declared.Table.{Table}
 use Rattle.table.specs.declared.Way.{Way}
@@ -20,35 +21,42 @@ use Rattle.table.specs.declared.Way.TheVariants.{Strata, Marks}
 use Rattle.laws.specs.Limits.{slot_limit}
 use Rattle.table.specs.inner.Shape.{Shaped}
 use Rattle.table.specs.Link.{rules_of, value_counts}
-use Rattle.rows.specs.inner.Rows.{table_in}
+use Rattle.rows.specs.declared.RuleRow.{RuleRow}
+use Rattle.rows.specs.inner.RuleRows.{rows_table}
 use Rattle.soundness.specs.Sound.{well_formed, takes}
 use Rattle.soundness.specs.declared.Entry.{Entry}
-use Rattle.soundness.specs.inner.Admitted.{Admitted, Enters}
+use Rattle.soundness.specs.inner.Admitted.{Admitted}
+use Rattle.soundness.specs.inner.Admitted as entered
 use Rattle.soundness.proofs.WellFormed.{well_formed_e}
 use Rattle.soundness.proofs.Admitted.{admitted_least}
 use Rattle.soundness.proofs.Taken.{takes_parts, right_by_least}
-use Rattle.cards.specs.declared.Outcome.TheVariants.{Accepted, Refused}
+use Rattle.std.specs.Prelude.{Ok, Err}
+use Rattle.refusals.specs.declared.Refusal.{Refusal}
+use Rattle.refusals.specs.declared.Refusal.TheVariants as refusal
+use Rattle.refusals.specs.declared.ChangeFault.{ChangeFault}
+use Rattle.refusals.specs.declared.ChangeFault.TheVariants as change
+use Rattle.refusals.specs.Numbers.{change_number, refusal_number, refusal_second}
+use Rattle.steps.specs.declared.step.Fault.{Fault}
+use Rattle.steps.specs.declared.step.Fault.TheVariants as fault
+use Rattle.steps.specs.Faults.{fault_number}
 use Rattle.cards.specs.declared.Card.{Card}
 use Rattle.cards.specs.declared.Slip.{Slip}
-use Rattle.cards.specs.declared.CardRead.{CardRead}
-use Rattle.cards.specs.declared.SlipRead.{SlipRead}
+use Rattle.cards.specs.Outcomes.{Accepted, Refused, CardRead, SlipRead}
 use Rattle.laws.specs.Answers.{OrRefused, taken, refused}
 use Rattle.cards.specs.Forms.{card_bits, card_test, slip_test, read_card, read_slip}
-use Rattle.cards.specs.Cards.{card_of, slip_of, card_read, slip_read, changes_of}
-use Rattle.cards.specs.inner.Fitting.{counts_in, CardFits, SlipFits}
-use Rattle.cards.proofs.Passed.{Slots, counts_all, card_pass, card_fits, slip_fits}
+use Rattle.cards.specs.Cards.{card_of, slip_of, card_read, card_read_of, slip_read, slip_read_of, changes_of}
+use Rattle.cards.specs.inner.Fitting.{Slots, CardFits, SlipFits}
+use Rattle.cards.proofs.Passed.{counts_all, card_pass, card_fits, slip_fits}
 use Rattle.cards.proofs.EntryTrips.{card_of_values, slip_of_changes}
 use Rattle.cards.proofs.Having.{tested_few, tested_once, card_tested, slip_tested}
 use Rattle.selecting.specs.inner.Selected.{OneValue}
 use Rattle.tally.specs.declared.Tally.{Tally}
-use Rattle.response.specs.declared.Outcome.{Outcome}
-use Rattle.response.specs.declared.Outcome.TheVariants as response
-use Rattle.response.specs.declared.Response.{Response}
+use Rattle.response.specs.Outcomes.{Outcome}
+use Rattle.response.specs.Outcomes as response
 use Rattle.response.specs.Ending.{Answer, answer_by_firing, answer_by_marks}
 use Rattle.response.specs.Respond.{Rooms, Outputs, changes_room, ◌and_then◌, if_room, answer_by, answer_by_rules, answer_by_table, counted, tally_after, outcome_of, outputs_after, answer_at, response_at}
 use Rattle.tally.specs.Counting.{is_full, one_answered, one_refused}
 use Rattle.response.specs.inner.InOrder.{Kept, InOrder, Ends}
-use Rattle.response.proofs.InOrder.{counts_length}
 use Rattle.response.proofs.Declared.{slip_declared, assigned_declared, tests_declared}
 
 -- What was taken in two steps was taken in each.
@@ -57,27 +65,66 @@ unfolding ◌and_then◌
 then_taken (taken a) f b e = (a, refl, e)
 then_taken (refused k s) f b e = absurd (let z : ◌≡◌ {A = ℕ} 0 1 = cc in omega arith)
 
--- What the code says of a card is what was taken or refused.
-pub card_taken : (u : OrRefused (List ℕ)) (q : CardRead) → q ≡ card_read u → q.outcome ≡ Accepted → (S : List ℕ) × (u ≡ taken S) × (q.card ≡ card_of S)
+-- What the code says of a card and of a slip is what was taken,
+pub card_taken : (u : OrRefused (List ℕ)) (q : Card) → card_read_of (Ok q) ≡ card_read u → (S : List ℕ) × (u ≡ taken S) × (q ≡ card_of S)
 unfolding card_read
-card_taken (taken S) q e o = (S, refl, ap (λ (x : CardRead). x.card) e)
-card_taken (refused k s) q e o = absurd (let c : Accepted ≡ Refused k s = sym o ∙ ap (λ (x : CardRead). x.outcome) e in let z : ◌≡◌ {A = ℕ} 0 1 = cc in omega arith)
+card_taken (taken S) q e = (S, refl, ap (λ (x : CardRead). x.card) e)
+card_taken (refused k s) q e = absurd (let c : Accepted ≡ Refused k s = ap (λ (x : CardRead). x.outcome) e in let z : ◌≡◌ {A = ℕ} 0 1 = cc in omega arith)
 
-pub card_refused : (u : OrRefused (List ℕ)) (q : CardRead) (k s : ℕ) → q ≡ card_read u → q.outcome ≡ Refused k s → u ≡ refused k s
+pub slip_taken : (u : OrRefused (List Pair)) (q : Slip) → slip_read_of (Ok q) ≡ slip_read u → (I : List Pair) × (u ≡ taken I) × (q ≡ slip_of I)
+unfolding slip_read
+slip_taken (taken I) q e = (I, refl, ap (λ (x : SlipRead). x.slip) e)
+slip_taken (refused k s) q e = absurd (let c : Accepted ≡ Refused k s = ap (λ (x : SlipRead). x.outcome) e in let z : ◌≡◌ {A = ℕ} 0 1 = cc in omega arith)
+
+-- or what was refused.
+same_refusal : {A : Type 0} (j r k s : ℕ) → Refused k s ≡ Refused j r → ◌≡◌ {A = OrRefused A} (refused j r) (refused k s)
+same_refusal j r k s c = let a : j ≡ k = cc in let b : r ≡ s = cc in rw (a, b)
+
+pub card_refused : (u : OrRefused (List ℕ)) (r : Refusal) → card_read_of (Err r) ≡ card_read u → u ≡ refused (refusal_number r) (refusal_second r)
 unfolding card_read
-card_refused (taken S) q k s e o = absurd (let c : Accepted ≡ Refused k s = sym (ap (λ (x : CardRead). x.outcome) e) ∙ o in let z : ◌≡◌ {A = ℕ} 0 1 = cc in omega arith)
-card_refused (refused j r) q k s e o = let c : Refused j r ≡ Refused k s = sym (ap (λ (x : CardRead). x.outcome) e) ∙ o in let a : j ≡ k = cc in let b : r ≡ s = cc in rw (a, b)
+card_refused (taken S) r e = absurd (let c : Refused (refusal_number r) (refusal_second r) ≡ Accepted = ap (λ (x : CardRead). x.outcome) e in let z : ◌≡◌ {A = ℕ} 0 1 = cc in omega arith)
+card_refused (refused j i) r e = same_refusal j i (refusal_number r) (refusal_second r) (ap (λ (x : CardRead). x.outcome) e)
 
--- The same of a slip.
-pub slip_taken : (u : OrRefused (List Pair)) (q : SlipRead) → q ≡ slip_read u → q.outcome ≡ Accepted → (I : List Pair) × (u ≡ taken I) × (q.slip ≡ slip_of I)
+pub slip_refused : (u : OrRefused (List Pair)) (r : Refusal) → slip_read_of (Err r) ≡ slip_read u → u ≡ refused (refusal_number r) (refusal_second r)
 unfolding slip_read
-slip_taken (taken I) q e o = (I, refl, ap (λ (x : SlipRead). x.slip) e)
-slip_taken (refused k s) q e o = absurd (let c : Accepted ≡ Refused k s = sym o ∙ ap (λ (x : SlipRead). x.outcome) e in let z : ◌≡◌ {A = ℕ} 0 1 = cc in omega arith)
+slip_refused (taken I) r e = absurd (let c : Refused (refusal_number r) (refusal_second r) ≡ Accepted = ap (λ (x : SlipRead). x.outcome) e in let z : ◌≡◌ {A = ℕ} 0 1 = cc in omega arith)
+slip_refused (refused j i) r e = same_refusal j i (refusal_number r) (refusal_second r) (ap (λ (x : SlipRead). x.outcome) e)
 
-pub slip_refused : (u : OrRefused (List Pair)) (q : SlipRead) (k s : ℕ) → q ≡ slip_read u → q.outcome ≡ Refused k s → u ≡ refused k s
-unfolding slip_read
-slip_refused (taken I) q k s e o = absurd (let c : Accepted ≡ Refused k s = sym (ap (λ (x : SlipRead). x.outcome) e) ∙ o in let z : ◌≡◌ {A = ℕ} 0 1 = cc in omega arith)
-slip_refused (refused j r) q k s e o = let c : Refused j r ≡ Refused k s = sym (ap (λ (x : SlipRead). x.outcome) e) ∙ o in let a : j ≡ k = cc in let b : r ≡ s = cc in rw (a, b)
+-- A refusal has a number above 0.
+fault_positive : (f : Fault) → 0 < fault_number f
+fault_positive fault.BadByte = omega arith
+fault_positive fault.OutOfPlace = omega arith
+fault_positive fault.LongName = omega arith
+fault_positive fault.DeclaredTwice = omega arith
+fault_positive fault.TooMany = omega arith
+fault_positive fault.Undeclared = omega arith
+fault_positive fault.AssignedTwice = omega arith
+
+change_positive : (f : ChangeFault) → 0 < change_number f
+change_positive change.UnknownSlot = omega arith
+change_positive change.NotRising = omega arith
+change_positive change.UnknownValue = omega arith
+
+pub number_positive : (r : Refusal) → 0 < refusal_number r
+number_positive refusal.LongText = omega arith
+number_positive (refusal.Statement f rules) = fault_positive f
+number_positive (refusal.Circle rule) = omega arith
+number_positive refusal.CardSize = omega arith
+number_positive refusal.CardCount = omega arith
+number_positive (refusal.CardValue slot) = omega arith
+number_positive refusal.CardPadding = omega arith
+number_positive refusal.SlipSize = omega arith
+number_positive (refusal.Change f place) = change_positive f
+number_positive refusal.SlipPadding = omega arith
+number_positive (refusal.NoRoom o) = omega arith
+number_positive refusal.UnsoundTable = omega arith
+number_positive refusal.FullTally = omega arith
+number_positive refusal.ShortPrint = omega arith
+number_positive refusal.LongPrint = omega arith
+number_positive (refusal.Conflict slot) = omega arith
+number_positive refusal.Clash = omega arith
+number_positive refusal.Unknown = omega arith
+number_positive refusal.NoEditor = omega arith
 
 -- A refusal leaves all outputs.
 pub ends_refused : (u : OrRefused Answer) (k s : ℕ) (o : Outputs) → u ≡ refused k s → Ends u (response.Refused k s) o o
@@ -127,82 +174,85 @@ module _ (width count : ℕ) (rooms : Rooms) (u : OrRefused Answer) where
   room_enough a b c = rw (le-ltb rooms.for_card (byte_count (card_bits width)) a, le-ltb rooms.for_changes changes_room b, le-ltb rooms.for_fired (byte_count count) c) refl
 
 -- The answer by the way asked for.
-module _ (way : Way) (width : ℕ) (counts : List ℕ) (rs : List Rule) (S : List ℕ) (I : List Pair) where
-  pub by_strata : way ≡ Strata → answer_by way (counts_in width counts) rs S I ≡ answer_by_firing rs width S I
+module _ (way : Way) (counts : List ℕ) (rs : List Rule) (S : List ℕ) (I : List Pair) where
+  pub by_strata : way ≡ Strata → answer_by way counts rs S I ≡ answer_by_firing rs (length counts) S I
   unfolding answer_by
-  by_strata e = rw (e, counts_length width counts) refl
+  by_strata e = rw e refl
 
-  pub by_marks : way ≡ Marks → answer_by way (counts_in width counts) rs S I ≡ answer_by_marks rs (counts_in width counts) S I
+  pub by_marks : way ≡ Marks → answer_by way counts rs S I ≡ answer_by_marks rs counts S I
   unfolding answer_by
   by_marks e = rw e refl
 
 -- A table that 31 lets pass leaves rows that name declared pairs and carry the least strata where these are asked for, and counts within their limit.
-module _ (way : Way) (t : Table) (counts : List ℕ) (rows : List (List ℕ)) (sh : Shaped t) (e : takes way t ≡ true) (a : Admitted t counts rows) where
+module _ (way : Way) (t : Table) (counts : List ℕ) (rows : List RuleRow) (sh : Shaped t) (l : length counts ≡ slot_limit) (e : takes way t ≡ true) (a : Admitted t counts rows) where
   passes : T (well_formed t)
   passes = (takes_parts way t (from_true (takes way t) e)).0
 
-  same_counts : counts_in t.width counts ≡ value_counts t
-  same_counts = counts_all t sh (well_formed_e t sh passes).few_slots counts rows a
+  width_few : t.width ≤ slot_limit
+  width_few = (well_formed_e t sh passes).few_slots
 
-  admitted_kept : Kept way rows t.count t.width counts
+  as_many : length (take t.width counts) ≡ t.width
+  as_many = length-take-le t.width counts (omega (arith, width_few, l))
+
+  same_counts : take t.width counts ≡ value_counts t
+  same_counts = counts_all t sh width_few counts rows (omega (arith, width_few, l)) a
+
+  admitted_kept : Kept way (take t.count rows) (take t.width counts)
   admitted_kept = record {
-    rows_fit = a.rows_fit;
+    few_rules = omega (arith, length-take-le t.count rows a.inside, a.few);
     least = λ s. rw (admitted_least t counts rows a) (rw (right_by_least way t (inl s)) at (takes_parts way t (from_true (takes way t) e)).1);
-    few_slots = (well_formed_e t sh passes).few_slots;
-    few_values = λ i h. omega (arith, a.same_count i h, (well_formed_e t sh passes).few_values i h);
+    few_slots = omega (arith, as_many, width_few);
+    few_values = λ i h. let k : i < t.width = omega (arith, as_many) in omega (arith, get_or-take t.width counts i 0 k, a.same_count i k, (well_formed_e t sh passes).few_values i k);
     assigned = rw (a.same_rules, same_counts) (assigned_declared t sh passes);
     in_tests = rw (a.same_rules, same_counts) (tests_declared t sh passes);
   }
 
   -- The response by what is left of it is the response by the table.
-  by_table_kept : (card slip : List ℕ) (rooms : Rooms) → answer_by_table way t card slip rooms ≡ answer_by_rules way (counts_in t.width counts) (rules_of (table_in rows t.count)) card slip rooms
+  by_table_kept : (card slip : List ℕ) (rooms : Rooms) → answer_by_table way t card slip rooms ≡ answer_by_rules way (take t.width counts) (rules_of (rows_table (take t.count rows))) card slip rooms
   by_table_kept card slip rooms =
       by_table_on way t card slip rooms e ∙ ap₂ (λ (cs : List ℕ) (rs : List Rule). answer_by_rules way cs rs card slip rooms) (sym same_counts) (sym a.same_rules)
 
 -- So by the numbers of slots and of rules that are said when it is entered.
-module _ (way : Way) (t : Table) (e : Entry) (counts : List ℕ) (rows : List (List ℕ)) (sh : Shaped t) (right : takes way t ≡ true) (p : e.passed ≡ true) (w : Enters t (well_formed t) e counts rows) where
-  pub entered_kept : Kept way rows e.count e.width counts
-  entered_kept = rw (w.count_is p, w.width_is p) (admitted_kept way t counts rows sh right (w.admitted p))
+module _ (way : Way) (t : Table) (e : Entry) (counts : List ℕ) (rows : List RuleRow) (sh : Shaped t) (l : length counts ≡ slot_limit) (right : takes way t ≡ true) (k : entered.EntryKept t e counts rows) where
+  pub entered_kept : Kept way (take e.count rows) (take e.width counts)
+  entered_kept = rw (k.count_is, k.width_is) (admitted_kept way t counts rows sh l right k.admitted)
 
-  pub by_entry : (card slip : List ℕ) (rooms : Rooms) → answer_by_table way t card slip rooms ≡ answer_by_rules way (counts_in e.width counts) (rules_of (table_in rows e.count)) card slip rooms
-  by_entry card slip rooms = rw (w.count_is p, w.width_is p) (by_table_kept way t counts rows sh right (w.admitted p) card slip rooms)
+  pub by_entry : (card slip : List ℕ) (rooms : Rooms) → answer_by_table way t card slip rooms ≡ answer_by_rules way (take e.width counts) (rules_of (rows_table (take e.count rows))) card slip rooms
+  by_entry card slip rooms = rw (k.count_is, k.width_is) (by_table_kept way t counts rows sh l right k.admitted card slip rooms)
 
-module _ (way : Way) (rows : List (List ℕ)) (n width : ℕ) (counts : List ℕ) (K : Kept way rows n width counts) where
+module _ (way : Way) (rows : List RuleRow) (counts : List ℕ) (K : Kept way rows counts) where
   -- The counts by which card and slip are read.
-  kept_slots : Slots (counts_in width counts)
-  unfolding counts_in
-  kept_slots =
-      let l = counts_length width counts in
-      record { few = omega (arith, K.few_slots); small = λ i h. (let k : i < width = omega arith in rw (tabulate_at (λ i. get_or counts i 0) width i 0 k) (K.few_values i k)) }
+  kept_slots : Slots counts
+  kept_slots = record { few = K.few_slots; small = K.few_values }
 
   -- A card that is taken, in its places.
-  card_in_order : (card S : List ℕ) → read_card (counts_in width counts) card ≡ taken S → (length S ≡ width) × CardFits (card_of S) × ((s : ℕ) → (card_of S).count ≤ s → get_or (card_of S).values s 0 ≡ 0)
+  card_in_order : (card S : List ℕ) → read_card counts card ≡ taken S → (length S ≡ length counts) × CardFits (card_of S) × ((s : ℕ) → (card_of S).count ≤ s → get_or (card_of S).values s 0 ≡ 0)
   unfolding card_of
   card_in_order card S r =
-      let p = card_tested (counts_in width counts) card S r in (
-        (card_pass (counts_in width counts) S p).0 ∙ counts_length width counts,
-        card_fits (counts_in width counts) (card_of S) kept_slots (ap (card_test (counts_in width counts)) (card_of_values S) ∙ p),
+      let p = card_tested counts card S r in (
+        (card_pass counts S p).0,
+        card_fits counts (card_of S) kept_slots (ap (card_test counts) (card_of_values S) ∙ p),
         λ s h. filled_at slot_limit 0 S s ∙ get_or-eq_default S 0 h,
       )
 
   -- A slip that is taken, in its places, with its pairs.
-  slip_in_order : (slip : List ℕ) (I : List Pair) → read_slip (counts_in width counts) slip ≡ taken I → SlipFits (slip_of I) × OneValue (changes_of (slip_of I))
+  slip_in_order : (slip : List ℕ) (I : List Pair) → read_slip counts slip ≡ taken I → SlipFits (slip_of I) × OneValue (changes_of (slip_of I))
   unfolding slip_of OneValue
   slip_in_order slip I r =
-      let p = slip_tested (counts_in width counts) slip I r in (
-        slip_fits (counts_in width counts) (slip_of I) kept_slots (omega (arith, tested_few (counts_in width counts) 0 0 I p (omega arith), counts_length width counts, K.few_slots)) (ap (slip_test (counts_in width counts)) (slip_of_changes I) ∙ p),
-        rw (slip_of_changes I) (tested_once (counts_in width counts) 0 0 I p),
+      let p = slip_tested counts slip I r in (
+        slip_fits counts (slip_of I) kept_slots (omega (arith, tested_few counts 0 0 I p (omega arith), K.few_slots)) (ap (slip_test counts) (slip_of_changes I) ∙ p),
+        rw (slip_of_changes I) (tested_once counts 0 0 I p),
       )
 
   -- Together they are in order.
-  both_in_order : (card slip S : List ℕ) (I : List Pair) → read_card (counts_in width counts) card ≡ taken S → read_slip (counts_in width counts) slip ≡ taken I → InOrder way rows n width counts (card_of S) (slip_of I)
+  both_in_order : (card slip S : List ℕ) (I : List Pair) → read_card counts card ≡ taken S → read_slip counts slip ≡ taken I → InOrder way rows counts (card_of S) (slip_of I)
   unfolding card_of
   both_in_order card slip S I r q =
       let c = card_in_order card S r in
       let s = slip_in_order slip I q in
-      record { kept = K; same_width = c.0; card_fits = c.1; rest_empty = c.2; slip_fits = s.0; slip_declared = rw (slip_of_changes I) (slip_declared (counts_in width counts) slip I q); slip_once = s.1 }
+      record { kept = K; same_width = c.0; card_fits = c.1; rest_empty = c.2; slip_fits = s.0; slip_declared = rw (slip_of_changes I) (slip_declared counts slip I q); slip_once = s.1 }
 
-  pub in_order : (card slip S : List ℕ) (I : List Pair) (c : Card) (s : Slip) → read_card (counts_in width counts) card ≡ taken S → read_slip (counts_in width counts) slip ≡ taken I → c ≡ card_of S → s ≡ slip_of I → InOrder way rows n width counts c s
+  pub in_order : (card slip S : List ℕ) (I : List Pair) (c : Card) (s : Slip) → read_card counts card ≡ taken S → read_slip counts slip ≡ taken I → c ≡ card_of S → s ≡ slip_of I → InOrder way rows counts c s
   in_order card slip S I c s r q e f = rw (e, f) (both_in_order card slip S I r q)
 
 -- What ends as one response ends as another that is the same.
@@ -233,13 +283,12 @@ counted_response way t y z card slip rooms r o o' e w q = rw e (λ i. record { o
 
 pub counted_answer : (way : Way) (t : Table) (y z : Tally) (card slip : List ℕ) (rooms : Rooms) (r : Outcome) (n f : ℕ) (o o' : Outputs) → is_full y ≡ false → Ends (answer_by_table way t card slip rooms) r o o'
     → r ≡ response.Answered n f → z ≡ one_answered y
-    → (record { outcome = response.Answered n f; tally = z } ≡ response_at way t y card slip rooms) × (o' ≡ outputs_after (answer_at way t y card slip rooms) o)
+    → (record { outcome = r; tally = z } ≡ response_at way t y card slip rooms) × (o' ≡ outputs_after (answer_at way t y card slip rooms) o)
 counted_answer way t y z card slip rooms r n f o o' e w a q =
-    counted_response way t y z card slip rooms (response.Answered n f) o o' e (sym a ∙ w.0, w.1) (q ∙ sym (answer_counted y (answer_by_table way t card slip rooms) n f (sym w.0 ∙ a)))
+    counted_response way t y z card slip rooms r o o' e w (q ∙ sym (answer_counted y (answer_by_table way t card slip rooms) n f (sym w.0 ∙ a)))
 
-pub counted_refusal : (way : Way) (t : Table) (y : Tally) (card slip : List ℕ) (rooms : Rooms) (r : Outcome) (k s : ℕ) (q : Response) (o o' : Outputs) → is_full y ≡ false → Ends (answer_by_table way t card slip rooms) r o o'
-    → r ≡ response.Refused k s → q ≡ record { outcome = response.Refused k s; tally = one_refused y }
-    → (q ≡ response_at way t y card slip rooms) × (o' ≡ outputs_after (answer_at way t y card slip rooms) o)
-counted_refusal way t y card slip rooms r k s q o o' e w a z =
-    let d = counted_response way t y (one_refused y) card slip rooms (response.Refused k s) o o' e (sym a ∙ w.0, w.1) (sym (refusal_counted y (answer_by_table way t card slip rooms) k s (sym w.0 ∙ a))) in
-    (z ∙ d.0, d.1)
+pub counted_refusal : (way : Way) (t : Table) (y z : Tally) (card slip : List ℕ) (rooms : Rooms) (r : Outcome) (k s : ℕ) (o o' : Outputs) → is_full y ≡ false → Ends (answer_by_table way t card slip rooms) r o o'
+    → r ≡ response.Refused k s → z ≡ one_refused y
+    → (record { outcome = r; tally = z } ≡ response_at way t y card slip rooms) × (o' ≡ outputs_after (answer_at way t y card slip rooms) o)
+counted_refusal way t y z card slip rooms r k s o o' e w a q =
+    counted_response way t y z card slip rooms r o o' e w (q ∙ sym (refusal_counted y (answer_by_table way t card slip rooms) k s (sym w.0 ∙ a)))

@@ -1,3 +1,4 @@
 pub mod Ending
+pub mod Outcomes
 pub mod Respond
 pub mod inner

@@ -1,7 +1,7 @@
 -- The response to a slip: document 01, 'Order of a response: 32, 31, 20 to 28, 30, 40. Each of these but 32 adds one to slips refused; an answer adds one to slips answered.'
 -- Document 02, section 4: 44 comes ahead of every other refusal and is not counted; the count is the caller's record, and 32 looks at no other.
 -- In the response by marks (document 02, section 3) 41 and 42 stand in 40's place.
-use Rattle.std.specs.Prelude.{ℕ, cond, List, ltb, length}
+use Rattle.std.specs.Prelude.{ℕ, cond, List, ltb, length, Result, Ok, Err}
 use Rattle.laws.specs.Limits.{slot_limit}
 use Rattle.laws.specs.Packed.{byte_count}
 use Rattle.model.specs.Rules.{Pair, Rule}
@@ -15,9 +15,11 @@ use Rattle.cards.specs.Forms.{card_bits, slip_bits, read_card, read_slip}
 use Rattle.tally.specs.declared.Tally.{Tally}
 use Rattle.tally.specs.Counting.{is_full, one_answered, one_refused}
 use Rattle.tally.specs.Editors.{Editors, has_record, own_record, with_record}
-use Rattle.response.specs.declared.Outcome.{Outcome}
-use Rattle.response.specs.declared.Outcome.TheVariants.{Answered, Refused}
-use Rattle.response.specs.declared.Response.{Response}
+use Rattle.refusals.specs.declared.Refusal.{Refusal}
+use Rattle.refusals.specs.Numbers.{refusal_number, refusal_second}
+use Rattle.response.specs.declared.Answered as told
+use Rattle.response.specs.declared.Response as whole
+use Rattle.response.specs.Outcomes.{Outcome, Answered, Refused, Response}
 use Rattle.results.specs.Record.{ones_in}
 use Rattle.response.specs.Ending.{Answer, answer_by_firing, answer_by_marks}
 
@@ -71,6 +73,14 @@ answer_in way t y card slip rooms = cond (has_record y) (answer_at way t (own_re
 unfoldable pub outcome_of : OrRefused Answer → Outcome
 outcome_of (taken a) = Answered (length a.changes) (ones_in a.fired)
 outcome_of (refused k s) = Refused k s
+
+-- The code's outcome and response as these: a refusal by its numbers.
+abbrev pub outcome_said : Result told.Answered Refusal → Outcome
+outcome_said (Ok a) = Answered a.length a.fired
+outcome_said (Err r) = Refused (refusal_number r) (refusal_second r)
+
+abbrev pub response_said : whole.Response → Response
+response_said r = record { outcome = outcome_said r.outcome; tally = r.tally }
 
 -- A response that is counted.
 unfoldable pub counted : Tally → OrRefused Answer → Tally

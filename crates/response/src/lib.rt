@@ -4,47 +4,42 @@
 pub mod answering;
 pub mod slips;
 
-ghost use Rattle.std.specs.Prelude.{◌≡◌, false};
+ghost use Rattle.std.specs.Prelude.{◌≡◌, ◌≤◌, length};
 ghost use Rattle.table.specs.declared.Table as tables;
 ghost use Rattle.table.specs.declared.Way.TheVariants.{Strata, Marks};
-ghost use Rattle.table.specs.Link.{rules_of};
-ghost use Rattle.table.specs.inner.Shape.{Shaped};
+ghost use Rattle.laws.specs.Limits.{rule_limit};
 ghost use Rattle.soundness.specs.Sound.{well_formed};
 ghost use Rattle.soundness.specs.inner.Admitted.{Enters};
-ghost use Rattle.rows.specs.inner.Rows.{table_in};
-ghost use Rattle.cards.specs.inner.Fitting.{counts_in};
-ghost use Rattle.tally.specs.Counting.{is_full, one_refused};
-ghost use Rattle.response.specs.declared.Outcome.TheVariants.{Refused};
-ghost use Rattle.response.specs.Respond.{rooms_of, outputs, outputs_after, answer_by_rules, answer_at, response_at};
-ghost use Rattle.response.specs.inner.InOrder.{Kept, NoneRan, Ends};
+ghost use Rattle.response.specs.Respond.{rooms_of, outputs, outputs_after, outcome_said, response_said, answer_by_table, answer_at, response_at};
+ghost use Rattle.response.specs.inner.InOrder.{NoneRan, Ends};
 
 use answering::finish;
-use rows::{FEW, NUMBERS, SOME};
+use refusals::Refusal;
+use rows::{FEW, RuleRow, SOME};
 use soundness::Entry;
 use table::{RULES, SLOTS, Table, Way};
 use tally::{Tally, is_full, one_answered, one_refused};
 use unpacking::unpack::{read_card, read_slip};
 
-// What a response comes to: the length of the changes and how many rules fired, or a refusal with its number and its second number.
+// An answer: the length of the changes, and how many rules fired.
 #[derive(Clone, Copy)]
-pub enum Outcome {
-    Answered(usize, usize),
-    Refused(u8, usize),
+pub struct Answered {
+    pub length: usize,
+    pub fired: usize,
 }
 
 // The outcome and the record after it.
 #[derive(Clone, Copy)]
 pub struct Response {
-    pub outcome: Outcome,
+    pub outcome: Result<Answered, Refusal>,
     pub tally: Tally,
 }
 
-// The response by what is left of a table that passed 31, without its tally: 20 to 28, 30, then 40, or 41 and 42, or the answer.
+// The response by what was entered of a table, without its tally: 31, 20 to 28, 30, then 40, or 41 and 42, or the answer.
 fn work(
     way: Way,
-    rows: &[[u16; NUMBERS]],
-    n: usize,
-    width: usize,
+    entry: Option<Entry>,
+    rows: &[RuleRow],
     counts: &[usize; SLOTS],
     ran: &mut [bool],
     card: &[u8],
@@ -52,45 +47,32 @@ fn work(
     renewed: &mut [u8],
     changes: &mut [u8],
     fired: &mut [u8],
-) -> Outcome
-    requires { Kept way rows.now n width counts.now × NoneRan rows.now ran.old }
-    ensures { Ends (answer_by_rules way (counts_in width counts.now) (rules_of (table_in rows.now n)) card.now slip.now (rooms_of renewed.old changes.old fired.old)) result
+) -> Result<Answered, Refusal>
+    requires { ((t : tables.Table) × Enters t (well_formed t) entry counts.now rows.now) × NoneRan (length rows.now) ran.old }
+    ensures { (t : tables.Table) → Enters t (well_formed t) entry counts.now rows.now
+        → Ends (answer_by_table way t card.now slip.now (rooms_of renewed.old changes.old fired.old)) (outcome_said result)
         (outputs renewed.old changes.old fired.old) (outputs renewed.new changes.new fired.new) }
 {
-    let first = read_card(card, width, counts);
-    let of_card = first.outcome;
-    if let cards::Outcome::Refused(number, second) = of_card {
-        return Outcome::Refused(number, second);
+    let Some(entered) = entry else {
+        return Err(Refusal::UnsoundTable);
+    };
+    let own_rows = &rows[..entered.count];
+    let own_counts = &counts[..entered.width];
+    if !soundness::strata_right(own_rows, way) {
+        return Err(Refusal::UnsoundTable);
     }
-    let next = read_slip(slip, width, counts);
-    let of_slip = next.outcome;
-    if let cards::Outcome::Refused(number, second) = of_slip {
-        return Outcome::Refused(number, second);
-    }
-    let c = first.card;
-    let s = next.slip;
+    let own = read_card(card, own_counts)?;
+    let asked = read_slip(slip, own_counts)?;
     finish(
-        way, rows, n, width, counts, c, s, ran, renewed, changes, fired,
+        way, own_rows, own_counts, own, asked, ran, renewed, changes, fired,
     )
 }
 
-// A refusal that is counted.
-fn refuse(tally: Tally, number: u8, second: usize) -> Response
-    requires { is_full tally ≡ false }
-    ensures { result ≡ record { outcome = Refused number second; tally = one_refused tally } }
-{
-    let after = one_refused(tally);
-    Response {
-        outcome: Outcome::Refused(number, second),
-        tally: after,
-    }
-}
-
-// The response by what was entered of a table: 32, 31, then the rest; counted.
+// The response by what was entered of a table: 32, then the rest; counted.
 fn conclude(
     way: Way,
-    entry: Entry,
-    rows: &[[u16; NUMBERS]],
+    entry: Option<Entry>,
+    rows: &[RuleRow],
     counts: &[usize; SLOTS],
     ran: &mut [bool],
     tally: Tally,
@@ -100,45 +82,34 @@ fn conclude(
     changes: &mut [u8],
     fired: &mut [u8],
 ) -> Response
-    requires { ((t : tables.Table) × Shaped t × Enters t (well_formed t) entry counts.now rows.now) × NoneRan rows.now ran.old }
-    ensures { (t : tables.Table) → Shaped t → Enters t (well_formed t) entry counts.now rows.now
-        → (result ≡ response_at way t tally card.now slip.now (rooms_of renewed.old changes.old fired.old))
+    requires { ((t : tables.Table) × Enters t (well_formed t) entry counts.now rows.now) × NoneRan (length rows.now) ran.old }
+    ensures { (t : tables.Table) → Enters t (well_formed t) entry counts.now rows.now
+        → (response_said result ≡ response_at way t tally card.now slip.now (rooms_of renewed.old changes.old fired.old))
         × (outputs renewed.new changes.new fired.new
         ≡ outputs_after (answer_at way t tally card.now slip.now (rooms_of renewed.old changes.old fired.old)) (outputs renewed.old changes.old fired.old)) }
 {
     if is_full(tally) {
         return Response {
-            outcome: Outcome::Refused(32, 0),
-            tally: tally,
+            outcome: Err(Refusal::FullTally),
+            tally,
         };
     }
-    if !entry.passed {
-        return refuse(tally, 31, 0);
-    }
-    let n = entry.count;
-    let width = entry.width;
-    if !soundness::strata_right(rows, n, way) {
-        return refuse(tally, 31, 0);
-    }
     let outcome = work(
-        way, rows, n, width, counts, ran, card, slip, renewed, changes, fired,
+        way, entry, rows, counts, ran, card, slip, renewed, changes, fired,
     );
     match outcome {
-        Outcome::Answered(length, count) => {
-            let after = one_answered(tally);
-            return Response {
-                outcome: Outcome::Answered(length, count),
-                tally: after,
-            };
-        }
-        Outcome::Refused(number, second) => {
-            return refuse(tally, number, second);
-        }
+        Ok(_) => Response {
+            outcome,
+            tally: one_answered(tally),
+        },
+        Err(_) => Response {
+            outcome,
+            tally: one_refused(tally),
+        },
     }
 }
 
 // The response to a slip by strata: any table, any tally, any bytes of any length, outputs of any length.
-// The table is handed on at once, to be entered into counts and rows; what comes after goes by these. Rows, and flags of the rules that ran, are as many as one of three sizes, the least that has room for the rules.
 pub fn respond(
     t: Table,
     tally: Tally,
@@ -148,64 +119,11 @@ pub fn respond(
     changes: &mut [u8],
     fired: &mut [u8],
 ) -> Response
-    ensures { (result ≡ response_at Strata t tally card.now slip.now (rooms_of renewed.old changes.old fired.old))
+    ensures { (response_said result ≡ response_at Strata t tally card.now slip.now (rooms_of renewed.old changes.old fired.old))
         × (outputs renewed.new changes.new fired.new
         ≡ outputs_after (answer_at Strata t tally card.now slip.now (rooms_of renewed.old changes.old fired.old)) (outputs renewed.old changes.old fired.old)) }
 {
-    let mut counts: [usize; SLOTS] = [0; SLOTS];
-    let n = t.count as usize;
-    if n <= FEW {
-        let mut rows: [[u16; NUMBERS]; FEW] = [[0; NUMBERS]; FEW];
-        let mut ran: [bool; FEW] = [false; FEW];
-        let entry = soundness::enter(t, &mut counts, &mut rows);
-        return conclude(
-            Way::Strata,
-            entry,
-            &rows,
-            &counts,
-            &mut ran,
-            tally,
-            card,
-            slip,
-            renewed,
-            changes,
-            fired,
-        );
-    }
-    if n <= SOME {
-        let mut rows: [[u16; NUMBERS]; SOME] = [[0; NUMBERS]; SOME];
-        let mut ran: [bool; SOME] = [false; SOME];
-        let entry = soundness::enter(t, &mut counts, &mut rows);
-        return conclude(
-            Way::Strata,
-            entry,
-            &rows,
-            &counts,
-            &mut ran,
-            tally,
-            card,
-            slip,
-            renewed,
-            changes,
-            fired,
-        );
-    }
-    let mut rows: [[u16; NUMBERS]; RULES] = [[0; NUMBERS]; RULES];
-    let mut ran: [bool; RULES] = [false; RULES];
-    let entry = soundness::enter(t, &mut counts, &mut rows);
-    conclude(
-        Way::Strata,
-        entry,
-        &rows,
-        &counts,
-        &mut ran,
-        tally,
-        card,
-        slip,
-        renewed,
-        changes,
-        fired,
-    )
+    respond_by(Way::Strata, &t, tally, card, slip, renewed, changes, fired)
 }
 
 // The response to a slip by marks, of the same.
@@ -218,62 +136,59 @@ pub fn respond_by_marks(
     changes: &mut [u8],
     fired: &mut [u8],
 ) -> Response
-    ensures { (result ≡ response_at Marks t tally card.now slip.now (rooms_of renewed.old changes.old fired.old))
+    ensures { (response_said result ≡ response_at Marks t tally card.now slip.now (rooms_of renewed.old changes.old fired.old))
         × (outputs renewed.new changes.new fired.new
         ≡ outputs_after (answer_at Marks t tally card.now slip.now (rooms_of renewed.old changes.old fired.old)) (outputs renewed.old changes.old fired.old)) }
 {
-    let mut counts: [usize; SLOTS] = [0; SLOTS];
+    respond_by(Way::Marks, &t, tally, card, slip, renewed, changes, fired)
+}
+
+// The response by the way asked for, of the same, in the least of three rooms that holds the rules.
+pub fn respond_by(
+    way: Way,
+    t: &Table,
+    tally: Tally,
+    card: &[u8],
+    slip: &[u8],
+    renewed: &mut [u8],
+    changes: &mut [u8],
+    fired: &mut [u8],
+) -> Response
+    ensures { (response_said result ≡ response_at way t.now tally card.now slip.now (rooms_of renewed.old changes.old fired.old))
+        × (outputs renewed.new changes.new fired.new
+        ≡ outputs_after (answer_at way t.now tally card.now slip.now (rooms_of renewed.old changes.old fired.old)) (outputs renewed.old changes.old fired.old)) }
+{
     let n = t.count as usize;
     if n <= FEW {
-        let mut rows: [[u16; NUMBERS]; FEW] = [[0; NUMBERS]; FEW];
-        let mut ran: [bool; FEW] = [false; FEW];
-        let entry = soundness::enter(t, &mut counts, &mut rows);
-        return conclude(
-            Way::Marks,
-            entry,
-            &rows,
-            &counts,
-            &mut ran,
-            tally,
-            card,
-            slip,
-            renewed,
-            changes,
-            fired,
-        );
+        return respond_in::<FEW>(way, t, tally, card, slip, renewed, changes, fired);
     }
     if n <= SOME {
-        let mut rows: [[u16; NUMBERS]; SOME] = [[0; NUMBERS]; SOME];
-        let mut ran: [bool; SOME] = [false; SOME];
-        let entry = soundness::enter(t, &mut counts, &mut rows);
-        return conclude(
-            Way::Marks,
-            entry,
-            &rows,
-            &counts,
-            &mut ran,
-            tally,
-            card,
-            slip,
-            renewed,
-            changes,
-            fired,
-        );
+        return respond_in::<SOME>(way, t, tally, card, slip, renewed, changes, fired);
     }
-    let mut rows: [[u16; NUMBERS]; RULES] = [[0; NUMBERS]; RULES];
-    let mut ran: [bool; RULES] = [false; RULES];
+    respond_in::<RULES>(way, t, tally, card, slip, renewed, changes, fired)
+}
+
+// The same with rows for N rules and flags of those that ran: the table is handed on at once, to be entered into counts and rows, and what comes after goes by these.
+fn respond_in<const N: usize>(
+    way: Way,
+    t: &Table,
+    tally: Tally,
+    card: &[u8],
+    slip: &[u8],
+    renewed: &mut [u8],
+    changes: &mut [u8],
+    fired: &mut [u8],
+) -> Response
+    requires { (t.now.count ≤ rule_limit → t.now.count ≤ N) × (N ≤ rule_limit) }
+    ensures { (response_said result ≡ response_at way t.now tally card.now slip.now (rooms_of renewed.old changes.old fired.old))
+        × (outputs renewed.new changes.new fired.new
+        ≡ outputs_after (answer_at way t.now tally card.now slip.now (rooms_of renewed.old changes.old fired.old)) (outputs renewed.old changes.old fired.old)) }
+{
+    let mut counts: [usize; SLOTS] = [0; SLOTS];
+    let mut rows = rows::room::<N>();
+    let mut ran: [bool; N] = [false; N];
     let entry = soundness::enter(t, &mut counts, &mut rows);
     conclude(
-        Way::Marks,
-        entry,
-        &rows,
-        &counts,
-        &mut ran,
-        tally,
-        card,
-        slip,
-        renewed,
-        changes,
-        fired,
+        way, entry, &rows, &counts, &mut ran, tally, card, slip, renewed, changes, fired,
     )
 }

@@ -7,23 +7,19 @@ ghost use Rattle.cards.specs.Cards.{changes_of, slip_of};
 ghost use Rattle.cards.specs.inner.Fitting.{SlipFits};
 
 use cards::{Change, Slip};
-use table::{PAIRS, ROW, SLOTS};
+use results::ending::changed_value;
+use table::{PAIRS, SLOTS};
 
 // The changes of a slip, a flag for each pair.
 pub fn flags_of(slip: Slip) -> [bool; PAIRS]
     requires { SlipFits slip }
     ensures { result ≡ add_pairs (changes_of slip) (replicate pair_places false) }
 {
-    let m = slip.count;
     let mut flags: [bool; PAIRS] = [false; PAIRS];
-    let mut j: usize = 0;
-    while j < m {
+    for j in 0..slip.count {
         let change = slip.changes[j];
-        let slot = change.slot;
-        let value = change.value;
-        let at = table::place(slot, value);
+        let at = table::place(change.slot, change.value);
         flags[at] = true;
-        j += 1;
     }
     flags
 }
@@ -36,22 +32,17 @@ pub fn slip_of(changes: &[bool; PAIRS], width: usize) -> Slip
     let none = Change { slot: 0, value: 0 };
     let mut listed: [Change; SLOTS] = [none; SLOTS];
     let mut count: usize = 0;
-    let mut s: usize = 0;
-    'slots: while s < width {
-        let v = results::ending::changed_value(changes, s);
-        let slot = s;
-        s += 1;
-        if ROW <= v {
-            continue 'slots;
+    for s in 0..width {
+        if let Some(v) = changed_value(changes, s) {
+            listed[count] = Change {
+                slot: s as u8,
+                value: v as u8,
+            };
+            count += 1;
         }
-        listed[count] = Change {
-            slot: slot as u8,
-            value: v as u8,
-        };
-        count += 1;
     }
     Slip {
         changes: listed,
-        count: count,
+        count,
     }
 }

@@ -10,6 +10,8 @@ use native.Mathlib.Omega.{arith}
 use lib.Count.{ones, ones_step, ones-le, ones_cat}
 use lib.ListN.{length, get_or, drop, length-append, drop_of_length-le, get_or-eq_default}
 use lib.Seq.{drop-cons}
+use Rattle.std.specs.List.{sum_by}
+use Rattle.std.proofs.lemmas.Grind.{common_steps}
 use Rattle.laws.specs.Below.{count_below}
 use Rattle.laws.specs.Numbers.{how_many}
 use Rattle.laws.specs.Tabulated.{tabulate}
@@ -140,3 +142,9 @@ pub record_ones : (fired : List Bool) (count : ℕ) (g : ℕ → Bool) → ((i :
 unfolding flag_record
 record_ones fired count g h =
     pack_ones (fired_bits fired count) ∙ rw (bits_size fired count) (count_how_many _ g count (λ i l. bit_inside fired count i l ∙ h i l))
+
+-- The one bits of some bytes are the sum of each byte's.
+pub ones_sum : (xs : List ℕ) → sum_by (λ x. ones x) xs ≡ ones_in xs
+unfolding ones_in
+ones_sum [] = refl
+ones_sum (x ∷ xs) = grind (arith, common_steps, ones_sum xs)

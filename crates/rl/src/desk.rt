@@ -1,10 +1,9 @@
 // What the program does, over the names of its four files.
-ghost use Rattle.std.specs.Prelude.{◌≡◌, ℕ, ◌<◌, length, take, IfOk, OnErr};
-ghost use Rattle.std.specs.Io.{ReadsAtMost};
-ghost use Rattle.std.specs.Io.KnownBytes.{Consumes, IsAtEnd};
+ghost use Rattle.std.specs.Prelude.{◌≡◌, length};
 ghost use Rattle.listing.specs.Listing.{text_room, card_room, slip_room, editor_room};
 ghost use Rattle.listing.specs.Printed.{page};
 
+use input::read_full;
 use listing::{CARD_ROOM, EDITOR_ROOM, PAGE, SLIP_ROOM, TEXT_ROOM};
 use std::fs::File;
 use std::io;
@@ -24,25 +23,7 @@ fn open<R: Files>(rt: &R, name: &[u8]) -> Option<R::File> {
     File::open(rt, name).ok()
 }
 
-// Reads a file until it ends or the room is full, and says how many bytes of it stand in the room; at the first read that fails it stops and tells so.
-fn read_file<R: Read>(file: &mut R, room: &mut [u8]) -> io::Result<usize>
-    ensures count { ReadsAtMost result room.new }
-    ensures bytes { IfOk result (λ n. Consumes (R.remaining file.old) (R.remaining file.new) (take n room.new)) }
-    ensures whole { IfOk result (λ n. n < length room.new → IsAtEnd (R.remaining file.new)) }
-    ensures err { OnErr result ((n : ℕ) × Consumes (R.remaining file.old) (R.remaining file.new) (take n room.new)) }
-{
-    let mut done: usize = 0;
-    while done < room.len() {
-        let more = file.read(&mut room[done..])?;
-        if more == 0 {
-            return Ok(done);
-        }
-        done += more;
-    }
-    Ok(done)
-}
-
-// Room for what is read of a text, of a card, of a slip and of an editor file: `listing_cut`.
+// Room for what is read of a text, of a card, of a slip and of an editor file (`listing_cut`): each function says which room of the definitions it is.
 fn blank_text() -> [u8; TEXT_ROOM]
     ensures { text_room ≡ length result }
 {
@@ -100,16 +81,16 @@ fn run<F: Read + Drop>(
     editor_name: &[u8],
 ) -> io::Result<()> {
     let mut text = blank_text();
-    let rules_read = read_file(&mut rules, &mut text);
+    let rules_read = read_full(&mut rules, &mut text);
     drop(rules);
     let mut c = blank_card();
-    let card_read = read_file(&mut card, &mut c);
+    let card_read = read_full(&mut card, &mut c);
     drop(card);
     let mut s = blank_slip();
-    let slip_read = read_file(&mut slip, &mut s);
+    let slip_read = read_full(&mut slip, &mut s);
     drop(slip);
     let mut e = blank_editor();
-    let editor_read = read_file(&mut editor, &mut e);
+    let editor_read = read_full(&mut editor, &mut e);
     drop(editor);
     let Ok(n) = rules_read else {
         return write_unread(rt, rules_name);

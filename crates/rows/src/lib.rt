@@ -1,14 +1,14 @@
 // Rules as rows of numbers: what the work below the entry points is lent in place of the table.
 #![tactic(auto)]
 
-ghost use Rattle.std.specs.Prelude.{◌≡◌, cond, ◌+◌, ◌<◌, get_or};
+ghost use Rattle.std.specs.Prelude.{◌≡◌, cond, ◌+◌, ◌≤◌, ◌<◌, ℕ, [], map, get_or};
 ghost use Rattle.laws.specs.Limits.{literal_limit, assignment_limit};
 ghost use Rattle.model.specs.Result.{pair};
 ghost use Rattle.model.specs.Strata.{is_becomes, is_plain, is_under_not};
 ghost use Rattle.table.specs.Link.{literal_of};
 ghost use Rattle.table.specs.inner.Flat.{Placed, pair_places, place_of};
 ghost use Rattle.table.specs.inner.Fits.{RuleFits};
-ghost use Rattle.rows.specs.inner.Rows.{tests, literal_in, pair_in, rule_in, RowShaped, Row};
+ghost use Rattle.rows.specs.inner.Rows.{tests, literal_in, pair_in, rule_in, Row, RowFits, UnusedRow};
 
 use table::{ASSIGNMENTS, LITERALS, Literal, Rule};
 
@@ -41,95 +41,102 @@ fn literal_number(l: Literal) -> u16
     requires { Placed l.slot l.value }
     ensures { (literal_in result ≡ l) × (result < tests) }
 {
-    let slot = l.slot;
-    let value = l.value;
-    let becomes = l.becomes;
-    let negated = l.negated;
-    let p = place_number(slot, value);
-    let b: u16 = if becomes { BECOMES } else { 0 };
-    let n: u16 = if negated { UNDER_NOT } else { 0 };
+    let p = place_number(l.slot, l.value);
+    let b: u16 = if l.becomes { BECOMES } else { 0 };
+    let n: u16 = if l.negated { UNDER_NOT } else { 0 };
     p + b + n
 }
 
-// A rule written into its row.
-pub fn enter_rule(r: Rule, row: &mut [u16; NUMBERS])
-    requires { RuleFits r × RowShaped row.old }
-    ensures { Row r row.new }
-{
-    let slot = r.slot;
-    let value = r.value;
-    let trigger = place_number(slot, value);
-    row[0] = BECOMES + trigger;
-    let m = r.tested as usize;
-    row[1] = m as u16;
-    let k = r.assigned as usize;
-    row[2] = k as u16;
-    row[3] = r.stratum;
-    let mut j: usize = 0;
-    'literals: while j < m {
-        let l = r.literals[j];
-        row[4 + j] = literal_number(l);
-        j += 1;
+// A rule as a row of numbers: what a rule was written into, or the row of the empty rule. It takes 32 bytes, a rule by its parts 46, and the work goes over rows again and again.
+#[derive(Clone, Copy)]
+pub struct RuleRow {
+    pub numbers: [u16; NUMBERS],
+    pub ghost fits: { RowFits numbers },
+}
+
+impl RuleRow {
+    // A rule's row.
+    pub fn of(r: Rule) -> RuleRow
+        requires { RuleFits r }
+        ensures { Row r result.numbers }
+    {
+        let trigger = place_number(r.slot, r.value);
+        let mut row: [u16; NUMBERS] = [0; NUMBERS];
+        row[0] = BECOMES + trigger;
+        let m = r.tested as usize;
+        row[1] = m as u16;
+        let k = r.assigned as usize;
+        row[2] = k as u16;
+        row[3] = r.stratum;
+        'literals: for j in 0..m {
+            row[4 + j] = literal_number(r.literals[j]);
+        }
+        'assignments: for i in 0..k {
+            let a = r.assignments[i];
+            row[12 + i] = place_number(a.slot, a.value);
+        }
+        RuleRow { numbers: row }
     }
-    let mut i: usize = 0;
-    'assignments: while i < k {
-        let a = r.assignments[i];
-        let s = a.slot;
-        let v = a.value;
-        row[12 + i] = place_number(s, v);
-        i += 1;
+
+    // How many literals its rule uses.
+    pub fn tested(&self) -> usize
+        ensures { (result ≡ (rule_in self.now.numbers).tested) × (result ≤ literal_limit) }
+    {
+        usize::from(self.numbers[1])
+    }
+
+    // How many assignments it uses.
+    pub fn assigned(&self) -> usize
+        ensures { (result ≡ (rule_in self.now.numbers).assigned) × (result ≤ assignment_limit) }
+    {
+        usize::from(self.numbers[2])
+    }
+
+    // The stratum that it carries.
+    pub fn stratum(&self) -> u16
+        ensures { result ≡ (rule_in self.now.numbers).stratum }
+    {
+        self.numbers[3]
+    }
+
+    // The number of its trigger's test.
+    pub fn trigger(&self) -> u16
+        ensures { (result ≡ get_or self.now.numbers 0 0) × (result < tests) }
+    {
+        self.numbers[0]
+    }
+
+    // The number of the test at a literal's place.
+    pub fn literal(&self, j: usize) -> u16
+        requires { j < literal_limit }
+        ensures { (result ≡ get_or self.now.numbers (4 + j) 0) × (j < (rule_in self.now.numbers).tested → result < tests) }
+    {
+        self.numbers[4 + j]
+    }
+
+    // The place of the pair at an assignment's place, as a number.
+    pub fn assignment(&self, k: usize) -> u16
+        requires { k < assignment_limit }
+        ensures { result ≡ get_or self.now.numbers (12 + k) 0 }
+    {
+        self.numbers[12 + k]
     }
 }
 
-// A number of 16 bits as an index.
-pub fn wide(x: u16) -> usize
-    ensures { result ≡ x }
+// The row of a rule that tests and assigns nothing.
+pub fn empty_row() -> RuleRow
+    ensures { UnusedRow result.numbers }
 {
-    x as usize
+    let mut numbers: [u16; NUMBERS] = [0; NUMBERS];
+    numbers[0] = BECOMES;
+    RuleRow { numbers }
 }
 
-// How many literals a row's rule uses.
-pub fn tested(row: &[u16; NUMBERS]) -> usize
-    ensures { result ≡ (rule_in row.now).tested }
+// Room for the rows of so many rules.
+pub fn room<const N: usize>() -> [RuleRow; N]
+    ensures { (i : ℕ) → i < N → UnusedRow (get_or (map (λ r. r.numbers) result) i []) }
 {
-    wide(row[1])
-}
-
-// How many assignments it uses.
-pub fn assigned(row: &[u16; NUMBERS]) -> usize
-    ensures { result ≡ (rule_in row.now).assigned }
-{
-    wide(row[2])
-}
-
-// The stratum that it carries.
-pub fn stratum(row: &[u16; NUMBERS]) -> u16
-    ensures { result ≡ (rule_in row.now).stratum }
-{
-    row[3]
-}
-
-// The number of its trigger's test.
-pub fn trigger(row: &[u16; NUMBERS]) -> u16
-    ensures { result ≡ get_or row.now 0 0 }
-{
-    row[0]
-}
-
-// The number of the test at a literal's place.
-pub fn literal(row: &[u16; NUMBERS], j: usize) -> u16
-    requires { j < literal_limit }
-    ensures { result ≡ get_or row.now (4 + j) 0 }
-{
-    row[4 + j]
-}
-
-// The place of the pair at an assignment's place, as a number.
-pub fn assignment(row: &[u16; NUMBERS], k: usize) -> u16
-    requires { k < assignment_limit }
-    ensures { result ≡ get_or row.now (12 + k) 0 }
-{
-    row[12 + k]
+    [empty_row(); N]
 }
 
 // The place of a test's pair in an array indexed by pair.

@@ -40,10 +40,8 @@ use Rattle.soundness.specs.Sound.{sound}
 use Rattle.soundness.proofs.WellFormed.{well_formed_fits}
 use Rattle.strata.proofs.Written.{same_rules, same_counts, stratum_now}
 use Rattle.soundness.proofs.Passes.{layered_passes, empty_passes}
-use Rattle.reader.specs.Tables.{reading_refusal}
+use Rattle.reader.specs.Tables.{reading_refusal, Accepted, Refused, FileRead}
 use Rattle.grammar.specs.TableFor.{table_for}
-use Rattle.reader.specs.declared.Outcome.TheVariants.{Accepted, Refused}
-use Rattle.reader.specs.declared.FileRead.{FileRead}
 use Rattle.rule_file.specs.Carries.{Carries}
 use Rattle.rule_file.specs.Whole.{layered, answered_whole, reading, unlayered, answered_without_18, reading_without_18, read_within, read_by}
 use Rattle.rule_file.proofs.FileTable.{file_rules, file_counts, file_shaped, file_places, file_well_formed}

@@ -10,7 +10,7 @@ use Rattle.table.specs.Link.{rules_of, carried_strata}
 use Rattle.strata.specs.Layered.{rule_with_stratum, with_strata}
 use Rattle.grammar.proofs.Cases.{reads, after_slots}
 use Rattle.grammar.specs.TableFor.{table_for}
-use Rattle.reader.specs.declared.Outcome.TheVariants.{Accepted, Refused}
+use Rattle.reader.specs.Tables.{Accepted, Refused}
 use Rattle.rule_file.specs.Whole.{layered, answered_whole, reading, unlayered, answered_without_18, reading_without_18}
 
 -- `unfolding runs` opens what a whole reading runs.

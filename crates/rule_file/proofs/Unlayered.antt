@@ -26,9 +26,7 @@ use Rattle.strata.specs.Layered.{with_strata}
 use Rattle.soundness.specs.Sound.{stratum_0, strata_right, takes}
 use Rattle.soundness.proofs.Passes.{empty_passes}
 use Rattle.soundness.proofs.Taken.{stratum_0_at, sound_taken}
-use Rattle.reader.specs.Tables.{reading_refusal}
-use Rattle.reader.specs.declared.Outcome.TheVariants.{Accepted, Refused}
-use Rattle.reader.specs.declared.FileRead.{FileRead}
+use Rattle.reader.specs.Tables.{reading_refusal, Accepted, Refused, FileRead}
 use Rattle.rule_file.specs.Whole.{reading, unlayered, reading_without_18}
 use Rattle.rule_file.specs.Carries.{CarriesBy}
 use Rattle.rule_file.proofs.FileTable.{file_rules, file_counts, file_well_formed, file_stratum_0}

@@ -17,8 +17,7 @@ use Rattle.grammar.specs.Files.{File}
 use Rattle.grammar.specs.Reading.{Parsed, accepted, refused, parse, parse_by}
 use Rattle.grammar.proofs.Backward.{file_same}
 use Rattle.grammar.proofs.Within.{accepted_by, refused_by}
-use Rattle.reader.specs.declared.Outcome.TheVariants.{Accepted, Refused}
-use Rattle.reader.specs.declared.FileRead.{FileRead}
+use Rattle.reader.specs.Tables.{Accepted, Refused, FileRead}
 use Rattle.rule_file.specs.Whole.{layered, answered_whole, reading, program_reading}
 use Rattle.rule_file.proofs.Answers.{reading_file, layered_zero, layered_circle, refused_range, outcomes_differ}
 

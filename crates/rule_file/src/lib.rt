@@ -1,107 +1,94 @@
 // The whole reading of a rule file: refusals 10 to 18, and the table with the least strata; or without 18, and the table with stratum 0 throughout.
 #![tactic(auto)]
 
-ghost use Rattle.std.specs.Prelude.{◌≡◌};
+ghost use Rattle.std.specs.Prelude.{◌≡◌, Err};
 ghost use Rattle.table.specs.Empty.{empty_table};
-ghost use Rattle.reader.specs.declared.Outcome.TheVariants as outcome;
-ghost use Rattle.rule_file.specs.Whole.{read_within};
+ghost use Rattle.rule_file.specs.Whole.{file_read, read_within};
 
 use lines::{enter, slot_of};
-use reader::statements::{Kind, statement_next};
-use reader::{FileRead, Outcome, most_bytes, most_rules};
-use rows::NUMBERS;
-use table::{Limits, PAIRS, RULES, SLOTS, Way};
-
-// A refusal, and the table without slots or rules.
-fn refused(k: u8, n: usize) -> FileRead
-    ensures { result ≡ record { outcome = outcome.Refused k n; table = empty_table } }
-{
-    FileRead {
-        outcome: Outcome::Refused(k, n),
-        table: table::empty_table(),
-    }
-}
+use reader::statements::{Statement, statement_next};
+use reader::{most_bytes, most_rules};
+use refusals::Refusal;
+use rows::RuleRow;
+use steps::source::Source;
+use steps::step::Tokens;
+use table::{Limits, PAIRS, RULES, SLOTS, Table, Way};
 
 // The reading of any bytes of any length, by the library's limits or the program's: the statements one after the other, after each of which the remainder is handed on; at the end the strata, if asked.
-// The table stands in this function alone, from the first statement to the last stratum, so that it is copied once: where it is returned.
-pub fn read(text: &[u8], way: Way, limits: Limits) -> FileRead
-    ensures { result ≡ read_within way limits text.now }
+// It goes into the caller's table, so that none is copied; after a refusal that is the table without slots or rules.
+pub fn read(text: &[u8], way: Way, limits: Limits, t: &mut Table) -> Result<(), Refusal>
+    ensures { file_read result t.new ≡ read_within way limits text.now }
 {
+    *t = table::empty_table();
     if most_bytes(limits) < text.len() {
-        return refused(10, 0);
+        return Err(Refusal::LongText);
     }
     let most = most_rules(limits);
     let classes = classes::table();
-    let mut t = table::empty_table();
-    let mut slotspans: [usize; SLOTS] = [0; SLOTS];
-    let mut valuespans: [usize; PAIRS] = [0; PAIRS];
+    let mut slotspans = [0; SLOTS];
+    let mut valuespans = [0; PAIRS];
     let mut rest = text;
-    let mut base: usize = 0;
+    let mut base = 0;
     'statements: loop {
-        let width = t.width as usize;
-        let count = t.count as usize;
-        let statement = statement_next(
+        let width = usize::from(t.width);
+        let count = usize::from(t.count);
+        let source = Source {
             text,
-            rest,
-            &classes,
-            base,
-            &slotspans,
-            &valuespans,
-            width,
-            count,
-            most,
-        );
-        let kind = statement.kind;
-        match kind {
-            Kind::End => {
+            tokens: Tokens {
+                rest,
+                classes: &classes,
+            },
+            slotspans: &slotspans,
+            valuespans: &valuespans,
+        };
+        match statement_next(source, base, width, count, most) {
+            Ok(Statement::End) => {
                 if let Way::Marks = way {
-                    return FileRead {
-                        outcome: Outcome::Accepted,
-                        table: t,
-                    };
+                    return Ok(());
                 }
-                let mut rows: [[u16; NUMBERS]; RULES] = [[0; NUMBERS]; RULES];
-                let mut i: usize = 0;
-                'rows: while i < count {
-                    let r = t.rules[i];
-                    rows::enter_rule(r, &mut rows[i]);
-                    i += 1;
+                let mut rows = [rows::empty_row(); RULES];
+                'rows: for i in 0..count {
+                    rows[i] = RuleRow::of(t.rules[i]);
                 }
-                let mut numbers: [u16; RULES] = [0; RULES];
-                let k = strata::least::find(&rows, count, &mut numbers);
-                if 0 < k {
-                    return refused(18, k);
+                let mut numbers = [0; RULES];
+                if let Err(rule) = strata::least::find(&rows[..count], &mut numbers) {
+                    return refuse(t, Refusal::Circle(rule));
                 }
-                let mut j: usize = 0;
-                'strata: while j < count {
+                'strata: for j in 0..count {
                     t.rules[j].stratum = numbers[j];
-                    j += 1;
                 }
-                return FileRead {
-                    outcome: Outcome::Accepted,
-                    table: t,
-                };
+                return Ok(());
             }
-            Kind::Slot(next) => {
-                let line = statement.line;
-                let name = line.name;
-                let spans = line.spans;
-                enter(&mut slotspans, &mut valuespans, width, name, spans);
-                t.slots[width] = slot_of(name, spans, line.count);
+            Ok(Statement::Slot(read)) => {
+                let line = read.value;
+                let values = line.values;
+                enter(
+                    &mut slotspans,
+                    &mut valuespans,
+                    width,
+                    line.name,
+                    values.places,
+                );
+                t.slots[width] = slot_of(line.name, values.places, values.count);
                 t.width += 1;
-                rest = &rest[next..];
-                base = base + next;
+                rest = &rest[read.next..];
+                base += read.next;
             }
-            Kind::Rule(next) => {
-                let rule = statement.rule;
-                t.rules[count] = rule;
+            Ok(Statement::Rule(read)) => {
+                t.rules[count] = read.value;
                 t.count += 1;
-                rest = &rest[next..];
-                base = base + next;
+                rest = &rest[read.next..];
+                base += read.next;
             }
-            Kind::Refused(k) => {
-                return refused(k, count);
-            }
+            Err(fault) => return refuse(t, Refusal::Statement(fault, count)),
         }
     }
+}
+
+// A refusal, with the table emptied.
+fn refuse(t: &mut Table, refusal: Refusal) -> Result<(), Refusal>
+    ensures { (result ≡ Err refusal) × (t.new ≡ empty_table) }
+{
+    *t = table::empty_table();
+    Err(refusal)
 }

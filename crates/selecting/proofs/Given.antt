@@ -1,6 +1,6 @@
 -- What the selection is given: a declared pair has a place, and rule i + 1 is that of row i.
 -- Assumes nothing.
-use mathlib.Core.Path.{◌≡◌, refl, ap, ◌∙◌}
+use mathlib.Core.Path.{◌≡◌, refl, sym, ap, ◌∙◌}
 use mathlib.Core.Bool.{false}
 use mathlib.Core.List.{List, []}
 use Prim.Native.Nat.{ℕ, zero, suc, ◌*◌, ◌≤◌, ◌<◌}
@@ -17,11 +17,14 @@ use Rattle.table.specs.inner.Flat.{Placed}
 use Rattle.table.proofs.Link.{rule_at_is}
 use Rattle.table.proofs.Fits.{count_of}
 use Rattle.rows.specs.inner.Rows.{rule_in, table_in, RowsFit}
+use Rattle.rows.specs.declared.RuleRow.{RuleRow}
+use Rattle.rows.specs.inner.RuleRows.{numbers_of}
+use Rattle.rows.proofs.RuleRows.{at_row}
 use Rattle.rows.proofs.Laws.{rule_row, rows_count, rows_table_shaped, rows_table_fits}
 use Rattle.marks.specs.Marks.{declared_pairs}
 use Rattle.marks.specs.inner.Declared.{Declared}
 use Rattle.marks.proofs.Pairs.{declared_iff}
-use Rattle.selecting.specs.inner.Selected.{SetAside, Counts}
+use Rattle.selecting.specs.inner.Selected.{SetAside}
 use Rattle.selecting.proofs.Live.{assigned_at}
 
 -- The rules of the first n rows.
@@ -29,16 +32,19 @@ abbrev pub rules_in : List (List ℕ) → ℕ → List Rule
 rules_in rows n = rules_of (table_in rows n)
 
 -- Rows that fit, at most 32 slots with at most 15 values each, and rules and a slip of declared pairs.
-pub record Given (rows : List (List ℕ)) (n : ℕ) (ks : List ℕ) (width : ℕ) (counts : List ℕ) (I : List Pair) : Type 0 where
+pub record Given (rows : List (List ℕ)) (n : ℕ) (counts : List ℕ) (I : List Pair) : Type 0 where
   pub rows_fit : RowsFit rows n
-  pub counted : Counts ks width counts
-  pub narrow : width ≤ slot_limit
-  pub few_values : (s : ℕ) → s < width → get_or counts s 0 ≤ value_limit
-  pub all_declared : Declared (declared_pairs ks) (rules_in rows n) I
+  pub narrow : length counts ≤ slot_limit
+  pub few_values : (s : ℕ) → s < length counts → get_or counts s 0 ≤ value_limit
+  pub all_declared : Declared (declared_pairs counts) (rules_in rows n) I
 
 -- Rule i + 1 is that of row i.
 pub rule_at_row : (rows : List (List ℕ)) (n i : ℕ) → i < n → rule_at (rules_in rows n) (suc i) ≡ rule_of (rule_in (get_or rows i []))
 rule_at_row rows n i h = rule_at_is (table_in rows n) i (rw (rows_count rows n) h) ∙ ap rule_of (rule_row rows n i)
+
+-- The numbers of the row that a loop or an index hands.
+pub item_numbers : (rows : List RuleRow) (i : ℕ) (row : RuleRow) → i < length rows → row ≡ get_or rows i row → get_or (numbers_of rows) i [] ≡ row.numbers
+item_numbers rows i row h e = at_row rows i row h ∙ ap (λ (r : RuleRow). r.numbers) (sym e)
 
 -- Arrays of as many places as m rules take are set aside for n.
 pub set_aside : (m n : ℕ) → n ≤ m → SetAside n (replicate (m * 9) 0) (replicate m false) (replicate m false) (replicate m 0)
@@ -51,20 +57,17 @@ set_aside m n h = record {
   woken_room = rw (length-replicate {A = ℕ} m 0) h;
 }
 
-module _ (rows : List (List ℕ)) (n : ℕ) (ks : List ℕ) (width : ℕ) (counts : List ℕ) (I : List Pair) (G : Given rows n ks width counts I) where
+module _ (rows : List (List ℕ)) (n : ℕ) (counts : List ℕ) (I : List Pair) (G : Given rows n counts I) where
   -- A declared pair has one of the slots, and NONE or one of its values.
-  pub declared_value : (p : Pair) → T (among p (declared_pairs ks)) → (p.slot < width) × (p.value ≤ get_or counts p.slot 0)
-  declared_value p t =
-      let w = (declared_iff ks p).0 t in
-      let l : p.slot < width = omega (arith, w.0, G.counted.slots) in
-      (l, omega (arith, w.1, G.counted.each p.slot l))
+  pub declared_value : (p : Pair) → T (among p (declared_pairs counts)) → (p.slot < length counts) × (p.value ≤ get_or counts p.slot 0)
+  declared_value p t = let w = (declared_iff counts p).0 t in (w.0, w.1)
 
   -- And back.
-  pub value_declared : (p : Pair) → p.slot < width → p.value ≤ get_or counts p.slot 0 → T (among p (declared_pairs ks))
-  value_declared p l hi = (declared_iff ks p).1 (omega (arith, G.counted.slots), omega (arith, G.counted.each p.slot l))
+  pub value_declared : (p : Pair) → p.slot < length counts → p.value ≤ get_or counts p.slot 0 → T (among p (declared_pairs counts))
+  value_declared p l hi = (declared_iff counts p).1 (l, hi)
 
   -- So it has a place.
-  pub declared_placed : (p : Pair) → T (among p (declared_pairs ks)) → Placed p.slot p.value
+  pub declared_placed : (p : Pair) → T (among p (declared_pairs counts)) → Placed p.slot p.value
   declared_placed p t = let w = declared_value p t in record { in_slots = omega (arith, w.0, G.narrow); in_row = omega (arith, w.1, G.few_values p.slot w.0) }
 
   -- There are n rules.
@@ -81,5 +84,5 @@ module _ (rows : List (List ℕ)) (n : ℕ) (ks : List ℕ) (width : ℕ) (count
   number_row (suc i) j = (i, omega (arith, j.last, rule_count), refl)
 
   -- What a row assigns is declared.
-  pub assigns_declared : (i : ℕ) (p : Pair) → i < n → T (among p (assigned_at rows i)) → T (among p (declared_pairs ks))
+  pub assigns_declared : (i : ℕ) (p : Pair) → i < n → T (among p (assigned_at rows i)) → T (among p (declared_pairs counts))
   assigns_declared i p h t = G.all_declared.assigned (suc i) p (row_number i h) (rw (rule_at_row rows n i h) t)

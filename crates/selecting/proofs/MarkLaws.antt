@@ -21,11 +21,13 @@ use Rattle.model.specs.Result.{pair}
 use Rattle.model.proofs.Pairs.{same_refl, same_eq}
 use Rattle.table.specs.inner.Flat.{Placed, pair_places, place_of, pair_at, set_of}
 use Rattle.table.proofs.Flat.{placed_inside, set_in, set_more, at_place}
+use Rattle.truths.specs.declared.Truth3.{Truth3}
 use Rattle.truths.specs.declared.Truth3.TheVariants.{True, False, Unknown}
-use Rattle.truths.specs.Truths.{number}
+use Rattle.truths.specs.Truths.{is_true}
 use Rattle.marks.specs.Marks.{Marks, update, rivals, truth_had, truth_turns}
 use Rattle.marks.proofs.Updates.{SameAt, rivals_i, rivals_e}
-use Rattle.judging.specs.inner.Known.{Known, known, marks_of, Truths}
+use Rattle.judging.specs.declared.truth.Known.{Known}
+use Rattle.judging.specs.inner.Known.{known, marks_of, Truths}
 use Rattle.marking.specs.inner.Marked.{ruled_out, made_positive, rival_out, rivals_out, marked, unassigned_one, unassigned_out}
 use Rattle.selecting.specs.inner.Selected.{CardIs}
 
@@ -59,9 +61,9 @@ module _ (S : List ℕ) where
   turns_same Y Z p a b = rw (a, b)
 
   -- The mark of one pair alone changes, and its test.
-  truths_one : (k : Known) (positive negative : List Bool) (q : Pair) (x : ℕ) → Truths S k → Placed q.slot q.value
+  truths_one : (k : Known) (positive negative : List Bool) (q : Pair) (x : Truth3) → Truths S k → Placed q.slot q.value
       → ((p : Pair) → (¬ (p ≡ q)) → (set_of positive p ≡ set_of k.positive p) × (set_of negative p ≡ set_of k.negative p))
-      → x ≡ number (truth_turns S (record { positive = set_of positive; negative = set_of negative }) q)
+      → x ≡ truth_turns S (record { positive = set_of positive; negative = set_of negative }) q
       → Truths S (known positive negative (set k.truth (pair_places + place_of q) x))
   unfolding truth_had
   truths_one k positive negative q x W h others e =
@@ -69,49 +71,49 @@ module _ (S : List ℕ) where
       let i = placed_inside q h in
       record {
         size = length-set k.truth (pair_places + place_of q) x ∙ W.size;
-        had = λ r b. get_or-set_other k.truth (pair_places + place_of q) r x 0 (λ (z : r ≡ pair_places + place_of q). omega arith) ∙ W.had r b;
+        had = λ r b. get_or-set_other k.truth (pair_places + place_of q) r x False (λ (z : r ≡ pair_places + place_of q). omega arith) ∙ W.had r b;
         turns = λ r b. ⊎_elim
-            (λ (z : r ≡ place_of q). rw (z, get_or-set_same k.truth (pair_places + place_of q) x 0 (omega arith))
-            (e ∙ ap (λ (p : Pair). number (truth_turns S (record { positive = set_of positive; negative = set_of negative }) p)) (sym (at_place q h.in_row))))
+            (λ (z : r ≡ place_of q). rw (z, get_or-set_same k.truth (pair_places + place_of q) x False (omega arith))
+            (e ∙ ap (λ (p : Pair). truth_turns S (record { positive = set_of positive; negative = set_of negative }) p) (sym (at_place q h.in_row))))
             (λ (z : r ≡ place_of q → ⊥).
             let w = others (pair_at r) (λ y. z (omega (arith, ap (λ (p : Pair). place_of p) y))) in
-            get_or-set_other k.truth (pair_places + place_of q) (pair_places + r) x 0 (λ (y : pair_places + r ≡ pair_places + place_of q). z (omega arith)) ∙ W.turns r b
-            ∙ ap number (sym (turns_same (record { positive = set_of positive; negative = set_of negative }) (marks_of k) (pair_at r) w.0 w.1)))
+            get_or-set_other k.truth (pair_places + place_of q) (pair_places + r) x False (λ (y : pair_places + r ≡ pair_places + place_of q). z (omega arith)) ∙ W.turns r b
+            ∙ sym (turns_same (record { positive = set_of positive; negative = set_of negative }) (marks_of k) (pair_at r) w.0 w.1))
             (either r (place_of q));
       }
 
   -- A pair that is not positive is ruled out.
   out_whole : (k : Known) (q : Pair) → Whole S k → Placed q.slot q.value → (¬ T (set_of k.positive q)) → Whole S (ruled_out (place_of q) k)
-  unfolding ruled_out truth_turns number ◌∧ᵇ◌ ◌∨ᵇ◌
+  unfolding ruled_out truth_turns ◌∧ᵇ◌ ◌∨ᵇ◌
   out_whole k q W h n =
       let i : place_of q < length k.negative = omega (arith, W.negative_size, placed_inside q h) in
       record {
         positive_size = W.positive_size;
         negative_size = length-set k.negative (place_of q) true ∙ W.negative_size;
-        truths = truths_one k k.positive (set k.negative (place_of q) true) q 0 W.truths h (λ p m. (refl, set_there k.negative q p h.in_row i m))
+        truths = truths_one k k.positive (set k.negative (place_of q) true) q False W.truths h (λ p m. (refl, set_there k.negative q p h.in_row i m))
             (is_False (set_of k.positive q) (set_of (set k.negative (place_of q) true) q) (was S q) n (set_here k.negative q h.in_row i));
       }
     where
-      is_False : (a b w : Bool) → (¬ T a) → T b → ◌≡◌ {A = ℕ} 0 (number (cond (a ∧ᵇ notᵇ w) True (cond (b ∨ᵇ w) False Unknown)))
+      is_False : (a b w : Bool) → (¬ T a) → T b → False ≡ cond (a ∧ᵇ notᵇ w) True (cond (b ∨ᵇ w) False Unknown)
       is_False true b w n t = absurd (n tt)
       is_False false true w n t = refl
       is_False false false w n t = absurd t
 
   -- A pair becomes positive.
   positive_whole : (k : Known) (q : Pair) → Whole S k → Placed q.slot q.value → Whole S (made_positive (place_of q) k)
-  unfolding made_positive truth_had truth_turns number ◌∧ᵇ◌ notᵇ ◌∨ᵇ◌
+  unfolding made_positive truth_had truth_turns is_true ◌∧ᵇ◌ notᵇ ◌∨ᵇ◌
   positive_whole k q W h =
       let i : place_of q < length k.positive = omega (arith, W.positive_size, placed_inside q h) in
-      let e : get_or k.truth (place_of q) 0 ≡ number (truth_had S (marks_of k) q) =
-      W.truths.had (place_of q) (placed_inside q h) ∙ ap (λ (p : Pair). number (truth_had S (marks_of k) p)) (at_place q h.in_row) in
+      let e : get_or k.truth (place_of q) False ≡ truth_had S (marks_of k) q =
+      W.truths.had (place_of q) (placed_inside q h) ∙ ap (λ (p : Pair). truth_had S (marks_of k) p) (at_place q h.in_row) in
       record {
         positive_size = length-set k.positive (place_of q) true ∙ W.positive_size;
         negative_size = W.negative_size;
         truths = truths_one k (set k.positive (place_of q) true) k.negative q _ W.truths h (λ p m. (set_there k.positive q p h.in_row i m, refl))
-            (ap (λ (y : ℕ). cond (eqb y 2) 0 2) e ∙ unless_had (was S q) (set_of (set k.positive (place_of q) true) q) (set_of k.negative q) (set_here k.positive q h.in_row i));
+            (ap (λ (y : Truth3). cond (is_true y) False True) e ∙ unless_had (was S q) (set_of (set k.positive (place_of q) true) q) (set_of k.negative q) (set_here k.positive q h.in_row i));
       }
     where
-      unless_had : (w a b : Bool) → T a → ◌≡◌ {A = ℕ} (cond (eqb (number (cond w True False)) 2) 0 2) (number (cond (a ∧ᵇ notᵇ w) True (cond (b ∨ᵇ w) False Unknown)))
+      unless_had : (w a b : Bool) → T a → cond (is_true (cond w True False)) False True ≡ cond (a ∧ᵇ notᵇ w) True (cond (b ∨ᵇ w) False Unknown)
       unless_had true true true t = refl
       unless_had true true false t = refl
       unless_had false true b t = refl

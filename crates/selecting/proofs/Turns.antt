@@ -10,45 +10,20 @@ use Rattle.laws.specs.Limits.{rule_limit}
 use Rattle.laws.specs.inner.Flags.{flags_set}
 use Rattle.laws.proofs.Flags.{flags_more, flags_top}
 use Rattle.rows.proofs.Laws.{at_last}
-use Rattle.testing.specs.inner.Waiting.{Woken}
+use Rattle.testing.specs.inner.Waiting.{turn_or}
 use Rattle.testing.specs.declared.waiting.Turn.{Turn}
-use Rattle.marking.specs.inner.Waking.{turn_at}
+use Rattle.testing.proofs.Lists.{or_place, or_less}
 
 module _ (k : ℕ) (woken : List ℕ) where
-  -- The rule looked at next is one,
-  pub turn_rule : (left : ℕ) (u : Turn) → u ≡ turn_at k woken left → (n : ℕ) → k < n + left → Woken n left woken → u.rule < n
-  unfolding turn_at
-  turn_rule zero u e n h w = rw e (omega (arith, h))
-  turn_rule (suc left) u e n h w = rw e (w.low left (omega arith))
-
-  -- those woken before it stay,
-  pub turn_woken : (left : ℕ) (u : Turn) → u ≡ turn_at k woken left → (n : ℕ) → Woken n left woken → Woken n u.left woken
-  unfolding turn_at
-  turn_woken zero u e n w = rw e w
-  turn_woken (suc left) u e n w = rw e (record { room = w.room; few = omega (arith, w.few); low = λ j h. w.low j (omega arith) })
-
-  -- the place stays within the rules,
-  pub turn_place : (left : ℕ) (u : Turn) → u ≡ turn_at k woken left → (n : ℕ) → k < n + left → k ≤ n → u.place ≤ n
-  unfolding turn_at
+  -- The place stays within the rules,
+  pub turn_place : (left : ℕ) (u : Turn) → u ≡ turn_or k k woken left → (n : ℕ) → k < n + left → k ≤ n → u.place ≤ n
   turn_place zero u e n h l = rw e (omega (arith, h))
   turn_place (suc left) u e n h l = rw e l
 
-  further : (left : ℕ) (u : Turn) → u ≡ turn_at k woken left → k ≤ u.place
-  unfolding turn_at
-  further zero u e = rw e (omega arith)
-  further (suc left) u e = rw e (omega arith)
-
-  -- a place passed is that of the rule or was passed before,
-  pub turn_seen : (left : ℕ) (u : Turn) → u ≡ turn_at k woken left → (P : ℕ → Type 0) → ((i : ℕ) → i < k → P i) → P u.rule → (i : ℕ) → i < u.place → P i
-  unfolding turn_at
+  -- and a place passed is that of the rule or was passed before.
+  pub turn_seen : (left : ℕ) (u : Turn) → u ≡ turn_or k k woken left → (P : ℕ → Type 0) → ((i : ℕ) → i < k → P i) → P u.rule → (i : ℕ) → i < u.place → P i
   turn_seen zero u e P seen here i h = at_last P k seen (rw e at here) i (rw e at h)
   turn_seen (suc left) u e P seen here i h = seen i (rw e at h)
-
-  -- and less is left to look at.
-  turn_less : (left : ℕ) (u : Turn) → u ≡ turn_at k woken left → (n : ℕ) → k < n + left → u.left + (n - u.place) < left + (n - k)
-  unfolding turn_at
-  turn_less zero u e n h = rw e (omega (arith, h))
-  turn_less (suc left) u e n h = rw e (omega arith)
 
 -- How many places of rules are not done, each counted for being unfired and for not being dead.
 unfoldable pub open_rules : List Bool → List Bool → ℕ
@@ -96,19 +71,19 @@ module _ (fired₀ dead₀ fired dead : List Bool) (moved : Bool) (i : ℕ) (k :
 unfoldable pub turns_left : List Bool → List Bool → ℕ → ℕ → ℕ → ℕ
 turns_left fired dead n k left = open_rules fired dead * (rule_limit + 1) + (left + (n - k))
 
-module _ (woken : List ℕ) (fired dead : List Bool) (n k left : ℕ) (u : Turn) (e : u ≡ turn_at k woken left) (h : k < n + left) where
+module _ (woken : List ℕ) (fired dead : List Bool) (n k left : ℕ) (u : Turn) (e : u ≡ turn_or k k woken left) (h : k < n + left) where
   pub turn_over : turns_left fired dead n u.place u.left < turns_left fired dead n k left
   unfolding turns_left
-  turn_over = omega (arith, turn_less k woken left u e n h)
+  turn_over = omega (arith, or_less k k woken left u e n h)
 
   module _ (left' i : ℕ) (few : left' ≤ n) (top : n ≤ rule_limit) where
     pub turn_fire : i < length fired → get_or fired i false ≡ false → turns_left (set fired i true) dead n u.place left' < turns_left fired dead n k left
     unfolding turns_left
-    turn_fire l o = let m = open_fired fired dead i l o in omega (arith, m, further k woken left u e)
+    turn_fire l o = let m = open_fired fired dead i l o in omega (arith, m, or_place k k woken left u e)
 
     pub turn_kill : i < length dead → get_or dead i false ≡ false → turns_left fired (set dead i true) n u.place left' < turns_left fired dead n k left
     unfolding turns_left
-    turn_kill l o = let m = open_dead fired dead i l o in omega (arith, m, further k woken left u e)
+    turn_kill l o = let m = open_dead fired dead i l o in omega (arith, m, or_place k k woken left u e)
 
 -- How many sweeps may still come.
 unfoldable pub sweeps_left : List Bool → List Bool → Bool → ℕ

@@ -1,25 +1,35 @@
 // The selection of document 02, section 3, over rows: rules are fired and pairs ruled out until nothing more applies.
 #![tactic(auto)]
 
-ghost use Rattle.selecting.specs.inner.Selected.{Selectable, SetAside, SelectedBy};
+ghost use Rattle.std.specs.Prelude.{◌≡◌, ◌*◌, ◌≤◌, IfErr, length};
+ghost use Rattle.laws.specs.Limits.{rule_limit};
+ghost use Rattle.refusals.specs.Numbers.{refusal_second};
+ghost use Rattle.selecting.specs.inner.Selected.{Selectable, SetAside, SelectedBy, number_from_0};
 
 use judging::counting::{count_assigned, release};
-use judging::truth::{rule_truth, truth_of};
+use judging::truth::{Known, rule_truth, truth_of};
 use marking::pairs::{all_known, assign, first_negative, rule_out_unassigned};
-use marking::waking::{EACH, chain, next_rule};
-use rows::{FEW, NUMBERS, SOME};
+use marking::waking::{EACH, chain};
+use refusals::Refusal;
+use rows::{FEW, RuleRow, SOME};
 use table::{PAIRS, RULES, SLOTS};
+use testing::waiting::next_or;
 use truths::Truth3;
 
+// The places where so many rules can test a pair.
+const FEW_PLACES: usize = FEW * EACH;
+
+const SOME_PLACES: usize = SOME * EACH;
+
+const ALL_PLACES: usize = RULES * EACH;
+
 // Selects until nothing more applies: an unfired rule that is True is fired, a pair that only False rules assign is ruled out.
-// 0 with the positive pairs and the fired rules, 41 where a pair would be both positive and negative, else 42 where a pair stays unknown.
+// It leaves its positive pairs and its fired rules in what it is lent, or refuses with a clash where a pair would be both positive and negative, else where a pair stays unknown.
 // A rule is looked at again when a pair that it tests is marked; a sweep over all rules that moves nothing is the last.
-// What it keeps of each rule stands in arrays that it is lent.
+// What it keeps of each rule stands in arrays that it is lent, since they have one of three sizes; `nexts` has nine places a rule, so that they are no one array of structs.
 fn select_with(
-    rows: &[[u16; NUMBERS]],
-    n: usize,
-    width: usize,
-    counts: &[usize; SLOTS],
+    rows: &[RuleRow],
+    counts: &[usize],
     card: &[u8; SLOTS],
     positive: &mut [bool; PAIRS],
     fired: &mut [bool],
@@ -27,152 +37,90 @@ fn select_with(
     dead: &mut [bool],
     queued: &mut [bool],
     woken: &mut [u16],
-) -> u8
-    requires { Selectable rows.now n width counts.now card.now positive.old fired.old × SetAside n nexts.old dead.old queued.old woken.old }
-    ensures { SelectedBy rows.now n width counts.now card.now positive.old result positive.new fired.new }
+) -> Result<(), Refusal>
+    requires { Selectable rows.now counts.now card.now positive.old fired.old × SetAside (length rows.now) nexts.old dead.old queued.old woken.old }
+    ensures selected { SelectedBy rows.now counts.now card.now positive.old (number_from_0 result) positive.new fired.new }
+    ensures second { IfErr result (λ r. refusal_second r ≡ 0) }
 {
+    let n = rows.len();
     let mut live: [u16; PAIRS] = [0; PAIRS];
     let mut heads: [u16; PAIRS] = [0; PAIRS];
-    let mut e: usize = 0;
-    'enter: while e < n {
-        count_assigned(&rows[e], &mut live);
-        chain(&rows[e], e, &mut heads, nexts);
-        e += 1;
+    'enter: for (e, row) in rows.iter().enumerate() {
+        count_assigned(row, &mut live);
+        chain(row, e, &mut heads, nexts);
     }
-    let mut negative = first_negative(width, &live, positive);
-    let mut truth = truth_of(card, positive, &negative);
+    let given = *positive;
+    let negative = first_negative(counts.len(), &live, positive);
+    let truth = truth_of(card, positive, &negative);
+    let mut marks = Known {
+        positive: given,
+        negative,
+        truth,
+    };
     let mut moved = true;
+    // As many sweeps as move something: no range is known before.
     'sweeps: while moved {
         moved = false;
         let mut k: usize = 0;
         let mut left: usize = 0;
+        // The end moves with the rules that are woken.
         'rules: while k < n + left {
-            let turn = next_rule(k, woken, left);
+            let turn = next_or(k, k, woken, left);
             let i = turn.rule;
             k = turn.place;
             left = turn.left;
-            if fired[i] {
-                continue 'rules;
-            }
-            if dead[i] {
+            if fired[i] || dead[i] {
                 continue 'rules;
             }
             queued[i] = false;
-            let x = rule_truth(&rows[i], &truth);
-            match x {
+            let row = &rows[i];
+            match rule_truth(row, &marks.truth) {
                 Truth3::True => {
                     moved = true;
                     fired[i] = true;
-                    let marked = assign(
-                        &rows[i],
-                        n,
-                        counts,
-                        positive,
-                        &mut negative,
-                        &mut truth,
-                        &heads,
-                        nexts,
-                        queued,
-                        woken,
-                        left,
-                    );
-                    if marked.clash {
-                        return 41;
-                    }
-                    left = marked.left;
-                    continue 'rules;
+                    left = assign(
+                        row, n, counts, &mut marks, &heads, nexts, queued, woken, left,
+                    )
+                    .ok_or(Refusal::Clash)?;
                 }
                 Truth3::False => {
                     moved = true;
                     dead[i] = true;
-                    release(&rows[i], &mut live);
+                    release(row, &mut live);
                     left = rule_out_unassigned(
-                        &rows[i],
-                        n,
-                        &live,
-                        positive,
-                        &mut negative,
-                        &mut truth,
-                        &heads,
-                        nexts,
-                        queued,
-                        woken,
-                        left,
+                        row, n, &live, &mut marks, &heads, nexts, queued, woken, left,
                     );
-                    continue 'rules;
                 }
-                Truth3::Unknown => {
-                    continue 'rules;
-                }
+                Truth3::Unknown => {}
             }
         }
     }
-    if all_known(width, counts, positive, &negative) {
-        0
+    if all_known(counts, &marks) {
+        *positive = marks.positive;
+        Ok(())
     } else {
-        42
+        Err(Refusal::Unknown)
     }
 }
 
-// Selects in arrays of one of three sizes, by how many rules there are.
-pub fn select(
-    rows: &[[u16; NUMBERS]],
-    n: usize,
-    width: usize,
-    counts: &[usize; SLOTS],
+// Selects with room for N rules set aside, and for PLACES where they test a pair.
+fn select_in<const N: usize, const PLACES: usize>(
+    rows: &[RuleRow],
+    counts: &[usize],
     card: &[u8; SLOTS],
     positive: &mut [bool; PAIRS],
     fired: &mut [bool],
-) -> u8
-    requires { Selectable rows.now n width counts.now card.now positive.old fired.old }
-    ensures { SelectedBy rows.now n width counts.now card.now positive.old result positive.new fired.new }
+) -> Result<(), Refusal>
+    requires { Selectable rows.now counts.now card.now positive.old fired.old × (length rows.now ≤ N) × (N ≤ rule_limit) × (PLACES ≡ N * 9) }
+    ensures selected { SelectedBy rows.now counts.now card.now positive.old (number_from_0 result) positive.new fired.new }
+    ensures second { IfErr result (λ r. refusal_second r ≡ 0) }
 {
-    if n <= FEW {
-        let mut nexts: [u16; FEW * EACH] = [0; FEW * EACH];
-        let mut dead: [bool; FEW] = [false; FEW];
-        let mut queued: [bool; FEW] = [false; FEW];
-        let mut woken: [u16; FEW] = [0; FEW];
-        return select_with(
-            rows,
-            n,
-            width,
-            counts,
-            card,
-            positive,
-            fired,
-            &mut nexts,
-            &mut dead,
-            &mut queued,
-            &mut woken,
-        );
-    }
-    if n <= SOME {
-        let mut nexts: [u16; SOME * EACH] = [0; SOME * EACH];
-        let mut dead: [bool; SOME] = [false; SOME];
-        let mut queued: [bool; SOME] = [false; SOME];
-        let mut woken: [u16; SOME] = [0; SOME];
-        return select_with(
-            rows,
-            n,
-            width,
-            counts,
-            card,
-            positive,
-            fired,
-            &mut nexts,
-            &mut dead,
-            &mut queued,
-            &mut woken,
-        );
-    }
-    let mut nexts: [u16; RULES * EACH] = [0; RULES * EACH];
-    let mut dead: [bool; RULES] = [false; RULES];
-    let mut queued: [bool; RULES] = [false; RULES];
-    let mut woken: [u16; RULES] = [0; RULES];
+    let mut nexts: [u16; PLACES] = [0; PLACES];
+    let mut dead: [bool; N] = [false; N];
+    let mut queued: [bool; N] = [false; N];
+    let mut woken: [u16; N] = [0; N];
     select_with(
         rows,
-        n,
-        width,
         counts,
         card,
         positive,
@@ -182,4 +130,25 @@ pub fn select(
         &mut queued,
         &mut woken,
     )
+}
+
+// Selects in arrays of one of three sizes, by how many rules there are.
+pub fn select(
+    rows: &[RuleRow],
+    counts: &[usize],
+    card: &[u8; SLOTS],
+    positive: &mut [bool; PAIRS],
+    fired: &mut [bool],
+) -> Result<(), Refusal>
+    requires { Selectable rows.now counts.now card.now positive.old fired.old }
+    ensures selected { SelectedBy rows.now counts.now card.now positive.old (number_from_0 result) positive.new fired.new }
+    ensures second { IfErr result (λ r. refusal_second r ≡ 0) }
+{
+    if rows.len() <= FEW {
+        return select_in::<FEW, { FEW_PLACES }>(rows, counts, card, positive, fired);
+    }
+    if rows.len() <= SOME {
+        return select_in::<SOME, { SOME_PLACES }>(rows, counts, card, positive, fired);
+    }
+    select_in::<RULES, { ALL_PLACES }>(rows, counts, card, positive, fired)
 }

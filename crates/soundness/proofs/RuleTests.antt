@@ -1,12 +1,12 @@
 -- The tests of a rule: one pair, one literal, one assignment after the other.
 -- Assumes nothing.
 use mathlib.Core.Path.{◌≡◌, refl, ◌∙◌}
-use mathlib.Core.Bool.{Bool, true, false}
+use mathlib.Core.Bool.{Bool, true, false, ◌&&◌, ◌||◌}
 use mathlib.Core.List.{List, [], ◌∷◌, map}
-use Prim.Native.Nat.{ℕ, zero, suc, ◌≤◌, ◌<◌}
+use Prim.Native.Nat.{ℕ, zero, suc, ◌+◌, ◌-◌, ◌≤◌, ◌<◌}
 use native.Mathlib.Omega.{arith}
 use lib.Dec.{eqb, leb}
-use lib.ListN.{get_or}
+use lib.ListN.{get_or, take, drop}
 use borrow.Author.Tests.{ne_eqb, le-leb, lt-leb}
 use Rattle.laws.specs.Truth.{◌∧ᵇ◌, ◌∨ᵇ◌, notᵇ}
 use Rattle.laws.specs.Listed.{all_of}
@@ -14,8 +14,13 @@ use Rattle.laws.proofs.Equations.{and_false}
 use Rattle.laws.proofs.Listed.{all_append}
 use Rattle.model.specs.Rules.{Pair, assigns, each_once}
 use Rattle.table.specs.declared.Rule.{Rule}
+use Rattle.model.specs.Result.{pair}
+use Rattle.std.specs.List.{list_all, list_any}
+use Rattle.table.specs.declared.Literal.{Literal}
+use Rattle.table.specs.declared.Assignment.{Assignment}
+use Rattle.std.proofs.lemmas.List.{drop-take, drop-map}
 use Rattle.laws.specs.Limits.{value_limit, literal_limit, assignment_limit}
-use Rattle.table.specs.Link.{rule_of, literals_of, assignments_of}
+use Rattle.table.specs.Link.{literal_of, assignment_of, rule_of, literals_of, assignments_of}
 use Rattle.names.specs.Names.{has_slot, has_value}
 use Rattle.soundness.specs.Sound.{has_pair, named}
 use Rattle.soundness.specs.inner.Right.{rule_right}
@@ -41,17 +46,31 @@ none_or_value count (suc v) h = rw (ne_eqb (suc v) 0 (λ z. omega (arith, z)), l
 pub pair_within : (width : ℕ) (counts : List ℕ) (p : Pair) → has_slot width p.slot ≡ true → p.value ≤ value_limit → has_pair width counts p ≡ leb p.value (get_or counts p.slot 0)
 pair_within width counts p e h = pair_there width counts p e ∙ none_or_value (get_or counts p.slot 0) p.value h
 
-pub all_stop : {A : Type 0} (f : A → Bool) (x : A) (xs : List A) → f x ≡ false → all_of f (x ∷ xs) ≡ false
+-- A test of the pairs of some literals, literal by literal.
+pub all_pairs : (f : Pair → Bool) (ls : List Literal) → list_all (λ l. f (pair l.slot l.value)) ls ≡ all_of f (map (λ l. l.pair) (map literal_of ls))
 unfolding all_of ◌∧ᵇ◌
-all_stop f x xs e = rw e
+all_pairs f [] = refl
+all_pairs f (l ∷ ls) = go (f (pair l.slot l.value)) (all_pairs f ls)
+  where
+    go : (t : Bool) → list_all (λ l. f (pair l.slot l.value)) ls ≡ all_of f (map (λ l. l.pair) (map literal_of ls)) → t && list_all (λ l. f (pair l.slot l.value)) ls ≡ t ∧ᵇ all_of f (map (λ l. l.pair) (map literal_of ls))
+    go true e = e
+    go false e = refl
 
-pub all_on : {A : Type 0} (f : A → Bool) (x : A) (xs : List A) → f x ≡ true → all_of f (x ∷ xs) ≡ all_of f xs
-unfolding all_of ◌∧ᵇ◌
-all_on f x xs e = rw e
+-- Some assignment assigns the slot.
+any_assigns : (xs : List Assignment) (s : ℕ) → list_any (λ a. eqb a.slot s) xs ≡ assigns (map assignment_of xs) s
+unfolding assigns ◌∨ᵇ◌
+any_assigns [] s = refl
+any_assigns (x ∷ xs) s = go (eqb x.slot s) (any_assigns xs s)
+  where
+    go : (t : Bool) → list_any (λ a. eqb a.slot s) xs ≡ assigns (map assignment_of xs) s → t || list_any (λ a. eqb a.slot s) xs ≡ t ∨ᵇ assigns (map assignment_of xs) s
+    go true e = refl
+    go false e = e
 
-pub all_none : {A : Type 0} (f : A → Bool) → all_of f [] ≡ true
-unfolding all_of
-all_none f = refl
+-- The same from place k on to place m.
+pub any_from : (xs : List Assignment) (k m s : ℕ) → k ≤ m → list_any (λ a. eqb a.slot s) (take (m - k) (drop k xs)) ≡ assigns (drop k (map assignment_of (take m xs))) s
+any_from xs k m s l =
+    let e : k + (m - k) ≡ m = omega (arith, l) in
+    rw (drop-map assignment_of k (take m xs), ← (drop-take k (m - k) xs), e) (any_assigns (drop k (take m xs)) s)
 
 -- Both tests of some assignments.
 unfoldable pub both_right : (Pair → Bool) → List Pair → Bool
@@ -73,30 +92,18 @@ pub both_none : (f : Pair → Bool) → both_right f [] ≡ true
 unfolding both_right all_of each_once ◌∧ᵇ◌
 both_none f = refl
 
--- The test of a rule, as far as it goes.
-module _ (width : ℕ) (counts : List ℕ) (r : Rule) where
-  pub right_literals_many : literal_limit < r.tested → rule_right width counts r ≡ false
-  unfolding rule_right ◌∧ᵇ◌
-  right_literals_many h = rw (lt-leb r.tested literal_limit h)
+regroup : (a b t l s o : Bool) → (a ∧ᵇ b ∧ᵇ (t ∧ᵇ (l ∧ᵇ s)) ∧ᵇ o) ≡ (a ∧ᵇ (b ∧ᵇ (t ∧ᵇ (l ∧ᵇ (s ∧ᵇ o)))))
+unfolding ◌∧ᵇ◌
+regroup false b t l s o = refl
+regroup true false t l s o = refl
+regroup true true false l s o = refl
+regroup true true true false s o = refl
+regroup true true true true s o = refl
 
-  pub right_assignments_many : r.tested ≤ literal_limit → assignment_limit < r.assigned → rule_right width counts r ≡ false
-  unfolding rule_right ◌∧ᵇ◌
-  right_assignments_many h k = rw (le-leb r.tested literal_limit h, lt-leb r.assigned assignment_limit k)
-
-  named_all : all_of (has_pair width counts) (named r) ≡ (has_pair width counts (rule_of r).trigger ∧ᵇ (all_of (has_pair width counts) (map (λ l. l.pair) (literals_of r)) ∧ᵇ all_of (has_pair width counts) (assignments_of r)))
-  unfolding named all_of
-  named_all = rw (all_append (has_pair width counts) (map (λ l. l.pair) (literals_of r)) (assignments_of r))
-
-  pub right_trigger : r.tested ≤ literal_limit → r.assigned ≤ assignment_limit → has_pair width counts (rule_of r).trigger ≡ false → rule_right width counts r ≡ false
-  unfolding rule_right ◌∧ᵇ◌
-  right_trigger h k e = rw (le-leb r.tested literal_limit h, le-leb r.assigned assignment_limit k, named_all, e)
-
-  pub right_literals : r.tested ≤ literal_limit → r.assigned ≤ assignment_limit → has_pair width counts (rule_of r).trigger ≡ true
-      → all_of (has_pair width counts) (map (λ l. l.pair) (literals_of r)) ≡ false → rule_right width counts r ≡ false
-  unfolding rule_right ◌∧ᵇ◌
-  right_literals h k e d = rw (le-leb r.tested literal_limit h, le-leb r.assigned assignment_limit k, named_all, e, d)
-
-  pub right_assignments : r.tested ≤ literal_limit → r.assigned ≤ assignment_limit → has_pair width counts (rule_of r).trigger ≡ true
-      → all_of (has_pair width counts) (map (λ l. l.pair) (literals_of r)) ≡ true → rule_right width counts r ≡ both_right (has_pair width counts) (assignments_of r)
-  unfolding rule_right both_right ◌∧ᵇ◌
-  right_assignments h k e d = rw (le-leb r.tested literal_limit h, le-leb r.assigned assignment_limit k, named_all, e, d)
+-- The tests of a rule in the order of the code: the limits, the trigger, the literals, the assignments.
+pub right_is : (width : ℕ) (counts : List ℕ) (r : Rule)
+    → rule_right width counts r ≡ (leb r.tested literal_limit ∧ᵇ (leb r.assigned assignment_limit ∧ᵇ (has_pair width counts (rule_of r).trigger ∧ᵇ (all_of (has_pair width counts) (map (λ l. l.pair) (literals_of r)) ∧ᵇ both_right (has_pair width counts) (assignments_of r)))))
+unfolding rule_right named all_of both_right
+right_is width counts r =
+    rw (all_append (has_pair width counts) (map (λ l. l.pair) (literals_of r)) (assignments_of r))
+    (regroup (leb r.tested literal_limit) (leb r.assigned assignment_limit) (has_pair width counts (rule_of r).trigger) (all_of (has_pair width counts) (map (λ l. l.pair) (literals_of r))) (all_of (has_pair width counts) (assignments_of r)) (each_once (assignments_of r)))

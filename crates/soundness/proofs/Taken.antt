@@ -1,13 +1,13 @@
 -- 31 by the response asked: what both take, and what the response by marks takes beside it.
 -- Assumes nothing.
 use mathlib.Core.Path.{◌≡◌, refl, ap, ap₂, ◌∙◌}
-use mathlib.Core.Bool.{Bool, true, false}
+use mathlib.Core.Bool.{true, false}
 use mathlib.Core.List.{List, []}
 use mathlib.Core.Logic.{◌⊎◌, inl, inr, ⊎_elim, ◌↔◌}
 use Prim.Native.Nat.{ℕ, zero, suc, ◌<◌}
 use native.Mathlib.Omega.{arith}
 use lib.Dec.{T, eqb, eqb→eq}
-use lib.ListN.{length, get_or, get_or-eq_default}
+use lib.ListN.{length, take, get_or, get_or-eq_default}
 use borrow.Author.Tests.{eq-eqb}
 use Rattle.laws.specs.Truth.{◌∧ᵇ◌, ◌∨ᵇ◌}
 use Rattle.laws.specs.Listed.{all_of}
@@ -21,10 +21,12 @@ use Rattle.table.specs.Link.{rules_of, carried_strata, stratum_at}
 use Rattle.table.proofs.Link.{strata_length, stratum_is}
 use Rattle.table.specs.declared.Rule.{Rule}
 use Rattle.rows.specs.inner.Rows.{table_in, RowsFit}
+use Rattle.rows.specs.declared.RuleRow.{RuleRow}
+use Rattle.rows.specs.inner.RuleRows.{rows_table}
 use Rattle.rows.proofs.Laws.{rule_row, rows_count, rows_table_shaped}
 use Rattle.leastness.specs.CarriesLeast.{carries_least}
 use Rattle.soundness.specs.Sound.{well_formed, sound, stratum_0, strata_right, takes}
-use Rattle.soundness.specs.inner.Admitted.{Admitted, Enters}
+use Rattle.soundness.specs.inner.Admitted.{Admitted, EntryKept}
 use Rattle.soundness.specs.declared.Entry.{Entry}
 use Rattle.soundness.proofs.Admitted.{admitted_least}
 use Rattle.soundness.proofs.WellFormed.{sound_parts}
@@ -82,14 +84,14 @@ stratum_0_sound t w u = (there (length (rules_of t)) refl, back)
     })
 
 -- The rows of an admitted table carry what the response asked takes exactly where the table does.
-admitted_right : (way : Way) (t : Table) (counts : List ℕ) (rows : List (List ℕ)) → Admitted t counts rows → strata_right way (table_in rows t.count) ≡ strata_right way t
+admitted_right : (way : Way) (t : Table) (counts : List ℕ) (rows : List RuleRow) → Admitted t counts rows → strata_right way (rows_table (take t.count rows)) ≡ strata_right way t
 unfolding strata_right stratum_0
 admitted_right Strata t counts rows a = admitted_least t counts rows a
 admitted_right Marks t counts rows a = ap₂ (λ x y. x ∨ᵇ y) (ap (all_of (λ s. eqb s 0)) a.same_strata) (admitted_least t counts rows a)
 
 -- So by the number of rules that is said when it is entered.
-pub entered_right : (way : Way) (t : Table) (passes : Bool) (e : Entry) (counts : List ℕ) (rows : List (List ℕ)) → e.passed ≡ true → Enters t passes e counts rows → strata_right way (table_in rows e.count) ≡ strata_right way t
-entered_right way t passes e counts rows p w = rw (w.count_is p) (admitted_right way t counts rows (w.admitted p))
+pub kept_right : (way : Way) (t : Table) (e : Entry) (counts : List ℕ) (rows : List RuleRow) → EntryKept t e counts rows → strata_right way (rows_table (take e.count rows)) ≡ strata_right way t
+kept_right way t e counts rows w = rw w.count_is (admitted_right way t counts rows w.admitted)
 
 -- Rows carry stratum 0 throughout exactly where each does.
 module _ (rows : List (List ℕ)) (n : ℕ) (f : RowsFit rows n) where

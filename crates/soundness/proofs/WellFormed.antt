@@ -8,7 +8,7 @@ use Prim.Native.Nat.{ℕ, ◌+◌, ◌≤◌, ◌<◌}
 use native.Mathlib.Omega.{arith}
 use lib.Dec.{T, eqb, leb, eqb→eq, leb→le, le→leb}
 use lib.ListN.{length, get_or, take, set, length-take, length-map, length-set, get_or-map}
-use lib.Seq.{get_or-take, get_or-set_same, get_or-set_other}
+use lib.Seq.{get_or-take, get_or-set_same, get_or-set_other, length-take-le}
 use Rattle.laws.specs.Truth.{◌∧ᵇ◌}
 use Rattle.laws.specs.Listed.{all_of}
 use Rattle.laws.proofs.Truth.{and_l, and_r, and_i, or_e, bool_ext}
@@ -182,6 +182,16 @@ counted_step t k counts h lo hi g = record {
   not_none = at_last (λ i. 1 ≤ (get_or t.slots i zero_slot).count) k g.not_none lo;
   not_many = at_last (λ i. (get_or t.slots i zero_slot).count ≤ value_limit) k g.not_many hi;
 }
+
+-- Counts cut to the slots that a table has: a rule is right by them exactly where it is by all and the number of slots.
+pub right_cut : (width : ℕ) (counts : List ℕ) → width ≤ length counts → (r : Rule) → rule_right (length (take width counts)) (take width counts) r ≡ rule_right width counts r
+unfolding rule_right
+right_cut width counts l r =
+    rw (length-take-le width counts l, all_same (has_pair width (take width counts)) (has_pair width counts) (named r) (λ p. at p (has_slot width p.slot) refl))
+  where
+    at : (p : Pair) (b : Bool) → has_slot width p.slot ≡ b → has_pair width (take width counts) p ≡ has_pair width counts p
+    at p true e = rw (pair_there width (take width counts) p e, pair_there width counts p e, get_or-take width counts p.slot 0 (slot_inside width p.slot e).1)
+    at p false e = rw (pair_lacking width (take width counts) p e, pair_lacking width counts p e)
 
 -- With it the tests of a rule are those with the table's own counts.
 pub right_same : (t : Table) (counts : List ℕ) → Counted t t.width counts → (r : Rule) → rule_right t.width counts r ≡ rule_right t.width (value_counts t) r

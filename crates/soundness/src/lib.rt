@@ -3,168 +3,133 @@
 
 mod right;
 
-ghost use Rattle.std.specs.Prelude.{◌≡◌, length};
-ghost use Rattle.laws.specs.Limits.{slot_limit};
-ghost use Rattle.rows.specs.inner.Rows.{table_in, RowsFit};
+ghost use Rattle.std.specs.Prelude.{◌≡◌, ◌≤◌, length};
+ghost use Rattle.laws.specs.Limits.{slot_limit, rule_limit};
+ghost use Rattle.rows.specs.inner.RuleRows.{rows_table};
 ghost use Rattle.soundness.specs.Sound.{well_formed, sound, stratum_0, strata_right};
-ghost use Rattle.soundness.specs.inner.Admitted.{RowsFor, Enters};
+ghost use Rattle.soundness.specs.inner.Admitted.{Enters};
 
-use rows::{FEW, NUMBERS, SOME};
+use rows::{FEW, RuleRow, SOME};
 use table::{RULES, SLOTS, Table, VALUES, Way};
 
-// Whether a table passed, and then how many slots and rules it has: who calls goes by these and looks at the table no more.
+// How many slots and rules a table has that passed: who calls goes by these and looks at the table no more.
 #[derive(Clone, Copy)]
 pub struct Entry {
-    pub passed: bool,
     pub width: usize,
     pub count: usize,
 }
 
 // The test of a table without its strata: what passes is entered, its rules into their rows and how many values each slot has into the counts.
-pub fn enter(t: Table, counts: &mut [usize; SLOTS], rows: &mut [[u16; NUMBERS]]) -> Entry
-    requires { RowsFor t rows.old × (length counts.old ≡ slot_limit) }
-    ensures { Enters t (well_formed t) result counts.new rows.new }
+pub fn enter(t: &Table, counts: &mut [usize; SLOTS], rows: &mut [RuleRow]) -> Option<Entry>
+    requires { (t.now.count ≤ rule_limit → t.now.count ≤ length rows.old) × (length counts.old ≡ slot_limit) }
+    ensures { Enters t.now (well_formed t.now) result counts.new rows.new }
 {
     let width = t.width as usize;
     if SLOTS < width {
-        return Entry {
-            passed: false,
-            width: 0,
-            count: 0,
-        };
+        return None;
     }
-    let mut k: usize = 0;
-    'slots: while k < width {
-        let count = rows::wide(t.slots[k].count);
-        if count < 1 {
-            return Entry {
-                passed: false,
-                width: 0,
-                count: 0,
-            };
-        }
-        if VALUES < count {
-            return Entry {
-                passed: false,
-                width: 0,
-                count: 0,
-            };
+    'slots: for k in 0..width {
+        let count = usize::from(t.slots[k].count);
+        if count < 1 || VALUES < count {
+            return None;
         }
         counts[k] = count;
-        k += 1;
     }
     let n = t.count as usize;
     if RULES < n {
-        return Entry {
-            passed: false,
-            width: 0,
-            count: 0,
-        };
+        return None;
     }
-    let mut i: usize = 0;
-    'rules: while i < n {
+    'rules: for i in 0..n {
         let r = t.rules[i];
-        if !right::is_right(r, width, counts) {
-            return Entry {
-                passed: false,
-                width: 0,
-                count: 0,
-            };
+        if !right::is_right(r, &counts[..width]) {
+            return None;
         }
-        rows::enter_rule(r, &mut rows[i]);
-        i += 1;
+        rows[i] = RuleRow::of(r);
     }
-    Entry {
-        passed: true,
-        width: width,
-        count: n,
-    }
+    Some(Entry { width, count: n })
 }
 
 // The same test where nothing is kept.
 pub fn is_well_formed(t: Table) -> bool
     ensures { result ≡ well_formed t }
 {
-    let mut counts: [usize; SLOTS] = [0; SLOTS];
     let n = t.count as usize;
     if n <= FEW {
-        let mut rows: [[u16; NUMBERS]; FEW] = [[0; NUMBERS]; FEW];
-        let entry = enter(t, &mut counts, &mut rows);
-        return entry.passed;
+        return is_well_formed_in::<FEW>(&t);
     }
     if n <= SOME {
-        let mut rows: [[u16; NUMBERS]; SOME] = [[0; NUMBERS]; SOME];
-        let entry = enter(t, &mut counts, &mut rows);
-        return entry.passed;
+        return is_well_formed_in::<SOME>(&t);
     }
-    let mut rows: [[u16; NUMBERS]; RULES] = [[0; NUMBERS]; RULES];
-    let entry = enter(t, &mut counts, &mut rows);
-    entry.passed
+    is_well_formed_in::<RULES>(&t)
+}
+
+// The same with room for N rules set aside.
+fn is_well_formed_in<const N: usize>(t: &Table) -> bool
+    requires { (t.now.count ≤ rule_limit → t.now.count ≤ N) × (N ≤ rule_limit) }
+    ensures { result ≡ well_formed t.now }
+{
+    let mut counts: [usize; SLOTS] = [0; SLOTS];
+    enter(t, &mut counts, &mut rows::room::<N>()).is_some()
 }
 
 // The test of a table: well-formed, and it carries the least strata; what passes is entered.
-pub fn admit(t: Table, counts: &mut [usize; SLOTS], rows: &mut [[u16; NUMBERS]]) -> Entry
-    requires { RowsFor t rows.old × (length counts.old ≡ slot_limit) }
-    ensures { Enters t (sound t) result counts.new rows.new }
+pub fn admit(t: &Table, counts: &mut [usize; SLOTS], rows: &mut [RuleRow]) -> Option<Entry>
+    requires { (t.now.count ≤ rule_limit → t.now.count ≤ length rows.old) × (length counts.old ≡ slot_limit) }
+    ensures { Enters t.now (sound t.now) result counts.new rows.new }
 {
-    let entry = enter(t, counts, rows);
-    if !entry.passed {
-        return entry;
-    }
-    let n = entry.count;
-    let least = leastness::is_least(rows, n);
-    Entry {
-        passed: least,
-        width: entry.width,
-        count: n,
+    let entry = enter(t, counts, rows)?;
+    if leastness::is_least(&rows[..entry.count]) {
+        Some(entry)
+    } else {
+        None
     }
 }
 
-// The same test where nothing is kept.
+// The same test where nothing is kept. Beside `is_well_formed`: one body for both would be told by a flag which test it makes.
 pub fn is_sound(t: Table) -> bool
     ensures { result ≡ sound t }
 {
-    let mut counts: [usize; SLOTS] = [0; SLOTS];
     let n = t.count as usize;
     if n <= FEW {
-        let mut rows: [[u16; NUMBERS]; FEW] = [[0; NUMBERS]; FEW];
-        let entry = admit(t, &mut counts, &mut rows);
-        return entry.passed;
+        return is_sound_in::<FEW>(&t);
     }
     if n <= SOME {
-        let mut rows: [[u16; NUMBERS]; SOME] = [[0; NUMBERS]; SOME];
-        let entry = admit(t, &mut counts, &mut rows);
-        return entry.passed;
+        return is_sound_in::<SOME>(&t);
     }
-    let mut rows: [[u16; NUMBERS]; RULES] = [[0; NUMBERS]; RULES];
-    let entry = admit(t, &mut counts, &mut rows);
-    entry.passed
+    is_sound_in::<RULES>(&t)
+}
+
+// The same with room for N rules set aside.
+fn is_sound_in<const N: usize>(t: &Table) -> bool
+    requires { (t.now.count ≤ rule_limit → t.now.count ≤ N) × (N ≤ rule_limit) }
+    ensures { result ≡ sound t.now }
+{
+    let mut counts: [usize; SLOTS] = [0; SLOTS];
+    admit(t, &mut counts, &mut rows::room::<N>()).is_some()
 }
 
 // Whether rows carry stratum 0 throughout.
-fn is_stratum_0(rows: &[[u16; NUMBERS]], n: usize) -> bool
-    requires { RowsFit rows.now n }
-    ensures { result ≡ stratum_0 (table_in rows.now n) }
+fn is_stratum_0(rows: &[RuleRow]) -> bool
+    requires { length rows.now ≤ rule_limit }
+    ensures { result ≡ stratum_0 (rows_table rows.now) }
 {
-    let mut i: usize = 0;
-    while i < n {
-        if 0 < rows::stratum(&rows[i]) {
+    for row in rows {
+        if 0 < row.stratum() {
             return false;
         }
-        i += 1;
     }
     true
 }
 
 // The test of the strata that rows carry, by the response asked: stratum 0 throughout is looked for first, which costs less.
-pub fn strata_right(rows: &[[u16; NUMBERS]], n: usize, way: Way) -> bool
-    requires { RowsFit rows.now n }
-    ensures { result ≡ strata_right way (table_in rows.now n) }
+pub fn strata_right(rows: &[RuleRow], way: Way) -> bool
+    requires { length rows.now ≤ rule_limit }
+    ensures { result ≡ strata_right way (rows_table rows.now) }
 {
     if let Way::Marks = way {
-        if is_stratum_0(rows, n) {
+        if is_stratum_0(rows) {
             return true;
         }
     }
-    leastness::is_least(rows, n)
+    leastness::is_least(rows)
 }

@@ -1,5 +1,5 @@
 // The test of one rule: a part of 31.
-ghost use Rattle.std.specs.Prelude.{◌≡◌, map, ◌≤◌, drop};
+ghost use Rattle.std.specs.Prelude.{◌≡◌, length, map, ◌≤◌, drop};
 ghost use Rattle.laws.specs.Truth.{◌∧ᵇ◌};
 ghost use Rattle.laws.specs.Listed.{all_of};
 ghost use Rattle.model.specs.Result.{pair};
@@ -9,41 +9,29 @@ ghost use Rattle.soundness.specs.Sound.{has_pair};
 ghost use Rattle.soundness.specs.inner.Right.{rule_right};
 ghost use Rattle.model.specs.Rules.{assigns, each_once};
 
-use table::{ASSIGNMENTS, LITERALS, Rule, SLOTS, VALUES};
+use table::{ASSIGNMENTS, LITERALS, Rule, VALUES};
 
-// Whether a table with so many slots, of so many values each, has a slot, and the value is NONE or one of that slot's.
-fn has_pair(width: usize, counts: &[usize; SLOTS], slot: u8, value: u8) -> bool
-    ensures { result ≡ has_pair width counts.now (pair slot value) }
+// Whether a table whose slots have so many values has a slot, and the value is NONE or one of that slot's.
+fn has_pair(counts: &[usize], slot: u8, value: u8) -> bool
+    ensures { result ≡ has_pair (length counts.now) counts.now (pair slot value) }
 {
-    let s = table::wide(slot);
-    if !names::has_slot(width, s) {
+    let s = usize::from(slot);
+    let v = usize::from(value);
+    if !names::has_slot(counts.len(), s) {
         return false;
     }
-    let count = counts[s];
-    let v = table::wide(value);
-    if VALUES < v {
-        return false;
-    }
-    v <= count
+    v <= VALUES && v <= counts[s]
 }
 
 // Whether it has the pairs of the literals used.
-fn literals_right(r: Rule, width: usize, counts: &[usize; SLOTS]) -> bool
+fn literals_right(r: Rule, counts: &[usize]) -> bool
     requires { r.tested ≤ literal_limit }
-    ensures { result ≡ all_of (has_pair width counts.now) (map (λ l. l.pair) (literals_of r)) }
+    ensures { result ≡ all_of (has_pair (length counts.now) counts.now) (map (λ l. l.pair) (literals_of r)) }
 {
     let m = r.tested as usize;
-    let mut j: usize = 0;
-    while j < m {
-        let l = r.literals[j];
-        let slot = l.slot;
-        let value = l.value;
-        if !has_pair(width, counts, slot, value) {
-            return false;
-        }
-        j += 1;
-    }
-    true
+    r.literals[..m]
+        .iter()
+        .all(|l| has_pair(counts, l.slot, l.value))
 }
 
 // Whether the slot is assigned at place k or later.
@@ -52,34 +40,23 @@ fn assigned_from(r: Rule, k: usize, slot: u8) -> bool
     ensures { result ≡ assigns (drop k (assignments_of r)) slot }
 {
     let m = r.assigned as usize;
-    let mut j: usize = k;
-    while j < m {
-        let a = r.assignments[j];
-        let s = a.slot;
-        if s == slot {
-            return true;
-        }
-        j += 1;
-    }
-    false
+    r.assignments[k..m].iter().any(|a| a.slot == slot)
 }
 
 // Whether it has the pairs of the assignments used, and none of them assigns a slot that a later one assigns.
-fn assignments_right(r: Rule, width: usize, counts: &[usize; SLOTS]) -> bool
+fn assignments_right(r: Rule, counts: &[usize]) -> bool
     requires { r.assigned ≤ assignment_limit }
-    ensures { result ≡ (all_of (has_pair width counts.now) (assignments_of r) ∧ᵇ each_once (assignments_of r)) }
+    ensures { result ≡ (all_of (has_pair (length counts.now) counts.now) (assignments_of r) ∧ᵇ each_once (assignments_of r)) }
 {
     let m = r.assigned as usize;
-    let mut k: usize = 0;
-    while k < m {
+    for k in 0..m {
         let a = r.assignments[k];
         let slot = a.slot;
         let value = a.value;
-        if !has_pair(width, counts, slot, value) {
+        if !has_pair(counts, slot, value) {
             return false;
         }
-        k += 1;
-        if assigned_from(r, k, slot) {
+        if assigned_from(r, k + 1, slot) {
             return false;
         }
     }
@@ -87,24 +64,14 @@ fn assignments_right(r: Rule, width: usize, counts: &[usize; SLOTS]) -> bool
 }
 
 // Whether a rule keeps to the limits, names only slots and values that the table has and NONE, and assigns no slot twice.
-pub fn is_right(r: Rule, width: usize, counts: &[usize; SLOTS]) -> bool
-    ensures { result ≡ rule_right width counts.now r }
+pub fn is_right(r: Rule, counts: &[usize]) -> bool
+    ensures { result ≡ rule_right (length counts.now) counts.now r }
 {
     let tested = r.tested as usize;
-    if LITERALS < tested {
-        return false;
-    }
     let assigned = r.assigned as usize;
-    if ASSIGNMENTS < assigned {
-        return false;
-    }
-    let slot = r.slot;
-    let value = r.value;
-    if !has_pair(width, counts, slot, value) {
-        return false;
-    }
-    if !literals_right(r, width, counts) {
-        return false;
-    }
-    assignments_right(r, width, counts)
+    tested <= LITERALS
+        && assigned <= ASSIGNMENTS
+        && has_pair(counts, r.slot, r.value)
+        && literals_right(r, counts)
+        && assignments_right(r, counts)
 }

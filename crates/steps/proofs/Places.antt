@@ -22,8 +22,13 @@ use Rattle.text.proofs.Cut.{tokens_moved}
 use Rattle.text.proofs.Position.{tokens_next, next_lies}
 use Rattle.grammar.specs.Reading.{Part, took, stop, expects, fork, a_name, begins_with, if_next}
 use Rattle.steps.specs.inner.Places.{fault_of, tokens_past, shown_past, Choice, one, other, neither, which, StepLies}
-use Rattle.steps.specs.declared.step.Step.{Step}
-use Rattle.steps.specs.declared.step.Step.TheVariants as step
+use Rattle.text.specs.Words.{word_number}
+use Rattle.text.specs.declared.Word.{Word}
+use Rattle.text.proofs.Numbers.{same_word}
+use Rattle.steps.specs.Faults.{fault_number}
+use Rattle.steps.specs.declared.step.Fault.{Fault}
+use Rattle.steps.specs.declared.step.Fault.TheVariants as fault
+use Rattle.std.specs.Prelude.{Result, Ok, Err}
 
 -- The tokens of the remainder are the tokens of a text that stands elsewhere.
 past_moved : (rest : List ℕ) (base at : ℕ) → tokens_past rest base at ≡ map (moved (λ i. base + i)) (tokens_at rest at)
@@ -33,7 +38,7 @@ past_moved rest base at = sym (tokens_moved (drop at rest) 0 at (base + at) (λ 
 shown_moved : (rest : List ℕ) (base : ℕ) (t : code.Token) (ts : List Token) → map (moved (λ i. base + i)) (shown rest t ts) ≡ shown_past rest base t (map (moved (λ i. base + i)) ts)
 shown_moved rest base v.End ts = refl
 shown_moved rest base (v.Word w) ts = refl
-shown_moved rest base (v.Name start size) ts = refl
+shown_moved rest base (v.Name n) ts = refl
 shown_moved rest base v.Long ts = refl
 shown_moved rest base v.Bad ts = refl
 
@@ -52,68 +57,53 @@ stands rest base at r t e f = next_past rest base at ∙ rw (← e, f)
 pub lies : (rest : List ℕ) (at : ℕ) (r : Next) (t : code.Token) → r ≡ next_at rest at → r.token ≡ t → Lies (length rest) at t r.at
 lies rest at r t e f = subst (λ (u : code.Token). Lies (length rest) at u r.at) f (rw e (next_lies rest at))
 
--- The refusal of the tokens that have none of their own.
-pub fault_else : (t : code.Token) (over : ℕ) → Among (0 ∷ 1 ∷ 2 ∷ []) (tag_of kinds.the_type t) → 12 ≡ fault_of t over
-fault_else v.End over h = refl
-fault_else (v.Word w) over h = refl
-fault_else (v.Name start size) over h = refl
-fault_else v.Long over h = absurd (miss (0 ∷ 1 ∷ 2 ∷ []) 3 tt (opened h))
-fault_else v.Bad over h = absurd (miss (0 ∷ 1 ∷ 2 ∷ []) 4 tt (opened h))
-
--- What a step makes of a token that is no word, or no name.
-abbrev pub no_word : List ℕ
-no_word = 0 ∷ 2 ∷ 3 ∷ 4 ∷ []
-
-pub expects_other : (number : ℕ) (rest : List ℕ) (base : ℕ) (t : code.Token) (ts : List Token) → Among no_word (tag_of kinds.the_type t)
-    → expects number (shown_past rest base t ts) ≡ stop (fault_of t 12)
+-- What a step makes of a token that is not the word or mark that must stand there.
+pub expects_this : (w : Word) (ts : List Token) → expects (word_number w) (word (word_number w) ∷ ts) ≡ took tt ts
 unfolding expects
-expects_other number rest base v.End ts h = refl
-expects_other number rest base (v.Word w) ts h = absurd (miss no_word 1 tt (opened h))
-expects_other number rest base (v.Name start size) ts h = refl
-expects_other number rest base v.Long ts h = refl
-expects_other number rest base v.Bad ts h = refl
+expects_this w ts = rw (eq-eqb (word_number w) (word_number w) refl)
 
-pub which_other : (first second : ℕ) (rest : List ℕ) (base : ℕ) (t : code.Token) (ts : List Token) → Among no_word (tag_of kinds.the_type t)
-    → which first second (shown_past rest base t ts) ≡ neither (fault_of t 12)
+-- Another word has another number.
+pub other_number : (u w : Word) → (v.Word u ≡ v.Word w → ⊥) → eqb (word_number u) (word_number w) ≡ false
+other_number u w h = ne_eqb (word_number u) (word_number w) (λ e. h (ap v.Word (same_word u w e)))
+
+pub expects_other : (w : Word) (rest : List ℕ) (base : ℕ) (t : code.Token) (ts : List Token) → (t ≡ v.Word w → ⊥)
+    → expects (word_number w) (shown_past rest base t ts) ≡ stop (fault_number (fault_of t fault.OutOfPlace))
+unfolding expects
+expects_other w rest base v.End ts h = refl
+expects_other w rest base (v.Word u) ts h = rw (other_number u w h)
+expects_other w rest base (v.Name n) ts h = refl
+expects_other w rest base v.Long ts h = refl
+expects_other w rest base v.Bad ts h = refl
+
+pub which_one : (w u : Word) (ts : List Token) → which (word_number w) (word_number u) (word (word_number w) ∷ ts) ≡ one ts
 unfolding which
-which_other first second rest base v.End ts h = refl
-which_other first second rest base (v.Word w) ts h = absurd (miss no_word 1 tt (opened h))
-which_other first second rest base (v.Name start size) ts h = refl
-which_other first second rest base v.Long ts h = refl
-which_other first second rest base v.Bad ts h = refl
+which_one w u ts = rw (eq-eqb (word_number w) (word_number w) refl)
 
+pub which_second : (w u : Word) (ts : List Token) → (v.Word u ≡ v.Word w → ⊥) → which (word_number w) (word_number u) (word (word_number u) ∷ ts) ≡ other ts
+unfolding which
+which_second w u ts h = rw (other_number u w h, eq-eqb (word_number u) (word_number u) refl)
+
+pub which_other : (w u : Word) (rest : List ℕ) (base : ℕ) (t : code.Token) (ts : List Token) → (t ≡ v.Word w → ⊥) → (t ≡ v.Word u → ⊥)
+    → which (word_number w) (word_number u) (shown_past rest base t ts) ≡ neither (fault_number (fault_of t fault.OutOfPlace))
+unfolding which
+which_other w u rest base v.End ts h k = refl
+which_other w u rest base (v.Word x) ts h k = rw (other_number x w h, other_number x u k)
+which_other w u rest base (v.Name n) ts h k = refl
+which_other w u rest base v.Long ts h k = refl
+which_other w u rest base v.Bad ts h k = refl
+
+-- What it makes of a token that is no name.
 abbrev pub not_named : List ℕ
 not_named = 0 ∷ 1 ∷ 3 ∷ 4 ∷ []
 
 pub name_other : (rest : List ℕ) (base : ℕ) (t : code.Token) (ts : List Token) → Among not_named (tag_of kinds.the_type t)
-    → a_name (shown_past rest base t ts) ≡ stop (fault_of t 13)
+    → a_name (shown_past rest base t ts) ≡ stop (fault_number (fault_of t fault.LongName))
 unfolding a_name
 name_other rest base v.End ts h = refl
 name_other rest base (v.Word w) ts h = refl
-name_other rest base (v.Name start size) ts h = absurd (miss not_named 2 tt (opened h))
+name_other rest base (v.Name n) ts h = absurd (miss not_named 2 tt (opened h))
 name_other rest base v.Long ts h = refl
 name_other rest base v.Bad ts h = refl
-
--- What a step makes of a word.
-pub expects_this : (number w : ℕ) (ts : List Token) → w ≡ number → expects number (word w ∷ ts) ≡ took tt ts
-unfolding expects
-expects_this number w ts e = rw (eq-eqb w number e)
-
-pub expects_else : (number w : ℕ) (ts : List Token) → (w ≡ number → ⊥) → expects number (word w ∷ ts) ≡ stop 12
-unfolding expects
-expects_else number w ts e = rw (ne_eqb w number e)
-
-pub which_one : (first second w : ℕ) (ts : List Token) → w ≡ first → which first second (word w ∷ ts) ≡ one ts
-unfolding which
-which_one first second w ts e = rw (eq-eqb w first e)
-
-pub which_second : (first second w : ℕ) (ts : List Token) → (w ≡ first → ⊥) → w ≡ second → which first second (word w ∷ ts) ≡ other ts
-unfolding which
-which_second first second w ts d e = rw (ne_eqb w first d, eq-eqb w second e)
-
-pub which_else : (first second w : ℕ) (ts : List Token) → (w ≡ first → ⊥) → (w ≡ second → ⊥) → which first second (word w ∷ ts) ≡ neither 12
-unfolding which
-which_else first second w ts d e = rw (ne_eqb w first d, ne_eqb w second e)
 
 pub name_this : (n : Name) (ts : List Token) → a_name (name n ∷ ts) ≡ took n ts
 unfolding a_name
@@ -173,6 +163,6 @@ unfolding if_next
 next_not w f g ts k e = rw (expects_stop w ts k e)
 
 -- What lies behind a later position lies behind an earlier one.
-pub step_earlier : (size from later : ℕ) (r : Step) → from ≤ later → StepLies size later r → StepLies size from r
-step_earlier size from later (step.At next) h d = (omega (arith, d.0), d.1)
-step_earlier size from later (step.Fault k) h d = tt
+pub step_earlier : (size from later : ℕ) (r : Result ℕ Fault) → from ≤ later → StepLies size later r → StepLies size from r
+step_earlier size from later (Ok next) h d = (omega (arith, d.0), d.1)
+step_earlier size from later (Err k) h d = tt

@@ -1,6 +1,6 @@
 -- Looking a name up among spans.
 -- Assumes nothing.
-use Prim.Native.Nat.{ℕ, zero, suc, ◌+◌, ◌-◌, ◌≤◌, ◌<◌}
+use Prim.Native.Nat.{ℕ, zero, suc, ◌+◌, ◌≤◌, ◌<◌}
 use native.Mathlib.Omega.{arith}
 use native.Mathlib.Numerals.{add-one}
 use mathlib.Core.Path.{◌≡◌, refl, sym, ap, ap₂, ◌∙◌}
@@ -8,23 +8,20 @@ use mathlib.Core.Bool.{Bool, true, false}
 use mathlib.Core.List.{List, [], ◌∷◌}
 use lib.ListN.{length, drop, get_or, drop_of_length-le}
 use lib.Seq.{drop-cons}
-use borrow.Author.Tests.{ne_eqb}
-use types.Run.{OneOf, miss}
-use denote.Enum.Declared.{tag_of}
-use Rattle.laws.specs.Limits.{value_limit}
 use Rattle.text.specs.Tokens.{Name, Token, word, NONE, same_letters, place}
 use Rattle.text.specs.declared.Token as code
 use Rattle.text.specs.declared.Token.TheVariants as v
-use Rattle.text.specs.contracts.Token as kinds
 use Rattle.grammar.specs.Files.{Slot, spellings, place_in, slot_names, values_of}
 use Rattle.grammar.specs.Reading.{Part, took, stop, ◌then◌, a_name, if_next, known_value, known_slot, read_slot, read_place, read_value}
 use Rattle.text.proofs.Covering.{same_letters_eq}
 use Rattle.text.proofs.Steps.{counted, place_counted}
-use Rattle.steps.specs.inner.Spans.{key_of, span_letters, SpanLies, Listed, NumberLies, ValueLies}
+use Rattle.steps.specs.inner.Spans.{key_of, span_letters, SpanLies, Listed, place_part, number_part}
 use Rattle.steps.specs.inner.Places.{shown_past}
-use Rattle.steps.specs.declared.lookup.Number.{Number}
-use Rattle.steps.specs.declared.lookup.Number.TheVariants as number
-use Rattle.steps.proofs.Places.{no_word}
+use Rattle.std.specs.Prelude.{Result, Ok, Err}
+use Rattle.text.specs.declared.Word.TheVariants as w
+use Rattle.steps.specs.declared.step.Fault.{Fault}
+use Rattle.steps.specs.declared.step.Read.{Read}
+use Rattle.steps.proofs.Places.{other_number}
 
 -- The empty name has key 0.
 pub key_empty : (n : List ℕ) → length n ≡ 0 → 0 ≡ key_of n
@@ -75,10 +72,10 @@ next_here text letters i k ks (n ∷ ns) b z l f =
     (λ t. rw (e, t), λ t. (ns, l.3, rw (e, t)))
 
 pub left_found : (text spans letters : List ℕ) (names : List (List ℕ)) (i : ℕ) (b : Bool) → Left text spans letters names i → i < length spans → (get_or spans i 0 ≡ 0 → ⊥)
-    → (SpanLies text (get_or spans i 0) → b ≡ same_letters letters (span_letters text (get_or spans i 0))) → b ≡ true → i + 1 ≡ place letters names
+    → (SpanLies text (get_or spans i 0) → b ≡ same_letters letters (span_letters text (get_or spans i 0))) → b ≡ true → suc i ≡ place letters names
 left_found text spans letters names i b L h z f t =
     let n = next_here text letters (suc i) (get_or spans i 0) (drop (suc i) spans) L.rest b z (rw (drop-cons spans i 0 h) at L.listed) f in
-    add-one i ∙ sym (n.0 t) ∙ L.same
+    sym (n.0 t) ∙ L.same
 
 pub left_next : (text spans letters : List ℕ) (names : List (List ℕ)) (i : ℕ) (b : Bool) → Left text spans letters names i → i < length spans → (get_or spans i 0 ≡ 0 → ⊥)
     → (SpanLies text (get_or spans i 0) → b ≡ same_letters letters (span_letters text (get_or spans i 0))) → b ≡ false → Left text spans letters names (i + 1)
@@ -102,14 +99,14 @@ place_found names ts left n zero e f z = absurd (z refl)
 place_found names ts left n (suc p) e f z = rw (e, ← f)
 
 -- A slot's number is its name's place less one.
-slot_then : (m : Part Name) (names : List Name) (n : ℕ) (left : List Token) → (m then λ x rest. known_value (place_in names x) rest) ≡ took n left
-    → (m then λ x rest. known_slot (place_in names x) rest) ≡ took (n - 1) left
+slot_then : (m : Part Name) (names : List Name) (n : ℕ) (left : List Token) → (m then λ x rest. known_value (place_in names x) rest) ≡ took (suc n) left
+    → (m then λ x rest. known_slot (place_in names x) rest) ≡ took n left
 unfolding ◌then◌ known_value known_slot
 slot_then (took x rest) names n left e = go (place_in names x) e
   where
-    go : (p : ℕ) → known_value p rest ≡ took n left → known_slot p rest ≡ took (n - 1) left
+    go : (p : ℕ) → known_value p rest ≡ took (suc n) left → known_slot p rest ≡ took n left
     go zero f = absurd (let z : ◌≡◌ {A = ℕ} 0 1 = cc in omega arith)
-    go (suc p) f = let z : suc p ≡ n = cc in let y : rest ≡ left = cc in let w : p ≡ n - 1 = omega arith in ap₂ took w y
+    go (suc p) f = let z : suc p ≡ suc n = cc in let y : rest ≡ left = cc in let w : p ≡ n = omega arith in ap₂ took w y
 slot_then (stop k) names n left e = absurd (let z : ◌≡◌ {A = ℕ} 0 1 = cc in omega arith)
 
 slot_stop : (m : Part Name) (names : List Name) (k : ℕ) → (m then λ x rest. known_value (place_in names x) rest) ≡ stop k
@@ -122,34 +119,22 @@ slot_stop (took x rest) names k e = go (place_in names x) e
     go (suc p) f = absurd (let z : ◌≡◌ {A = ℕ} 0 1 = cc in omega arith)
 slot_stop (stop j) names k e = e
 
-pub slot_found : (slots : List Slot) (ts left : List Token) (n : ℕ) → read_place (slot_names slots) ts ≡ took n left → read_slot slots ts ≡ took (n - 1) left
+pub slot_part : (slots : List Slot) (ts : List Token) (rest : List ℕ) (base : ℕ) (r : Result (Read ℕ) Fault) → read_place (slot_names slots) ts ≡ place_part rest base r → read_slot slots ts ≡ number_part rest base r
 unfolding read_place read_slot
-slot_found slots ts left n e = slot_then (a_name ts) (slot_names slots) n left e
+slot_part slots ts rest base (Ok r) e = slot_then (a_name ts) (slot_names slots) r.value _ e
+slot_part slots ts rest base (Err k) e = slot_stop (a_name ts) (slot_names slots) _ e
 
-pub slot_fault : (slots : List Slot) (ts : List Token) (k : ℕ) → read_place (slot_names slots) ts ≡ stop k → read_slot slots ts ≡ stop k
-unfolding read_place read_slot
-slot_fault slots ts k e = slot_stop (a_name ts) (slot_names slots) k e
-
--- A value where a word stands: NONE is taken for 0, and no other may stand there.
-pub none_taken : (slots : List Slot) (s w : ℕ) (ts : List Token) → w ≡ NONE → read_value slots s (word w ∷ ts) ≡ took 0 ts
+-- A value where NONE stands is taken for 0.
+pub none_taken : (slots : List Slot) (s : ℕ) (ts : List Token) → read_value slots s (word NONE ∷ ts) ≡ took 0 ts
 unfolding read_value if_next
-none_taken slots s w ts e = rw e
+none_taken slots s ts = refl
 
-pub other_word_stops : (slots : List Slot) (s w : ℕ) (ts : List Token) → (w ≡ NONE → ⊥) → read_value slots s (word w ∷ ts) ≡ stop 12
-unfolding read_value read_place if_next a_name ◌then◌
-other_word_stops slots s w ts e = rw (ne_eqb w NONE e)
-
--- Where no word stands, a value is read by its name.
-pub value_by_name : (slots : List Slot) (s : ℕ) (rest : List ℕ) (base : ℕ) (t : code.Token) (ts : List Token) → OneOf no_word (tag_of kinds.the_type t)
+-- Where another token stands, a value is read by its name.
+pub value_by_name : (slots : List Slot) (s : ℕ) (rest : List ℕ) (base : ℕ) (t : code.Token) (ts : List Token) → (t ≡ v.Word w.None → ⊥)
     → read_value slots s (shown_past rest base t ts) ≡ read_place (values_of slots s) (shown_past rest base t ts)
 unfolding read_value if_next
 value_by_name slots s rest base v.End ts h = refl
-value_by_name slots s rest base (v.Word w) ts h = absurd (miss no_word 1 tt h)
-value_by_name slots s rest base (v.Name start size) ts h = refl
+value_by_name slots s rest base (v.Word u) ts h = rw (other_number u w.None h)
+value_by_name slots s rest base (v.Name n) ts h = refl
 value_by_name slots s rest base v.Long ts h = refl
 value_by_name slots s rest base v.Bad ts h = refl
-
--- A place among a slot's values is a value's number.
-pub place_lies : (top size from : ℕ) (r : Number) → top ≤ value_limit → NumberLies top size from r → ValueLies size from r
-place_lies top size from (number.Is n next) h l = (omega (arith, l.1), l.2, l.3)
-place_lies top size from (number.Fault k) h l = tt

@@ -1,5 +1,7 @@
-// The smallest steps of reading a statement: the word that must stand here, a new name, a name declared before.
+// The smallest steps of reading a statement: the word that must stand here, a name, a name declared before or NONE, and lists that count their parts.
 #![tactic(auto)]
 
 pub mod lookup;
+pub mod parts;
+pub mod source;
 pub mod step;

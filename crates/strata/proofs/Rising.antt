@@ -1,13 +1,14 @@
 -- What rounds and passes keep: no number exceeds any strata, and at rest the numbers are strata, so they are the least.
 -- Assumes nothing.
 use mathlib.Core.Path.{◌≡◌, refl, ◌∙◌, ap}
-use mathlib.Core.Bool.{Bool, true, false, cond, false≢true}
+use mathlib.Core.Bool.{Bool, true, false, cond, ◌||◌, false≢true, true≢false}
 use mathlib.Core.List.{List, [], ◌∷◌}
 use mathlib.Core.Logic.{◌⊎◌, inl, inr, ⊎_elim}
 use Prim.Native.Nat.{ℕ, zero, suc, ◌+◌, ◌*◌, ◌-◌, ◌≤◌, ◌<◌}
 use native.Mathlib.Omega.{arith}
 use native.Mathlib.Nat.{eq-or-lt_of_le}
 use lib.Dec.{T, ltb}
+use Rattle.std.specs.Prelude.{Some, None}
 use lib.ListN.{length, get_or, set, replicate, length-set, length-replicate}
 use lib.Seq.{get_or-set_same, get_or-set_other}
 use borrow.Author.Tests.{lt-ltb, le-ltb}
@@ -35,7 +36,7 @@ use Rattle.table.specs.inner.Fits.{RuleFits, TableFits}
 use Rattle.table.proofs.Link.{rule_at_is}
 use Rattle.table.proofs.Flat.{same_place, placed_inside}
 use Rattle.table.proofs.Fits.{assigned_placed, count_of, number, tested_in}
-use Rattle.strata.specs.inner.Heights.{asked_at, Small, raise_all, least_numbers}
+use Rattle.strata.specs.inner.Heights.{asked_at, Small, Visited, raise_all, least_numbers}
 use Rattle.strata.proofs.Heights.{highest_ge, highest_lt, raise_ge, raise_hit, raise_below, raise_length}
 
 -- The sum of a list.
@@ -230,6 +231,24 @@ module _ (t : Table) (fits : TableFits t) (sh : Shaped t) where
         least_top weak (rules_of t) z (suc i) (number t fits sh i l),
         rw (rule_at_is t i l) at (asked_top ns hs g _ L (suc i) (number t fits sh i l)),
       )
+
+  -- What a visit to a rule leaves: something risen if it raised the rule or something had risen before, or a rule at rest; or there is a circle.
+  pub visited_risen : (ns₀ : List ℕ) (top i : ℕ) (ns hs ns' hs' : List ℕ) (moved b : Bool) → t.count ≡ top → i < t.count → Visited (get_or t.rules i zero_rule) top i ns hs ns' hs' (Some b)
+      → Risen t ns₀ ns hs moved → Risen t ns₀ ns' hs' (moved || b)
+  visited_risen ns₀ top i ns hs ns' hs' true true c l (a, m, n, h) k = rw (n, h) (risen_step ns₀ i _ ns hs true l refl (omega (arith, c, a)) m k)
+  visited_risen ns₀ top i ns hs ns' hs' false true c l (a, m, n, h) k = rw (n, h) (risen_step ns₀ i _ ns hs false l refl (omega (arith, c, a)) m k)
+  visited_risen ns₀ top i ns hs ns' hs' true false c l (a, m, n, h) k = rw (n, h) k
+  visited_risen ns₀ top i ns hs ns' hs' false false c l (a, m, n, h) k = rw (n, h) k
+
+  pub visited_quiet : (top i : ℕ) (ns hs ns' hs' : List ℕ) (moved b : Bool) → t.count ≡ top → i < t.count → Visited (get_or t.rules i zero_rule) top i ns hs ns' hs' (Some b)
+      → (moved ≡ false → Quiet t i ns hs) → (moved || b) ≡ false → Quiet t (i + 1) ns' hs'
+  visited_quiet top i ns hs ns' hs' true true c l v q z = absurd (true≢false z)
+  visited_quiet top i ns hs ns' hs' false true c l v q z = absurd (true≢false z)
+  visited_quiet top i ns hs ns' hs' true false c l v q z = absurd (true≢false z)
+  visited_quiet top i ns hs ns' hs' false false c l (a, m, n, h) q z = rw (n, h) (quiet_more i ns hs _ l refl m (q refl))
+
+  pub visited_circled : (top i : ℕ) (ns hs ns' hs' : List ℕ) → t.count ≡ top → i < t.count → Visited (get_or t.rules i zero_rule) top i ns hs ns' hs' None → Rising t ns hs → circle_of weak (rules_of t) ≡ 0 → ⊥
+  visited_circled top i ns hs ns' hs' c l v g = above_circled i _ ns hs g l refl (omega (arith, c, v))
 
 -- The measure of rounds and passes: as many numbers as there can be rules, each at most as high, can rise so often in all; one that moves something raises the sum, and one that moves nothing is the last.
 unfoldable pub passes_left : List ℕ → Bool → ℕ

@@ -1,12 +1,12 @@
 -- What stays within its bounds while an order is found.
 -- Assumes nothing.
 use mathlib.Core.Path.{◌≡◌}
-use mathlib.Core.List.{List}
+use mathlib.Core.List.{List, [], ◌∷◌}
 use mathlib.Core.Logic.{⊎_elim}
-use Prim.Native.Nat.{ℕ, ◌+◌, ◌*◌, ◌-◌, ◌≤◌, ◌<◌}
+use Prim.Native.Nat.{ℕ, zero, suc, ◌+◌, ◌*◌, ◌-◌, ◌≤◌, ◌<◌}
 use native.Mathlib.Omega.{arith}
-use lib.ListN.{length, get_or, set, replicate}
-use lib.Seq.{get_or-set_same, get_or-set_other, set_out}
+use lib.ListN.{length, get_or, set, take, drop, replicate}
+use lib.Seq.{get_or-drop, get_or-set_same, get_or-set_other, set_out}
 use Rattle.laws.specs.Limits.{assignment_limit}
 use Rattle.laws.proofs.Equations.{either}
 use Rattle.laws.proofs.Truth.{le_or_lt}
@@ -27,6 +27,16 @@ most_set b i v xs m h = record {
       (λ n. rw (get_or-set_other xs i k v 0 n) (m.each k))
       (either k i);
 }
+
+-- No number of a stretch is above it either.
+most_first : (b n : ℕ) (xs : List ℕ) → ((k : ℕ) → get_or xs k 0 ≤ b) → (k : ℕ) → get_or (take n xs) k 0 ≤ b
+most_first b zero xs h k = omega arith
+most_first b (suc n) [] h k = h k
+most_first b (suc n) (x ∷ xs) h zero = h 0
+most_first b (suc n) (x ∷ xs) h (suc k) = most_first b n xs (λ i. h (suc i)) k
+
+pub most_stretch : (b k n : ℕ) (xs : List ℕ) → AtMost b xs → AtMost b (take n (drop k xs))
+most_stretch b k n xs m = record { each = most_first b n (drop k xs) (λ i. rw (get_or-drop k xs i 0) (m.each (k + i))) }
 
 visits_start : (n : ℕ) (order : List ℕ) → AtMost (n - 1) order → Visits n 0 order
 visits_start n order m = record { few = omega arith; entries = m; some = λ l. omega (arith, l) }

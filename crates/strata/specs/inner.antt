@@ -1,2 +1,3 @@
 pub mod Heights
 pub mod Visits
+pub mod Settled

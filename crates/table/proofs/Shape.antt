@@ -8,6 +8,7 @@ use native.Mathlib.Omega.{arith}
 use lib.ListN.{length, get_or}
 use mir.Val.{Val}
 use base.Fml.{Fml}
+use borrow.Struct.Parts.{StructFacts}
 use denote.Array.{each}
 use denote.Shadow.{shadow}
 use Rattle.table.specs.declared.Literal.{Literal}
@@ -23,6 +24,7 @@ use Rattle.table.specs.contracts.Assignment as assignment
 use Rattle.table.specs.contracts.Rule as rule
 use Rattle.table.specs.contracts.Slot as slot
 use Rattle.table.specs.contracts.Table as table
+use Rattle.table.proofs.Table.TheLaws.{the_maybe}
 
 -- What holds of each element of an array holds of the one at a place.
 each_at : {X : Type 0} (f : X → List Val → Fml) (xs : List X) (us : List Val) (d : X) (i : ℕ)
@@ -60,13 +62,20 @@ slot_shaped s vs g = record { value_places = g.1.1.1.0.1.0.1 }
 pub all_places : (t : Table) (vs : List Val) → shadow ((table.the_row).own_val t vs) → length t.rules ≡ rule_limit
 all_places t vs g = g.1.1.1.1.0.1.0.1
 
+-- A table is shaped by what holds of its slots and its rules.
+by_parts : (t : Table) (us ws : List Val) → length t.slots ≡ slot_limit → shadow (each Slot (λ y vs. (slot.the_row).own_val y vs) t.slots us)
+    → length t.rules ≡ rule_limit → shadow (each Rule (λ y vs. (rule.the_row).own_val y vs) t.rules ws) → Shaped t
+by_parts t us ws s gs r gr = record {
+  slot_places = s;
+  each_slot = λ i h. (let k : i < length t.slots = omega arith in let e = each_at (λ y vs. (slot.the_row).own_val y vs) t.slots us zero_slot i k gs in slot_shaped (get_or t.slots i zero_slot) (e.0 ∷ []) e.1);
+  rule_places = λ h. omega (arith, h, r);
+  each_rule = λ i k. (let e = each_at (λ y vs. (rule.the_row).own_val y vs) t.rules ws zero_rule i k gr in rule_shaped (get_or t.rules i zero_rule) (e.0 ∷ []) e.1);
+}
+
+-- One by value is.
 pub shaped : (t : Table) (vs : List Val) → shadow ((table.the_row).own_val t vs) → Shaped t
-shaped t vs g =
-    let s : length t.slots ≡ slot_limit = g.1.1.0.1.0.1 in
-    let r = all_places t vs g in
-    record {
-      slot_places = s;
-      each_slot = λ i h. (let k : i < length t.slots = omega arith in let e = each_at (λ y us. (slot.the_row).own_val y us) t.slots g.1.1.0.0 zero_slot i k g.1.1.0.1.1 in slot_shaped (get_or t.slots i zero_slot) (e.0 ∷ []) e.1);
-      rule_places = λ h. omega (arith, h, r);
-      each_rule = λ i k. (let e = each_at (λ y us. (rule.the_row).own_val y us) t.rules g.1.1.1.1.0.0 zero_rule i k g.1.1.1.1.0.1.1 in rule_shaped (get_or t.rules i zero_rule) (e.0 ∷ []) e.1);
-    }
+shaped t vs g = by_parts t g.1.1.0.0 g.1.1.1.1.0.0 g.1.1.0.1.0.1 g.1.1.0.1.1 g.1.1.1.1.0.1.0.1 g.1.1.1.1.0.1.1
+
+-- One that is lent is.
+pub lent_shaped : (t : Table) → StructFacts table.the_type the_maybe t → Shaped t
+lent_shaped t g = by_parts t g.0.0 g.1.1.0.0 g.0.1.0.1 g.0.1.1 g.1.1.0.1.0.1 g.1.1.0.1.1

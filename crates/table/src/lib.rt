@@ -21,7 +21,7 @@ pub const ROW: usize = VALUES + 1;
 
 pub const PAIRS: usize = SLOTS * ROW;
 
-// Which response a table is read for and asked by: the response by strata (document 01), or the response by marks (document 02, section 3).
+// Which response a table is read for and asked by (the definitions of the reading and of the answer take it by name, so that a closure would say less): the response by strata (document 01), or the response by marks (document 02, section 3).
 #[derive(Clone, Copy)]
 pub enum Way {
     Strata,
@@ -138,13 +138,6 @@ pub fn empty_table() -> Table
         rules: [rule; RULES],
         count: 0,
     }
-}
-
-// A byte as an index.
-pub fn wide(x: u8) -> usize
-    ensures { result ≡ x }
-{
-    x as usize
 }
 
 // The place of a pair in an array indexed by pair.

@@ -7,11 +7,11 @@ use native.Mathlib.Omega.{arith}
 use lib.Dec.{leb, eqb, leb→le, eqb→eq}
 use lib.ListN.{length, get_or}
 use lib.Seq.{get_or-set_same, get_or-set_other}
-use borrow.Author.Tests.{le-leb, lt-leb, ne_eqb}
+use borrow.Author.Tests.{le-leb}
 use Rattle.laws.specs.Limits.{editor_limit}
 use Rattle.laws.specs.Truth.{◌∧ᵇ◌}
 use Rattle.laws.proofs.Truth.{and_l, and_r}
-use Rattle.laws.proofs.Equations.{from_true, and_false}
+use Rattle.laws.proofs.Equations.{from_true}
 use Rattle.tally.specs.declared.Tally.{Tally}
 use Rattle.tally.specs.Counting.{fresh}
 use Rattle.tally.specs.Editors.{Editors, is_editor, has_record, record_at, with_record}
@@ -73,24 +73,3 @@ pub others_set : (y : Editors) (r : Tally) (i : ℕ) → has_record y ≡ true �
 others_set y r i e ne =
     let n = editor_e y.caller (record_e y e).1 in
     get_or-set_other y.records (y.caller - 1) i r fresh (λ q. ne (omega (arith, q, n.0)))
-
--- The steps by which the code finds that place.
-pub editor_0 : (n : ℕ) → n < 1 → is_editor n ≡ false
-unfolding is_editor ◌∧ᵇ◌
-editor_0 n h = rw (lt-leb 1 n h) refl
-
-pub editor_above_0 : (n : ℕ) → 1 ≤ n → is_editor n ≡ leb n editor_limit
-unfolding is_editor ◌∧ᵇ◌
-editor_above_0 n h = rw (le-leb 1 n h) refl
-
-pub place_other : (count n : ℕ) → ¬ (count ≡ editor_limit) → record_place count n ≡ count
-unfolding record_place ◌∧ᵇ◌
-place_other count n h = rw (ne_eqb count editor_limit h) refl
-
-pub place_no_editor : (count n : ℕ) → is_editor n ≡ false → record_place count n ≡ count
-unfolding record_place
-place_no_editor count n h = rw (h, and_false (eqb count editor_limit)) refl
-
-pub place_editor : (count n : ℕ) → count ≡ editor_limit → is_editor n ≡ true → record_place count n ≡ n - 1
-unfolding record_place ◌∧ᵇ◌
-place_editor count n e h = rw (e, h) refl

@@ -1,7 +1,7 @@
 // The tally of a day: slips answered and slips refused, 0 to 9,999 each, for each editor.
 #![tactic(auto)]
 
-ghost use Rattle.std.specs.Prelude.{◌≡◌, false};
+ghost use Rattle.std.specs.Prelude.{◌≡◌, ◌<◌, false, MatchOption};
 ghost use Rattle.tally.specs.Counting.{is_full, one_answered, one_refused};
 ghost use Rattle.tally.specs.Editors.{is_editor};
 ghost use Rattle.tally.specs.inner.Places.{record_place};
@@ -21,13 +21,7 @@ const FULL: u16 = 9999;
 pub fn is_full(tally: Tally) -> bool
     ensures { result ≡ is_full tally }
 {
-    if FULL <= tally.answered {
-        return true;
-    }
-    if FULL <= tally.refused {
-        return true;
-    }
-    false
+    FULL <= tally.answered || FULL <= tally.refused
 }
 
 // One slip more answered.
@@ -37,7 +31,7 @@ pub fn one_answered(tally: Tally) -> Tally
 {
     Tally {
         answered: tally.answered + 1,
-        refused: tally.refused,
+        ..tally
     }
 }
 
@@ -47,8 +41,8 @@ pub fn one_refused(tally: Tally) -> Tally
     ensures { result ≡ one_refused tally }
 {
     Tally {
-        answered: tally.answered,
         refused: tally.refused + 1,
+        ..tally
     }
 }
 
@@ -59,21 +53,16 @@ pub const EDITORS: usize = 40;
 pub fn is_editor(editor: usize) -> bool
     ensures { result ≡ is_editor editor }
 {
-    if editor < 1 {
-        return false;
-    }
-    editor <= EDITORS
+    (1..=EDITORS).contains(&editor)
 }
 
-// The place of an editor's record in a table of so many; past its end where there is none: 44.
-pub fn place(count: usize, editor: usize) -> usize
-    ensures { result ≡ record_place count editor }
+// The place of an editor's record in a table of so many, if there is one; else it is 44.
+pub fn place(count: usize, editor: usize) -> Option<usize>
+    ensures { MatchOption result (record_place count editor ≡ count) (λ at. (at < count) × (record_place count editor ≡ at)) }
 {
-    if count != EDITORS {
-        return count;
+    if count == EDITORS && is_editor(editor) {
+        Some(editor - 1)
+    } else {
+        None
     }
-    if !is_editor(editor) {
-        return count;
-    }
-    editor - 1
 }

@@ -11,7 +11,7 @@ use lib.Seq.{get_or-set_same, get_or-set_other}
 use Rattle.laws.proofs.Filled.{replicate_at}
 use Rattle.table.specs.inner.Flat.{pair_places}
 use Rattle.testing.specs.declared.waiting.Turn.{Turn}
-use Rattle.testing.specs.inner.Waiting.{Waiting, Woken, turn_of}
+use Rattle.testing.specs.inner.Waiting.{Waiting, Woken, turn_or, turn_of}
 
 -- Numbers stay within their bounds where the one put among them does.
 pub set_low : (xs : List ℕ) (i x : ℕ) (bound : ℕ → ℕ) → ((k : ℕ) → get_or xs k 0 ≤ bound k) → x ≤ bound i → (k : ℕ) → get_or (set xs i x) k 0 ≤ bound k
@@ -56,37 +56,46 @@ woken_more n left i woken h l w =
           (eq-or-lt_of_le (let y : k ≤ left = omega arith in y));
     }
 
-module _ (positions : List ℕ) (k : ℕ) (woken : List ℕ) where
-  -- The two ways in which the next rule is found.
-  pub turn_woken_last : (left : ℕ) → 0 < left → ◌≡◌ {A = Turn} (record { rule = get_or woken (left - 1) 0; place = k; left = left - 1 }) (turn_of positions k woken left)
-  unfolding turn_of
-  turn_woken_last zero h = absurd (omega arith)
-  turn_woken_last (suc left) h = let z : suc left - 1 ≡ left = omega arith in rw z
-
-  pub turn_at_place : (left : ℕ) → left ≡ 0 → ◌≡◌ {A = Turn} (record { rule = get_or positions k 0; place = k + 1; left = 0 }) (turn_of positions k woken left)
-  unfolding turn_of
-  turn_at_place left e = rw e
+module _ (rule k : ℕ) (woken : List ℕ) where
+  -- Where a rule is woken, any may be given.
+  pub turn_any : (other left : ℕ) → (left ≡ 0 → ⊥) → turn_or rule k woken left ≡ turn_or other k woken left
+  turn_any other zero n = absurd (n refl)
+  turn_any other (suc left) n = refl
 
   -- The rule looked at next is one,
-  pub turn_rule : (left : ℕ) (u : Turn) → u ≡ turn_of positions k woken left → (n : ℕ) → (left ≡ 0 → get_or positions k 0 < n) → Woken n left woken → u.rule < n
-  unfolding turn_of
-  turn_rule zero u e n at w = rw e (at refl)
-  turn_rule (suc left) u e n at w = rw e (w.low left (omega arith))
+  pub or_rule : (left : ℕ) (u : Turn) → u ≡ turn_or rule k woken left → (n : ℕ) → (left ≡ 0 → rule < n) → Woken n left woken → u.rule < n
+  or_rule zero u e n at w = rw e (at refl)
+  or_rule (suc left) u e n at w = rw e (w.low left (omega arith))
 
   -- those woken before it stay,
-  pub turn_woken : (left : ℕ) (u : Turn) → u ≡ turn_of positions k woken left → (n : ℕ) → Woken n left woken → Woken n u.left woken
-  unfolding turn_of
-  turn_woken zero u e n w = rw e w
-  turn_woken (suc left) u e n w = rw e (record { room = w.room; few = omega (arith, w.few); low = λ j h. w.low j (omega arith) })
+  pub or_woken : (left : ℕ) (u : Turn) → u ≡ turn_or rule k woken left → (n : ℕ) → Woken n left woken → Woken n u.left woken
+  or_woken zero u e n w = rw e w
+  or_woken (suc left) u e n w = rw e (record { room = w.room; few = omega (arith, w.few); low = λ j h. w.low j (omega arith) })
 
   -- the place stays or is the next,
-  pub turn_place : (left : ℕ) (u : Turn) → u ≡ turn_of positions k woken left → k ≤ u.place
-  unfolding turn_of
-  turn_place zero u e = rw e (omega arith)
-  turn_place (suc left) u e = rw e (omega arith)
+  pub or_place : (left : ℕ) (u : Turn) → u ≡ turn_or rule k woken left → k ≤ u.place
+  or_place zero u e = rw e (omega arith)
+  or_place (suc left) u e = rw e (omega arith)
 
   -- and less is left to look at.
-  pub turn_less : (left : ℕ) (u : Turn) → u ≡ turn_of positions k woken left → (to : ℕ) → k < to + left → u.left + (to - u.place) < left + (to - k)
+  pub or_less : (left : ℕ) (u : Turn) → u ≡ turn_or rule k woken left → (to : ℕ) → k < to + left → u.left + (to - u.place) < left + (to - k)
+  or_less zero u e to h = rw e (omega arith)
+  or_less (suc left) u e to h = rw e (omega arith)
+
+-- So where the rule given is the one at a place of the sorted rules.
+module _ (positions : List ℕ) (k : ℕ) (woken : List ℕ) (left : ℕ) (u : Turn) (e : u ≡ turn_of positions k woken left) where
+  pub turn_rule : (n : ℕ) → (left ≡ 0 → get_or positions k 0 < n) → Woken n left woken → u.rule < n
   unfolding turn_of
-  turn_less zero u e to h = rw e (omega arith)
-  turn_less (suc left) u e to h = rw e (omega arith)
+  turn_rule n at w = or_rule (get_or positions k 0) k woken left u e n at w
+
+  pub turn_woken : (n : ℕ) → Woken n left woken → Woken n u.left woken
+  unfolding turn_of
+  turn_woken n w = or_woken (get_or positions k 0) k woken left u e n w
+
+  pub turn_place : k ≤ u.place
+  unfolding turn_of
+  turn_place = or_place (get_or positions k 0) k woken left u e
+
+  pub turn_less : (to : ℕ) → k < to + left → u.left + (to - u.place) < left + (to - k)
+  unfolding turn_of
+  turn_less to h = or_less (get_or positions k 0) k woken left u e to h

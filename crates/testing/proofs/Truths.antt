@@ -2,12 +2,13 @@
 -- Assumes nothing.
 use mathlib.Core.Path.{◌≡◌, refl, sym, ◌∙◌}
 use mathlib.Core.Bool.{Bool, true, false, not}
-use mathlib.Core.List.{List}
+use mathlib.Core.List.{List, ◌++◌}
 use mathlib.Core.Logic.{⊎_elim}
-use Prim.Native.Nat.{ℕ, ◌+◌, ◌*◌, ◌/◌, ◌%◌, ◌<◌}
+use Prim.Native.Nat.{ℕ, ◌-◌, ◌+◌, ◌*◌, ◌/◌, ◌%◌, ◌<◌}
 use native.Mathlib.Omega.{arith}
 use lib.Dec.{eqb}
-use lib.ListN.{length, get_or, set, length-set}
+use lib.ListN.{length, get_or, set, take, replicate, length-set, length-append, length-replicate, get_or-append}
+use Rattle.std.proofs.lemmas.List.{get_or-append_right, get_or-take, get_or-replicate, length-take-le}
 use lib.Seq.{get_or-set_same, get_or-set_other}
 use borrow.Author.Tests.{eqb-true, eqb-false, eq-eqb, ne_eqb}
 use Rattle.laws.specs.Truth.{◌∧ᵇ◌, notᵇ}
@@ -20,7 +21,7 @@ use Rattle.table.proofs.Flat.{set_in}
 use Rattle.rows.specs.inner.Rows.{pair_in, literal_in}
 use Rattle.testing.specs.inner.Truth.{Truth}
 use Rattle.testing.proofs.Holding.{test_becomes, test_was, holds_plain}
-use Rattle.testing.proofs.Filling.{had_here, not_there, Begun, begun_next}
+use Rattle.testing.proofs.Filling.{had_here, not_there, Copied, Begun, begun_next}
 
 -- A pair that the card has did not become, another did where the changes have it.
 not_become : (b : Bool) → false ≡ (notᵇ true ∧ᵇ b)
@@ -95,3 +96,16 @@ pub trigger_holds : (S : List ℕ) (C : Pairs) (x : ℕ) → x / pair_places ≡
 trigger_holds S C x e =
     sym (holds_plain S C (literal_of (literal_in x)) (test S C (literal_of (literal_in x))) (ne_eqb (x / (2 * pair_places)) 1 (λ z. omega arith)) refl)
     ∙ test_becomes S C (literal_of (literal_in x)) (eq-eqb (x / pair_places % 2) 1 (omega arith))
+
+-- All pairs are copied.
+pub copied_all : (bs : List Bool) → length bs ≡ pair_places → Copied false (flag_at bs) (take pair_places (replicate (2 * pair_places) false) ++ bs) pair_places
+copied_all bs l =
+    let z = replicate (2 * pair_places) false in
+    let k : length (take pair_places z) ≡ pair_places = length-take-le pair_places z (omega (arith, length-replicate {A = Bool} (2 * pair_places) false)) in
+    record {
+      size = length-append (take pair_places z) bs ∙ omega (arith, l, k);
+      untouched = λ q h. get_or-append (take pair_places z) bs false q (omega (arith, k)) ∙ get_or-take pair_places z q false h ∙ get_or-replicate (2 * pair_places) q false false (omega arith);
+      copied = λ q h.
+          let e : pair_places + q - pair_places ≡ q = omega arith in
+          rw e at (get_or-append_right (take pair_places z) bs pair_places (pair_places + q) false k (omega arith));
+    }

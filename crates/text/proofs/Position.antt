@@ -15,6 +15,7 @@ use Rattle.classes.specs.Classes.{class_of}
 use Rattle.text.specs.Tokens.{Token, word, name, long, bad, run, run_token, word_or_name, place, reserved, mark_of, equals_first, token_here, more_bytes, tokens_from}
 use Rattle.text.specs.Next.{white, coded, next_from, next_at, tokens_at, shown, Lies}
 use Rattle.text.specs.Cut.{TokenStands}
+use Rattle.text.proofs.Numbers.{TokenNumbered, here_numbered}
 use Rattle.text.proofs.Cut.{here_stands, run_le, equals_le, tokens_step}
 
 -- The tokens after a token already taken.
@@ -55,11 +56,11 @@ unfolding tokens_at
 past_white s at = white_skip (drop at s) at ∙ rw (drop-drop (white (drop at s)) at s)
 
 -- A token that stands in the text is shown as it is.
-shown_coded : (s : List ℕ) (t : Token) (ts : List Token) → TokenStands s t → shown s (coded t) ts ≡ t ∷ ts
-shown_coded s (word w) ts h = refl
-shown_coded s (name n) ts h = rw h.there
-shown_coded s long ts h = refl
-shown_coded s bad ts h = refl
+shown_coded : (s : List ℕ) (t : Token) (ts : List Token) → TokenStands s t → TokenNumbered t → shown s (coded t) ts ≡ t ∷ ts
+shown_coded s (word w) ts h k = rw k
+shown_coded s (name n) ts h k = rw h.there
+shown_coded s long ts h k = refl
+shown_coded s bad ts h k = refl
 
 -- The tokens where a byte `x` that is not white stands at `p`, before `xs`.
 tokens_here : (s : List ℕ) (p x : ℕ) (xs : List ℕ) → drop p s ≡ x ∷ xs → eqb (class_of x) 1 ≡ false
@@ -79,7 +80,7 @@ ended s p e = rw e
 begun : (s : List ℕ) (p x : ℕ) (xs : List ℕ) → drop p s ≡ x ∷ xs → eqb (class_of x) 1 ≡ false
     → tokens_at s p ≡ shown s (next_from p (x ∷ xs)).token (tokens_at s (next_from p (x ∷ xs)).at)
 unfolding next_from
-begun s p x xs e c = tokens_here s p x xs e c ∙ sym (shown_coded s (token_here p x xs) (tokens_at s (suc p + more_bytes x xs)) (here_stands s p x xs e))
+begun s p x xs e c = tokens_here s p x xs e c ∙ sym (shown_coded s (token_here p x xs) (tokens_at s (suc p + more_bytes x xs)) (here_stands s p x xs e) (here_numbered p x xs))
 
 -- THE FIRST TOKEN: the tokens from a position on are the token answered there and the tokens from the position after it.
 pub tokens_next : (s : List ℕ) (at : ℕ) → tokens_at s at ≡ shown s (next_at s at).token (tokens_at s (next_at s at).at)

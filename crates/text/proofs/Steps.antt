@@ -1,88 +1,64 @@
 -- What a text begins with, one byte at a time, at a position.
 -- Assumes nothing.
-use Prim.Native.Nat.{ℕ, zero, suc, ◌+◌, ◌≤◌, ◌<◌}
+use Rattle.std.proofs.lemmas.List.Folds.{length-prefix_len}
+use borrow.Author.Tests.{ltb-true, ltb-false}
+use lib.ListN.{drop_of_length-le}
+use Prim.Native.Nat.{min, ℕ, zero, suc, ◌+◌, ◌-◌}
 use native.Mathlib.Omega.{arith}
-use native.Mathlib.Numerals.{add-one}
-use mathlib.Core.Path.{◌≡◌, refl, sym, ◌∙◌}
-use mathlib.Core.Bool.{Bool, true, false, cond, ◌&&◌, true≢false}
-use mathlib.Core.List.{List, [], ◌∷◌}
-use lib.Dec.{eqb}
-use lib.ListN.{length, drop, get_or, drop_of_length-le}
-use lib.Seq.{drop-cons}
-use borrow.Author.Tests.{ne_eqb, eqb-true}
+use mathlib.Core.Path.{◌≡◌, refl, sym, ap, ◌∙◌}
+use mathlib.Core.Bool.{Bool, true, false, cond, ◌&&◌}
+use mathlib.Core.List.{List, [], ◌∷◌, ◌++◌}
+use lib.Dec.{eqb, ltb}
+use lib.ListN.{length, take, drop, length-drop}
+use lib.Seq.{drop-drop}
+use Rattle.std.specs.List.{starts_with}
+use Rattle.std.proofs.lemmas.List.{take_all}
+use Rattle.std.proofs.lemmas.Slice.Eq.{starts_is}
+use Rattle.std.proofs.lemmas.Bool.Decides.{Decides-eqb}
+use Rattle.std.specs.List.{prefix_len}
+use Rattle.std.specs.Cmp.Lexicographic.{pointwise}
 use Rattle.classes.specs.Classes.{one_of, class_of}
 use Rattle.text.specs.Tokens.{Name, run, same_letters, one_further, place, word_or_name}
 use Rattle.text.specs.Next.{white, coded}
+use Rattle.text.specs.Words.{word_by_number}
 use Rattle.text.specs.declared.Token.TheVariants as v
 
--- White bytes.
-white_at : (s : List ℕ) (i : ℕ) → i < length s → white (drop i s) ≡ cond (eqb (class_of (get_or s i 0)) 1) (suc (white (drop (i + 1) s))) 0
+-- The white at the front is the elements from the front on that are white.
+pub prefix_white : (s : List ℕ) → prefix_len (λ x. eqb (class_of x) 1) s ≡ white s
 unfolding white
-white_at s i h = rw (drop-cons s i 0 h, add-one i)
+prefix_white [] = refl
+prefix_white (x ∷ xs) = let z : 1 + white xs ≡ suc (white xs) = omega arith in rw (prefix_white xs, z)
 
-pub white_one : (s : List ℕ) (i c : ℕ) → i < length s → c ≡ class_of (get_or s i 0) → c ≡ 1 → white (drop i s) ≡ suc (white (drop (i + 1) s))
-white_one s i c h e f = white_at s i h ∙ rw (← e, f)
-
-pub white_stops : (s : List ℕ) (i c : ℕ) → i < length s → c ≡ class_of (get_or s i 0) → (c ≡ 1 → ⊥) → white (drop i s) ≡ 0
-white_stops s i c h e f = white_at s i h ∙ rw (← e, ne_eqb c 1 f)
-
-pub white_ends : (s : List ℕ) (i : ℕ) → length s ≤ i → white (drop i s) ≡ 0
-unfolding white
-white_ends s i h = rw (drop_of_length-le s h)
-
-pub white_space : (s : List ℕ) (i : ℕ) → i < length s → get_or s i 0 ≡ 32 → white (drop i s) ≡ suc (white (drop (i + 1) s))
-unfolding class_of
-white_space s i h e = white_one s i 1 h (rw e) refl
-
--- No space yet.
-pub blank_none : (s : List ℕ) (at : ℕ) → white (drop at s) ≡ 0 + white (drop (at + 0) s)
-blank_none s at = let z : at + 0 ≡ at = omega arith in rw z (omega arith)
-
--- One space more after `i` others.
-pub blank_next : (s : List ℕ) (at i : ℕ) (b : Bool) → at + i < length s → (b ≡ true → white (drop at s) ≡ i + white (drop (at + i) s)) → b && eqb (get_or s (at + i) 0) 32 ≡ true
-    → white (drop at s) ≡ i + 1 + white (drop (at + (i + 1)) s)
-blank_next s at i true h f e =
-    let q : at + i + 1 ≡ at + (i + 1) = omega arith in
-    let z = rw q at (white_space s (at + i) h (eqb-true (get_or s (at + i) 0) 32 e)) in
-    let w = f refl in
-    omega arith
-blank_next s at i false h f e = absurd (true≢false (sym e))
-
--- The run of name bytes.
-run_at : (s : List ℕ) (i : ℕ) → i < length s → run (drop i s) ≡ cond (one_of (2 ∷ 3 ∷ []) (class_of (get_or s i 0))) (suc (run (drop (i + 1) s))) 0
+pub prefix_run : (s : List ℕ) → prefix_len (λ x. one_of (2 ∷ 3 ∷ []) (class_of x)) s ≡ run s
 unfolding run
-run_at s i h = rw (drop-cons s i 0 h, add-one i)
+prefix_run [] = refl
+prefix_run (x ∷ xs) = let z : 1 + run xs ≡ suc (run xs) = omega arith in rw (prefix_run xs, z)
 
-pub run_two : (s : List ℕ) (i c : ℕ) → i < length s → c ≡ class_of (get_or s i 0) → c ≡ 2 → run (drop i s) ≡ suc (run (drop (i + 1) s))
-run_two s i c h e f = run_at s i h ∙ rw (← e, f)
+-- Sixteen spaces are white.
+abbrev pub spaces : List ℕ
+spaces = 32 ∷ 32 ∷ 32 ∷ 32 ∷ 32 ∷ 32 ∷ 32 ∷ 32 ∷ 32 ∷ 32 ∷ 32 ∷ 32 ∷ 32 ∷ 32 ∷ 32 ∷ 32 ∷ []
 
-pub run_three : (s : List ℕ) (i c : ℕ) → i < length s → c ≡ class_of (get_or s i 0) → c ≡ 3 → run (drop i s) ≡ suc (run (drop (i + 1) s))
-run_three s i c h e f = run_at s i h ∙ rw (← e, f)
+white_spaces : (xs : List ℕ) → white (spaces ++ xs) ≡ 16 + white xs
+unfolding white class_of
+white_spaces xs = omega arith
 
-pub run_stops : (s : List ℕ) (i c : ℕ) → i < length s → c ≡ class_of (get_or s i 0) → (c ≡ 2 → ⊥) → (c ≡ 3 → ⊥) → run (drop i s) ≡ 0
-run_stops s i c h e f g = run_at s i h ∙ rw (← e, ne_eqb c 2 f, ne_eqb c 3 g)
-
-pub run_ends : (s : List ℕ) (i : ℕ) → length s ≤ i → run (drop i s) ≡ 0
-unfolding run
-run_ends s i h = rw (drop_of_length-le s h)
+pub blank_over : (s : List ℕ) (i : ℕ) (r : Bool) → r ≡ starts_with eqb (take (length s - i) (drop i s)) spaces → r ≡ true → white (drop i s) ≡ 16 + white (drop (i + 16) s)
+blank_over s i r e t =
+    let l = length-drop i s in
+    let z : take (length s - i) (drop i s) ≡ drop i s = take_all (length s - i) (drop i s) (omega arith) in
+    let f : r ≡ starts_with eqb (drop i s) spaces = rw z at e in
+    ap white ((starts_is Decides-eqb (drop i s) spaces r f).0 t ∙ ap (λ (xs : List ℕ). spaces ++ xs) (drop-drop 16 i s)) ∙ white_spaces (drop (i + 16) s)
 
 -- Two names compared.
-pub same_length : (a b : List ℕ) → (length a ≡ length b → ⊥) → same_letters a b ≡ false
-same_length [] [] h = absurd (h refl)
-same_length [] (y ∷ ys) h = refl
-same_length (x ∷ xs) [] h = refl
-same_length (x ∷ xs) (y ∷ ys) h = go (eqb x y) (same_length xs ys (λ e. h (rw e)))
+pub pointwise_same : (a b : List ℕ) → pointwise eqb a b ≡ same_letters a b
+pointwise_same [] [] = refl
+pointwise_same [] (y ∷ ys) = refl
+pointwise_same (x ∷ xs) [] = refl
+pointwise_same (x ∷ xs) (y ∷ ys) = go (eqb x y) (pointwise_same xs ys)
   where
-    go : (t : Bool) → same_letters xs ys ≡ false → cond t (same_letters xs ys) false ≡ false
+    go : (t : Bool) → pointwise eqb xs ys ≡ same_letters xs ys → t && pointwise eqb xs ys ≡ cond t (same_letters xs ys) false
     go true e = e
     go false e = refl
-
-pub same_at : (a b : List ℕ) (i : ℕ) → i < length a → i < length b
-    → same_letters (drop i a) (drop i b) ≡ cond (eqb (get_or a i 0) (get_or b i 0)) (same_letters (drop (i + 1) a) (drop (i + 1) b)) false
-same_at a b i h g = rw (drop-cons a i 0 h, drop-cons b i 0 g, add-one i)
-
-pub same_end : (a b : List ℕ) (i : ℕ) → length a ≤ i → length b ≤ i → same_letters (drop i a) (drop i b) ≡ true
-same_end a b i h g = rw (drop_of_length-le a h, drop_of_length-le b g)
 
 -- The place of a name among words, counted on from `k`; 0 where it is not there.
 abbrev pub counted : ℕ → List ℕ → List (List ℕ) → ℕ
@@ -111,9 +87,24 @@ place_counted n ms = sym (counted_from 1 n ms ∙ from_one (place n ms))
     from_one (suc p) = omega arith
 
 -- What a run of name bytes is to the code.
-pub coded_name : (n : Name) (k : ℕ) → k ≡ 0 → coded (word_or_name n k) ≡ v.Name n.start (length n.letters)
+pub coded_name : (n : Name) (k : ℕ) → k ≡ 0 → coded (word_or_name n k) ≡ v.Name (record { start = n.start; size = length n.letters })
 coded_name n k e = rw e
 
-pub coded_word : (n : Name) (k : ℕ) → (k ≡ 0 → ⊥) → coded (word_or_name n k) ≡ v.Word k
+pub coded_word : (n : Name) (k : ℕ) → (k ≡ 0 → ⊥) → coded (word_or_name n k) ≡ v.Word (word_by_number k)
 coded_word n zero e = absurd (e refl)
 coded_word n (suc k) e = refl
+
+-- The part from a place on, or nothing where the place lies past the end.
+pub part_from : (s : List ℕ) (at m : ℕ) → m ≡ min at (length s) → take (length s - m) (drop m s) ≡ drop at s
+part_from s at m e =
+    let l = length-drop m s in
+    take_all (length s - m) (drop m s) (omega arith) ∙ go (ltb at (length s)) refl
+  where
+    go : (t : Bool) → ltb at (length s) ≡ t → drop m s ≡ drop at s
+    go true f = let h = ltb-true at (length s) f in let z : m ≡ at = omega arith in rw z
+    go false f = let h = ltb-false at (length s) f in let z : m ≡ length s = omega arith in rw (drop_of_length-le s {i = m} (omega arith), drop_of_length-le s {i = at} h)
+
+-- The bytes that begin the part from a place on and pass a test, counted, are those that begin what stands there.
+pub prefix_counted : (p : ℕ → Bool) (walk : List ℕ → ℕ) → ((xs : List ℕ) → prefix_len p xs ≡ walk xs) → (s : List ℕ) (at m r : ℕ) → m ≡ min at (length s)
+    → r ≡ length (take (prefix_len p (take (length s - m) (drop m s))) (take (length s - m) (drop m s))) → r ≡ walk (drop at s)
+prefix_counted p walk same s at m r e c = c ∙ length-prefix_len p (take (length s - m) (drop m s)) ∙ same (take (length s - m) (drop m s)) ∙ ap walk (part_from s at m e)

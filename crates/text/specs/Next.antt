@@ -3,14 +3,16 @@ use Rattle.std.specs.Prelude.{ℕ, suc, ◌+◌, ◌≤◌, ◌<◌, ◌≡◌, 
 use Rattle.laws.specs.Limits.{name_limit}
 use Rattle.classes.specs.Classes.{class_of}
 use Rattle.text.specs.Tokens.{Name, Token, word, name, long, bad, token_here, more_bytes, tokens_from}
+use Rattle.text.specs.Words.{word_number, word_by_number}
 use Rattle.text.specs.declared.Next.{Next}
+use Rattle.text.specs.declared.Span.{Span}
 use Rattle.text.specs.declared.Token as code
 use Rattle.text.specs.declared.Token.TheVariants as v
 
 -- A token as the code has it: a name is its place and its length.
 abbrev pub coded : Token → code.Token
-coded (word w) = v.Word w
-coded (name n) = v.Name n.start (length n.letters)
+coded (word w) = v.Word (word_by_number w)
+coded (name n) = v.Name (record { start = n.start; size = length n.letters })
 coded long = v.Long
 coded bad = v.Bad
 
@@ -32,7 +34,7 @@ next_at text at = next_from (at + white (drop at text)) (drop (at + white (drop 
 abbrev pub refusal_of : code.Token → ℕ
 refusal_of v.End = 0
 refusal_of (v.Word w) = 0
-refusal_of (v.Name at len) = 0
+refusal_of (v.Name n) = 0
 refusal_of v.Long = 0
 refusal_of v.Bad = 11
 
@@ -40,15 +42,15 @@ refusal_of v.Bad = 11
 unfoldable pub tokens_at : List ℕ → ℕ → List Token
 tokens_at text at = tokens_from (drop at text) 0 at
 
--- The name that stands at a place of the text.
-abbrev pub name_at : List ℕ → ℕ → ℕ → Name
-name_at text at len = record { start = at; letters = take len (drop at text) }
+-- The name that stands at a stretch of the text.
+abbrev pub name_at : List ℕ → Span → Name
+name_at text n = record { start = n.start; letters = take n.size (drop n.start text) }
 
 -- A token that the code answered, before the tokens that follow it.
 abbrev pub shown : List ℕ → code.Token → List Token → List Token
 shown text v.End rest = []
-shown text (v.Word w) rest = word w ∷ rest
-shown text (v.Name at len) rest = name (name_at text at len) ∷ rest
+shown text (v.Word w) rest = word (word_number w) ∷ rest
+shown text (v.Name n) rest = name (name_at text n) ∷ rest
 shown text v.Long rest = long ∷ rest
 shown text v.Bad rest = bad ∷ rest
 
@@ -56,6 +58,6 @@ shown text v.Bad rest = bad ∷ rest
 abbrev pub Lies : ℕ → ℕ → code.Token → ℕ → Type 0
 Lies size from v.End next = (from ≤ next) × (size ≤ next)
 Lies size from (v.Word w) next = (from < next) × (next ≤ size)
-Lies size from (v.Name at len) next = (from ≤ at) × (0 < len) × (len ≤ name_limit) × (at + len ≡ next) × (next ≤ size)
+Lies size from (v.Name n) next = (from ≤ n.start) × (0 < n.size) × (n.size ≤ name_limit) × (n.start + n.size ≡ next) × (next ≤ size)
 Lies size from v.Long next = (from < next) × (next ≤ size)
 Lies size from v.Bad next = (from < next) × (next ≤ size)

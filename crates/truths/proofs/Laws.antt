@@ -1,6 +1,6 @@
 -- Laws of AND and NOT: the section's words, their numbers, their order; and truth values that stay as more becomes known.
 -- Assumes nothing.
-use Prim.Native.Nat.{◌-◌, ◌≤◌, min}
+use Prim.Native.Nat.{◌-◌, min}
 use native.Mathlib.Nat.{min_comm}
 use native.Mathlib.Omega.{arith}
 use mathlib.Core.Path.{◌≡◌, refl, sym, ◌∙◌}
@@ -70,13 +70,6 @@ number_one False Unknown e = absurd (omega arith)
 number_one Unknown True e = absurd (omega arith)
 number_one Unknown False e = absurd (omega arith)
 number_one Unknown Unknown e = refl
-
--- The number of True is the highest.
-pub number_top : (p : Truth3) → number p ≤ number True
-unfolding by_cases
-number_top True = omega arith
-number_top False = omega arith
-number_top Unknown = omega arith
 
 -- False decides.
 pub and_false : (q : Truth3) → False AND₃ q ≡ False

@@ -1,11 +1,11 @@
-// True, False and Unknown, the RL paper, section 6.1: the cases of AND and NOT, for a reviewer to tick off against its words, and the three by number.
+// True, False and Unknown, the RL paper, section 6.1: the cases of AND and NOT, for a reviewer to tick off against its words.
 #![tactic(auto)]
 
-ghost use Rattle.std.specs.Prelude.{◌≡◌, ◌-◌, ◌≤◌, min};
+ghost use Rattle.std.specs.Prelude.{◌≡◌, ◌-◌, min};
 ghost use Rattle.truths.specs.Truths.{◌AND₃◌, NOT₃, number};
 
 // The three truth values, in the order of their numbers: what the evaluation of a test, a literal, a condition or a rule gives.
-#[derive(Clone, Copy)]
+#[derive(Clone, Copy, PartialEq, Eq)]
 pub enum Truth3 {
     False,
     Unknown,
@@ -47,24 +47,5 @@ pub fn not(p: Truth3) -> Truth3
         Truth3::False => Truth3::True, // NOT False
         Truth3::True => Truth3::False, // NOT True
         Truth3::Unknown => Truth3::Unknown, // NOT Unknown
-    }
-}
-
-// The three by number, as arrays have them.
-pub const FALSE: u8 = 0;
-
-pub const UNKNOWN: u8 = 1;
-
-pub const TRUE: u8 = 2;
-
-// The truth value that a number stands for.
-pub fn numbered(x: u8) -> Truth3
-    requires { x ≤ 2 }
-    ensures { x ≡ number result }
-{
-    match x {
-        TRUE => Truth3::True,
-        FALSE => Truth3::False,
-        _ => Truth3::Unknown,
     }
 }

@@ -1,12 +1,13 @@
 -- Bytes put into an output one part after the other.
 -- Assumes nothing.
-use Prim.Native.Nat.{ℕ, suc, ◌+◌, ◌≤◌, ◌<◌}
+use Prim.Native.Nat.{ℕ, ◌+◌, ◌≤◌}
 use native.Mathlib.Omega.{arith}
 use mathlib.Core.Path.{◌≡◌, refl, sym, ap, subst, ◌∙◌}
-use mathlib.Core.List.{List, [], ◌∷◌, ◌++◌, append_assoc}
-use lib.ListN.{length, get_or, set, take, drop, length-append, length-drop, take-append-drop}
-use lib.Seq.{length-take-le, take_at, drop_at, drop-drop, drop-cons, set_at}
-use Rattle.writing.specs.inner.Puts.{longest, put_in, Puts}
+use mathlib.Core.List.{List, [], ◌++◌, append_assoc}
+use lib.ListN.{length, take, drop, length-append, length-drop, take-append-drop}
+use lib.Seq.{length-take-le, take_at, drop_at, drop-drop}
+use Rattle.writing.specs.inner.Puts.{longest, put_in, Puts, PutsOn}
+use Rattle.writing.specs.declared.sheet.Sheet.{Sheet}
 
 -- No bytes change nothing.
 pub put_none : (out : List ℕ) (at : ℕ) → put_in out at [] ≡ out
@@ -52,68 +53,62 @@ put_on out at a b h =
     ∙ ap (λ (y : List ℕ). take at out ++ y) (sym (append_assoc a b (drop (at + length a + length b) out)))
     ∙ sym (put_as out at (a ++ b) (take at out) (drop (at + length a + length b) out) refl (ap (λ (k : ℕ). drop k out) z))
 
--- A byte put after a part.
-pub put_byte : (out : List ℕ) (at : ℕ) (a : List ℕ) (x : ℕ) → at + length a < length out → set (put_in out at a) (at + length a) x ≡ put_in out at (a ++ x ∷ [])
-put_byte out at a x h =
-    let l : length (take at out ++ a) ≡ at + length a = let k = length-append (take at out) a in let j = length-take-le at out (omega arith) in omega arith in
-    let z : at + length (a ++ x ∷ []) ≡ suc (at + length a) = let k = length-append a (x ∷ []) in omega arith in
-    ap (λ (o : List ℕ). set o (at + length a) x)
-    (put_as out at a (take at out) (get_or out (at + length a) 0 ∷ drop (suc (at + length a)) out) refl (drop-cons out (at + length a) 0 h)
-    ∙ sym (append_assoc (take at out) a (get_or out (at + length a) 0 ∷ drop (suc (at + length a)) out)))
-    ∙ set_at (take at out ++ a) (get_or out (at + length a) 0) (drop (suc (at + length a)) out) x (at + length a) l
-    ∙ append_assoc (take at out) a (x ∷ drop (suc (at + length a)) out)
-    ∙ ap (λ (y : List ℕ). take at out ++ y) (sym (append_assoc a (x ∷ []) (drop (suc (at + length a)) out)))
-    ∙ sym (put_as out at (a ++ x ∷ []) (take at out) (drop (suc (at + length a)) out) refl (ap (λ (k : ℕ). drop k out) z))
-
 -- No bytes put.
-pub puts_none : (out : List ℕ) (at : ℕ) → Puts out at [] out at
-puts_none out at = record { ends = omega arith; same_length = refl; there = λ h. sym (put_none out at) }
+pub puts_none : (s : Sheet) → PutsOn s [] s
+puts_none s = record { same_output = refl; puts = record { ends = omega arith; same_length = refl; there = λ h. sym (put_none s.out.now s.at) } }
 
 -- Bytes put, and then others after them.
-pub puts_on : {out out1 out2 a b : List ℕ} {at at1 at2 : ℕ} → Puts out at a out1 at1 → Puts out1 at1 b out2 at2 → Puts out at (a ++ b) out2 at2
-puts_on {out} {out1} {out2} {a} {b} {at} {at1} {at2} p q =
+pub puts_on : {s s1 s2 : Sheet} {a b : List ℕ} → PutsOn s a s1 → PutsOn s1 b s2 → PutsOn s (a ++ b) s2
+puts_on {s} {s1} {s2} {a} {b} p q =
     let l = length-append a b in
-    let e = p.ends in
-    let f = q.ends in
-    let s = p.same_length in
+    let e = p.puts.ends in
+    let f = q.puts.ends in
+    let k = p.puts.same_length in
     record {
-      ends = omega arith;
-      same_length = q.same_length ∙ s;
-      there = λ h. q.there (omega arith) ∙ rw (e, p.there (omega arith)) (put_on out at a b (omega arith));
+      same_output = q.same_output ∙ p.same_output;
+      puts = record {
+        ends = omega arith;
+        same_length = q.puts.same_length ∙ k;
+        there = λ h. q.puts.there (omega arith) ∙ rw (e, p.puts.there (omega arith)) (put_on s.out.now s.at a b (omega arith));
+      };
     }
 
 -- The same bytes said otherwise.
-pub puts_as : {out out1 a b : List ℕ} {at at1 : ℕ} → a ≡ b → Puts out at a out1 at1 → Puts out at b out1 at1
-puts_as {out} {out1} {a} {b} {at} {at1} e p = subst (λ (ys : List ℕ). Puts out at ys out1 at1) e p
+pub puts_as : {s s1 : Sheet} {a b : List ℕ} → a ≡ b → PutsOn s a s1 → PutsOn s b s1
+puts_as {s} {s1} e p = subst (λ (ys : List ℕ). PutsOn s ys s1) e p
+
+-- What a sheet leaves in its output.
+pub puts_in : {s s1 : Sheet} {ys out : List ℕ} → PutsOn s ys s1 → out ≡ s1.out.now → Puts s.out.now s.at ys out s1.at
+puts_in p e = rw e p.puts
 
 -- What has room for two parts has room for the first, and then for the second.
-pub room_first : (at : ℕ) (a b : List ℕ) (n : ℕ) → at + length (a ++ b) ≤ n → at + length a ≤ n
-room_first at a b n h = let l = length-append a b in omega arith
+pub room_first : (at : ℕ) (a b : List ℕ) {n : ℕ} → at + length (a ++ b) ≤ n → at + length a ≤ n
+room_first at a b h = let l = length-append a b in omega arith
 
-pub room_rest : {out out1 a : List ℕ} (b : List ℕ) {at at1 n : ℕ} → Puts out at a out1 at1 → at + length (a ++ b) ≤ n → at1 + length b ≤ n
-room_rest {out} {out1} {a} b p h = let l = length-append a b in let e = p.ends in omega arith
+pub room_rest : {s s1 : Sheet} {a : List ℕ} (b : List ℕ) {n : ℕ} → PutsOn s a s1 → s.at + length (a ++ b) ≤ n → s1.at + length b ≤ n
+room_rest {s} {s1} {a} b p h = let l = length-append a b in let e = p.puts.ends in omega arith
 
--- What is left to put: whoever puts `rest` at place k of `out` has put `whole` at place `at` of `first`; and there is room for it.
-pub record Left (first : List ℕ) (at : ℕ) (whole out : List ℕ) (k : ℕ) (rest : List ℕ) : Type 0 where
-  pub on : {out1 : List ℕ} {end : ℕ} → Puts out k rest out1 end → Puts first at whole out1 end
-  pub room : k + length rest ≤ longest
+-- What is left to put: whoever puts `rest` on the sheet `now` has put `whole` on the sheet `first`; and there is room for it.
+pub record Left (first : Sheet) (whole : List ℕ) (now : Sheet) (rest : List ℕ) : Type 0 where
+  pub on : {after : Sheet} → PutsOn now rest after → PutsOn first whole after
+  pub room : now.at + length rest ≤ longest
 
 -- At first all is left.
-pub left_start : (out : List ℕ) (at : ℕ) (whole : List ℕ) → at + length whole ≤ longest → Left out at whole out at whole
-left_start out at whole h = record { on = λ p. p; room = h }
+pub left_start : (s : Sheet) (whole : List ℕ) → s.at + length whole ≤ longest → Left s whole s whole
+left_start s whole h = record { on = λ p. p; room = h }
 
 -- A part is put, and the others are left.
-pub left_on : {first out out1 whole part : List ℕ} (rest : List ℕ) {at k k1 : ℕ} → Left first at whole out k (part ++ rest) → Puts out k part out1 k1 → Left first at whole out1 k1 rest
+pub left_on : {first s s1 : Sheet} {whole part : List ℕ} (rest : List ℕ) → Left first whole s (part ++ rest) → PutsOn s part s1 → Left first whole s1 rest
 left_on rest l p = record { on = λ q. l.on (puts_on p q); room = room_rest rest p l.room }
 
 -- There is room for the next part.
-pub left_room : {first out whole : List ℕ} (part rest : List ℕ) {at k : ℕ} → Left first at whole out k (part ++ rest) → k + length part ≤ longest
-left_room part rest {k = k} l = room_first k part rest longest l.room
+pub left_room : {first s : Sheet} {whole : List ℕ} (part rest : List ℕ) → Left first whole s (part ++ rest) → s.at + length part ≤ longest
+left_room {s = s} part rest l = room_first s.at part rest l.room
 
 -- The same said otherwise.
-pub left_as : {first out whole a b : List ℕ} {at k : ℕ} → a ≡ b → Left first at whole out k a → Left first at whole out k b
-left_as {first} {out} {whole} {at = at} {k} e l = subst (λ (ys : List ℕ). Left first at whole out k ys) e l
+pub left_as : {first s : Sheet} {whole a b : List ℕ} → a ≡ b → Left first whole s a → Left first whole s b
+left_as {first} {s} {whole} e l = subst (λ (ys : List ℕ). Left first whole s ys) e l
 
 -- Nothing is left.
-pub left_end : {first out whole : List ℕ} {at k : ℕ} → Left first at whole out k [] → Puts first at whole out k
-left_end {out = out} {k = k} l = l.on (puts_none out k)
+pub left_end : {first s : Sheet} {whole : List ℕ} → Left first whole s [] → PutsOn first whole s
+left_end {s = s} l = l.on (puts_none s)

@@ -2,5 +2,6 @@
 #![tactic(auto)]
 
 pub mod files;
-pub mod put;
 pub mod rules;
+pub mod sheet;
+pub mod spelling;

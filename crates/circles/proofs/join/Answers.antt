@@ -3,16 +3,15 @@ use native.Mathlib.Numerals.{add-one}
 use mathlib.Core.Path.{◌≡◌, refl}
 use Rattle.circles.specs.inner.Links.{pair_words, join_words}
 use native.Mathlib.Omega.{arith}
-use borrow.Author.Rules.{rules}
 use Rattle.circles.proofs.join.Goals as goal
 
 pub loop-w-init : goal.loop-w-init
 unfolding join_words
-loop-w-init c = (search rules, refl)
+loop-w-init c = refl
 
 pub loop-w-preserved : goal.loop-w-preserved
 unfolding join_words
-loop-w-preserved c = (search rules, rw (c.loop-w.invariant.1, add-one c.loop-w.w))
+loop-w-preserved c = rw (c.loop-w.invariant, add-one c.loop-w.w)
 
 pub returns : goal.returns
-returns c = let e : c.loop-w.w ≡ pair_words = omega arith in rw e at c.loop-w.invariant.1
+returns c = let e : c.loop-w.w ≡ pair_words = omega arith in rw e at c.loop-w.invariant

@@ -1,16 +1,10 @@
 -- `circles::leads_back` meets its contract.
 use mathlib.Core.Path.{◌∙◌}
-use mathlib.Core.Bool.{false}
-use lib.ListN.{get_or}
-use borrow.Author.Tests.{not-true, not-false}
 use Rattle.circles.proofs.Leading.{back_off, back_on}
 use Rattle.circles.proofs.leads_back.Goals as goal
 
-pub returns-then-not-flags-p : goal.returns-then-not-flags-p
-returns-then-not-flags-p c = back_off _ _ (not-true (get_or c.args.flags.now c.args.p false) c.if-not-flags-p.true-raw)
+pub returns-then-flags-p : goal.returns-then-flags-p
+returns-then-flags-p c = c.leads_to.ensures ∙ back_on _ _ c.if-flags-p.true
 
-pub leads_to-requires : goal.leads_to-requires
-leads_to-requires c = c.requires
-
-pub returns : goal.returns
-returns c = c.leads_to.ensures ∙ back_on _ _ (not-false (get_or c.args.flags.now c.args.p false) c.if-not-flags-p.false-raw)
+pub returns-else-flags-p : goal.returns-else-flags-p
+returns-else-flags-p c = c.if-flags-p.false ∙ back_off _ _ c.if-flags-p.false

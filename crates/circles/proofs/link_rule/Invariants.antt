@@ -1,5 +1,4 @@
 use mathlib.Core.Path.{◌≡◌}
-use Prim.Native.Nat.{◌-◌, ◌≤◌}
 use Rattle.model.specs.Strata.{tested}
 use Rattle.table.specs.Link.{rule_of}
 use Rattle.table.proofs.Walks.{assigned_from}
@@ -8,7 +7,4 @@ use Rattle.circles.specs.inner.Links.{link_all}
 use Rattle.circles.proofs.link_rule.Given as goal
 
 abbrev pub invariant-loop-k : goal.invariant-loop-k
-invariant-loop-k l = (l.k ≤ l.m) × (link_all (assigned_from (rule_in l.row) l.k) (tested (rule_of (rule_in l.row))) l.links ≡ link_all (assigned_from (rule_in l.row) 0) (tested (rule_of (rule_in l.row))) l.initial.links)
-
-abbrev pub decreases-loop-k : goal.decreases-loop-k
-decreases-loop-k l = l.m - l.k
+invariant-loop-k l = link_all (assigned_from (rule_in l.row.numbers) l.k) (tested (rule_of (rule_in l.row.numbers))) l.links ≡ link_all (assigned_from (rule_in l.row.numbers) 0) (tested (rule_of (rule_in l.row.numbers))) l.initial.links

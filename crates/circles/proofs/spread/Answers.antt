@@ -8,24 +8,21 @@ use Rattle.table.specs.inner.Flat.{pair_places}
 use Rattle.circles.specs.inner.Links.{flag_connected, spread}
 use Rattle.circles.proofs.Leading.{spread_over, spread_next}
 use native.Mathlib.Omega.{arith}
-use borrow.Author.Rules.{rules}
 use Rattle.circles.proofs.spread.Goals as goal
 
 pub flagged-init : goal.flagged-init
 unfolding spread
-flagged-init c = (search rules, refl)
+flagged-init c = refl
 
-pub flagged-preserved-then-not-flags-q : goal.flagged-preserved-then-not-flags-q
-flagged-preserved-then-not-flags-q c = (search rules, c.flagged.invariant.1 ∙ sym (spread_over c.args.links.now c.args.flags.now c.flagged.k (not-true (get_or c.args.flags.now c.flagged.k false) c.if-not-flags-q.true-raw)))
+pub flagged-preserved-then-not-flags-k : goal.flagged-preserved-then-not-flags-k
+flagged-preserved-then-not-flags-k c = c.flagged.invariant ∙ sym (spread_over c.args.links.now c.args.flags.now c.flagged.k (not-true (get_or c.args.flags.now c.flagged.k false) c.if-not-flags-k.true-raw))
 
 pub flagged-preserved : goal.flagged-preserved
-flagged-preserved c = (
-  search rules,
-  c.flag_connected.ensures ∙ ap (λ (bs : List Bool). flag_connected c.args.links.now c.flagged.k bs pair_places) c.flagged.invariant.1
-      ∙ sym (spread_next c.args.links.now c.args.flags.now c.flagged.k (not-false (get_or c.args.flags.now c.flagged.k false) c.if-not-flags-q.false-raw)),
-)
+flagged-preserved c =
+    c.flag_connected.ensures ∙ ap (λ (bs : List Bool). flag_connected c.args.links.now c.flagged.k bs pair_places) c.flagged.invariant
+    ∙ sym (spread_next c.args.links.now c.args.flags.now c.flagged.k (not-false (get_or c.args.flags.now c.flagged.k false) c.if-not-flags-k.false-raw))
 
 pub returns : goal.returns
 returns c =
     let e : c.flagged.k ≡ pair_places = omega arith in
-    rw e at c.flagged.invariant.1
+    rw e at c.flagged.invariant

@@ -1,7 +1,7 @@
 use mathlib.Core.Path.{◌≡◌}
 use Prim.Native.Nat.{◌-◌, ◌≤◌}
 use Rattle.table.specs.inner.Flat.{pair_places}
-use Rattle.rows.specs.inner.Rows.{table_in}
+use Rattle.rows.specs.inner.RuleRows.{rows_table}
 use Rattle.leastness.proofs.Carried.{Carried, Valid}
 use Rattle.leastness.proofs.Closing.{Closing}
 use Rattle.leastness.proofs.Following.{Done, Chaining}
@@ -9,25 +9,19 @@ use lib.ListN.{length}
 use Rattle.leastness.proofs.are_held.Given as goal
 
 abbrev pub invariant-gather : goal.invariant-gather
-invariant-gather l = (l.i ≤ l.n) × Carried (table_in l.rows l.n) l.i l.high
-
-abbrev pub decreases-gather : goal.decreases-gather
-decreases-gather l = l.n - l.i
+invariant-gather l = Carried (rows_table l.rows) l.row-index l.high
 
 abbrev pub invariant-ask : goal.invariant-ask
-invariant-ask l = (l.k ≤ l.n) × ((length l.held ≡ length l.initial.held) × (length l.nexts ≡ length l.initial.nexts)) × (Valid (table_in l.rows l.n) l.k l.high × Closing (table_in l.rows l.n) l.high l.k l.held l.flags l.queue l.top l.heads l.nexts)
-
-abbrev pub decreases-ask : goal.decreases-ask
-decreases-ask l = l.n - l.k
+invariant-ask l = ((length l.held ≡ length l.initial.held) × (length l.nexts ≡ length l.initial.nexts)) × (Valid (rows_table l.rows) l.k l.high × Closing (rows_table l.rows) l.high l.k l.held l.flags l.queue l.top l.heads l.nexts)
 
 abbrev pub invariant-chain : goal.invariant-chain
-invariant-chain l = (length l.held ≡ length l.initial.held) × Chaining (table_in l.rows l.n) l.high l.at l.p l.x l.held l.flags l.queue l.top l.heads l.nexts
+invariant-chain l = (length l.held ≡ length l.initial.held) × Chaining (rows_table l.rows) l.high l.at l.p l.x l.held l.flags l.queue l.top l.heads l.nexts
 
 abbrev pub decreases-chain : goal.decreases-chain
 decreases-chain l = l.x
 
 abbrev pub invariant-work : goal.invariant-work
-invariant-work l = (l.at ≤ l.top) × (length l.held ≡ length l.initial.held) × (Closing (table_in l.rows l.n) l.high (table_in l.rows l.n).count l.held l.flags l.queue l.top l.heads l.nexts × Done (table_in l.rows l.n) l.high l.at l.queue l.held)
+invariant-work l = (l.at ≤ l.top) × (length l.held ≡ length l.initial.held) × (Closing (rows_table l.rows) l.high (rows_table l.rows).count l.held l.flags l.queue l.top l.heads l.nexts × Done (rows_table l.rows) l.high l.at l.queue l.held)
 
 abbrev pub decreases-work : goal.decreases-work
 decreases-work l = pair_places - l.at

@@ -17,29 +17,29 @@ use Rattle.leastness.proofs.one_below.Goals as goal
 
 -- The literal's pair is the next of those barred.
 first : (c : After-place-k) →
-    one_below c.args.high.now c.args.s (pair_in c.literal-x.result ∷ picked_from (rule_in c.args.row.now) is_under_not (c.literals.j + 1)) ≡ one_below c.args.high.now c.args.s (barred (rule_of (rule_in c.args.row.now)))
-first c = rw (row_picked_next c.args.row.now c.requires.0 is_under_not c.literals.j c.literal-x.result (search rules) c.literal-x.ensures (sym c.is_under_not.ensures ∙ not-false c.is_under_not.result c.if-not-is_under_not.false-raw)) at c.literals.invariant.1
+    one_below c.args.high.now c.args.s (pair_in c.literal-x.result ∷ picked_from (rule_in c.args.row.now.numbers) is_under_not (c.literals.j + 1)) ≡ one_below c.args.high.now c.args.s (barred (rule_of (rule_in c.args.row.now.numbers)))
+first c = rw (row_picked_next c.args.row.now.numbers c.args.row.now.fits is_under_not c.literals.j c.literal-x.result (search rules) c.literal-x.ensures.0 (sym c.is_under_not.ensures ∙ not-false c.is_under_not.result c.if-not-is_under_not.false-raw)) at c.literals.invariant
 
 pub literals-init : goal.literals-init
-literals-init c = (search rules, rw (barred_start (rule_in c.args.row.now)))
+literals-init c = rw (barred_start (rule_in c.args.row.now.numbers))
 
 pub is_under_not-requires : goal.is_under_not-requires
-is_under_not-requires c = number_fits c.args.row.now c.requires.0 c.literals.j c.literal-x.result (search rules) c.literal-x.ensures
+is_under_not-requires c = number_fits c.args.row.now.numbers c.args.row.now.fits c.literals.j c.literal-x.result (search rules) c.literal-x.ensures.0
 
 pub literals-preserved-then-not-is_under_not : goal.literals-preserved-then-not-is_under_not
 literals-preserved-then-not-is_under_not c =
-    let e = row_picked_over c.args.row.now c.requires.0 is_under_not c.literals.j c.literal-x.result (search rules) c.literal-x.ensures (sym c.is_under_not.ensures ∙ not-true c.is_under_not.result c.if-not-is_under_not.true-raw) in
-    (search rules, rw e at c.literals.invariant.1)
+    let e = row_picked_over c.args.row.now.numbers c.args.row.now.fits is_under_not c.literals.j c.literal-x.result (search rules) c.literal-x.ensures.0 (sym c.is_under_not.ensures ∙ not-true c.is_under_not.result c.if-not-is_under_not.true-raw) in
+    rw e at c.literals.invariant
 
 pub overflow_add-h : goal.overflow_add-h
-overflow_add-h c = let z = c.requires.1.below c.place-k.result in omega (arith, z)
+overflow_add-h c = let z = c.requires.below c.place-k.result in omega (arith, z)
 
 pub returns-then-h-s : goal.returns-then-h-s
 returns-then-h-s c = sym (below_here c.args.high.now c.args.s _ _ (rw c.place-k.ensures.0 at c.if-h-s.true)) ∙ first (goal.at.returns-then-h-s c).After-place-k
 
 pub literals-preserved : goal.literals-preserved
-literals-preserved c = (search rules, sym (below_over c.args.high.now c.args.s _ _ (rw c.place-k.ensures.0 at c.if-h-s.false)) ∙ first (goal.at.literals-preserved c).After-place-k)
+literals-preserved c = sym (below_over c.args.high.now c.args.s _ _ (rw c.place-k.ensures.0 at c.if-h-s.false)) ∙ first (goal.at.literals-preserved c).After-place-k
 
 pub returns : goal.returns
 returns c =
-    sym (below_none c.args.high.now c.args.s) ∙ (rw (picked_end (rule_in c.args.row.now) is_under_not c.literals.j (search rules)) at c.literals.invariant.1)
+    sym (below_none c.args.high.now c.args.s) ∙ (rw (picked_end (rule_in c.args.row.now.numbers) is_under_not c.literals.j (search rules)) at c.literals.invariant)

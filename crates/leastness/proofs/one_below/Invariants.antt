@@ -1,5 +1,4 @@
 use mathlib.Core.Path.{◌≡◌}
-use Prim.Native.Nat.{◌-◌, ◌≤◌}
 use Rattle.table.specs.Link.{rule_of}
 use Rattle.model.specs.Strata.{is_under_not, barred}
 use Rattle.table.proofs.Walks.{picked_from}
@@ -8,7 +7,4 @@ use Rattle.leastness.specs.inner.OneBelow.{one_below}
 use Rattle.leastness.proofs.one_below.Given as goal
 
 abbrev pub invariant-literals : goal.invariant-literals
-invariant-literals l = (l.j ≤ l.m) × (one_below l.high l.s (picked_from (rule_in l.row) is_under_not l.j) ≡ one_below l.high l.s (barred (rule_of (rule_in l.row))))
-
-abbrev pub decreases-literals : goal.decreases-literals
-decreases-literals l = l.m - l.j
+invariant-literals l = one_below l.high l.s (picked_from (rule_in l.row.numbers) is_under_not l.j) ≡ one_below l.high l.s (barred (rule_of (rule_in l.row.numbers)))

@@ -1,49 +1,31 @@
 -- `lines::line_next` meets its contract.
 use native.Mathlib.Omega.{arith}
-use mathlib.Core.Path.{◌≡◌, ap, subst, ◌∙◌}
-use mathlib.Core.List.{List, []}
-use lib.ListN.{length}
-use Rattle.laws.specs.Limits.{value_limit}
-use Rattle.grammar.specs.Files.{Slot, spellings, slot_names}
-use Rattle.grammar.specs.Reading.{read_values}
-use Rattle.steps.specs.inner.Places.{tokens_past, StepLies, outcome_part}
-use Rattle.steps.specs.inner.Spans.{Listed}
-use Rattle.lines.specs.inner.Index.{span_names}
-use Rattle.lines.specs.inner.Lines.{read_head, declared_part, DeclaredLies}
-use Rattle.steps.specs.declared.step.Step.{Step}
-use Rattle.lines.specs.declared.Declared.TheVariants as declared
-use Rattle.steps.proofs.Places as places
+use mathlib.Core.Path.{◌≡◌}
+use borrow.Author.Rules.{rules}
+use Rattle.std.specs.Prelude.{Err}
 use Rattle.lines.proofs.LineLaws as lines
-use Rattle.lines.proofs.line_next.Goals.{After-values_next-values, In-At}
 use Rattle.lines.proofs.line_next.Goals as goal
 
--- The slot's name was read, and lies in the text.
-head_read : (c : In-At) (slots : List Slot) → Listed c.args.text.now c.args.slotspans.now (spellings (slot_names slots))
-    → read_head slots (tokens_past c.args.rest.now c.args.base c.args.start)
-    ≡ declared_part c.args.text.now c.args.rest.now c.args.base (declared.At c.in-At.name c.in-At.next)
-head_read c slots l = c.head_next-head.ensures.0 slots l ∙ ap (declared_part _ _ _) c.in-At.is
+pub returns-in_err-head : goal.returns-in_err-head
+returns-in_err-head c =
+    let z : c.from_residual.result ≡ Err c.in_err-head.field-0.0 = search rules in
+    rw z (λ ts slots w l. lines.line_head slots ts _ _ w (c.in_err-head.ensures.0 slots l), tt)
 
-head-lies : (c : In-At) → DeclaredLies c.args.text.now (length c.args.rest.now) c.args.start (declared.At c.in-At.name c.in-At.next)
-head-lies c = subst (DeclaredLies _ _ _) c.in-At.is c.head_next-head.ensures.1
+pub returns-in_err-values : goal.returns-in_err-values
+returns-in_err-values c =
+    let z : c.from_residual-in_err-values.result ≡ Err c.in_err-values.field-0.0 = search rules in
+    rw z (λ ts slots w l. lines.line_values slots ts _ _ _ _ w (c.in_ok-head.ensures.0 slots l) c.in_err-values.ensures.0, tt)
 
--- The values with this outcome.
-values_read : (c : After-values_next-values) (r : Step) → c.values_next-values.result.outcome ≡ r
-    → read_values value_limit [] (tokens_past c.args.rest.now c.args.base c.in-At.next)
-    ≡ outcome_part c.args.rest.now c.args.base (span_names c.args.text.now c.values_next-values.result.spans c.values_next-values.result.count) r
-values_read c r e = c.values_next-values.ensures.0 ∙ ap (outcome_part _ _ _) e
+pub returns-in_err-next : goal.returns-in_err-next
+returns-in_err-next c =
+    let z : c.from_residual-in_err-next.result ≡ Err c.in_err-next.field-0.0 = search rules in
+    rw z (λ ts slots w l. lines.line_stop slots ts _ _ _ _ _ _ w (c.in_ok-head.ensures.0 slots l) c.in_ok-values.ensures.0 (c.in_err-next.ensures.0 c.args.f.base), tt)
 
-pub returns-in-At-outcome : goal.returns-in-At-outcome
-returns-in-At-outcome c =
-    let n = head-lies (goal.at.returns-in-At-outcome c).In-At in
-    let m = subst (StepLies _ _) c.in-At-outcome.is c.values_next-values.ensures.1 in (
-      λ ts slots w l. lines.line_end slots ts _ _ _ _ _ _ _ c.word_next-end.result w (head_read (goal.at.returns-in-At-outcome c).In-At slots l) (values_read (goal.at.returns-in-At-outcome c).After-values_next-values _ c.in-At-outcome.is) (c.word_next-end.ensures.0 _),
-      places.step_earlier _ _ _ c.word_next-end.result (omega (arith, n.2, m.0)) c.word_next-end.ensures.1,
-      lines.line_lies _ _ _ _ c.word_next-end.result n.0 n.1 c.values_next-values.ensures.2,
+pub returns : goal.returns
+returns c =
+    let n = c.in_ok-head.ensures in
+    let v = c.in_ok-values.ensures in
+    let m = c.in_ok-next.ensures in (
+      λ ts slots w l. lines.line_end slots ts _ _ _ _ _ _ w (n.0 slots l) v.0 (m.0 c.args.f.base),
+      (omega (arith, n.1.2, v.1.0, m.1.0), m.1.1, n.1.0, n.1.1, v.1.2),
     )
-
-pub returns-in-Fault-outcome : goal.returns-in-Fault-outcome
-returns-in-Fault-outcome c = (λ ts slots w l. lines.line_values slots ts _ _ _ _ w (head_read (goal.at.returns-in-Fault-outcome c).In-At slots l) (values_read (goal.at.returns-in-Fault-outcome c).After-values_next-values _ c.in-Fault-outcome.is), tt, tt)
-
-pub returns-in-Fault : goal.returns-in-Fault
-returns-in-Fault c =
-    (λ ts slots w l. lines.line_head slots ts _ _ w (c.head_next-head.ensures.0 slots l ∙ ap (declared_part _ _ _) c.in-Fault.is), tt, tt)

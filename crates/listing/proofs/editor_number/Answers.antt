@@ -1,10 +1,9 @@
 -- `editor_number` meets its contract.
 use Prim.Native.Nat.{ℕ}
 use native.Mathlib.Omega.{arith}
-use mathlib.Core.Path.{◌≡◌, refl}
+use mathlib.Core.Path.{◌≡◌, refl, ◌∙◌}
 use mathlib.Core.List.{List, [], ◌∷◌}
 use lib.ListN.{length, get_or}
-use borrow.Author.Rules.{rules}
 use Rattle.listing.specs.Listing.{editor_number}
 use Rattle.listing.proofs.editor_number.Goals as goal
 
@@ -21,8 +20,11 @@ one [] h = absurd (omega (arith, h))
 one (b ∷ []) h = refl
 one (b ∷ c ∷ bs) h = absurd (omega (arith, h))
 
-pub returns-then-bytes-ne1 : goal.returns-then-bytes-ne1
-returns-then-bytes-ne1 c = not-one c.args.bytes.now c.if-bytes-ne1.true
+pub returns-in-len1 : goal.returns-in-len1
+returns-in-len1 c = c.from.ensures ∙ one _ (omega (arith, c.in-len1.len_at_least, c.in-len1.len_below))
 
-pub returns : goal.returns
-returns c = one _ (search rules)
+pub returns-in_default : goal.returns-in_default
+returns-in_default c = not-one c.args.bytes.now (λ e. omega (arith, e, c.in_default.len_below))
+
+pub returns-in_default-2 : goal.returns-in_default-2
+returns-in_default-2 c = not-one c.args.bytes.now (λ e. omega (arith, e, c.in_default.len_at_least))

@@ -4,14 +4,13 @@ use mathlib.Core.Path.{◌≡◌, sym, ap, ◌∙◌}
 use mathlib.Core.Bool.{true, false}
 use mathlib.Core.List.{List}
 use borrow.Author.Tests.{not-true, not-false}
-use Rattle.reader.specs.declared.FileRead.{FileRead}
-use Rattle.reader.specs.declared.Outcome.TheVariants.{Accepted, Refused}
+use Rattle.reader.specs.Tables.{FileRead, Accepted, Refused}
 use Rattle.rule_file.specs.Whole.{program_reading}
 use Rattle.tally.specs.Editors.{is_editor}
 use Rattle.response.specs.Respond.{answer_to}
 use Rattle.listing.specs.Listing.{refusal, program_rooms, editor_number, program_editors, list_response, list_reading, listing}
 use Rattle.listing.proofs.Callers.{listing_read, listing_44}
-use Rattle.listing.proofs.list.Goals.{After-read-read, Else-not-is_editor, In-Accepted}
+use Rattle.listing.proofs.list.Goals.{Else-not-is_editor}
 use Rattle.listing.proofs.list.Goals as goal
 
 -- The listing by what the code has of the editor: 44, or that of an accepted text, or of one that is refused.
@@ -39,22 +38,22 @@ returns-then-not-is_editor c =
 editor : (c : Else-not-is_editor) → is_editor c.editor_number-caller.result ≡ true
 editor c = sym c.is_editor.ensures ∙ not-false _ c.if-not-is_editor.false-raw
 
--- The text is accepted where the reading's answer says so.
-accepted : (c : In-Accepted) → (program_reading c.args.text.now).outcome ≡ Accepted
-accepted c = sym (ap (λ (r : FileRead). r.outcome) c.read-read.ensures) ∙ c.in-Accepted.is
+-- What the reading's answer says of the outcome.
+outcome-is : (text : List ℕ) {r : FileRead} → r ≡ program_reading text → (program_reading text).outcome ≡ r.outcome
+outcome-is text e = sym (ap (λ (r : FileRead). r.outcome) e)
 
 pub list_response-requires : goal.list_response-requires
-list_response-requires c = (accepted (goal.at.list_response-requires c).In-Accepted, ap (λ (r : FileRead). r.table) c.read-read.ensures, editor (goal.at.list_response-requires c).Else-not-is_editor)
+list_response-requires c = (outcome-is c.args.text.now c.in-Ok.ensures, ap (λ (r : FileRead). r.table) c.in-Ok.ensures, editor (goal.at.list_response-requires c).Else-not-is_editor)
 
-pub returns-in-Accepted : goal.returns-in-Accepted
-returns-in-Accepted c =
+pub returns-in-Ok : goal.returns-in-Ok
+returns-in-Ok c =
     let n = c.editor_number-caller in
     let a = c.args in
-    let e = rw (← ap (λ (q : FileRead). q.table) c.read-read.ensures) at (by-response a.text.now a.card.now a.slip.now a.editor.now n.result n.ensures (editor (goal.at.returns-in-Accepted c).Else-not-is_editor) (accepted (goal.at.returns-in-Accepted c).In-Accepted)) in
+    let e = rw (← ap (λ (q : FileRead). q.table) c.in-Ok.ensures) at (by-response a.text.now a.card.now a.slip.now a.editor.now n.result n.ensures (editor (goal.at.returns-in-Ok c).Else-not-is_editor) (outcome-is a.text.now c.in-Ok.ensures)) in
     rw (← e) c.list_response.ensures
 
-pub returns-in-Refused : goal.returns-in-Refused
-returns-in-Refused c =
+pub returns-in-Err : goal.returns-in-Err
+returns-in-Err c =
     let n = c.editor_number-caller in
     let a = c.args in
-    rw (← by-refusal a.text.now a.card.now a.slip.now a.editor.now n.result n.ensures (editor (goal.at.returns-in-Refused c).Else-not-is_editor) (sym (ap (λ (q : FileRead). q.outcome) c.read-read.ensures) ∙ c.in-Refused.is)) c.list_refusal-in-Refused.ensures
+    rw (← by-refusal a.text.now a.card.now a.slip.now a.editor.now n.result n.ensures (editor (goal.at.returns-in-Err c).Else-not-is_editor) (outcome-is a.text.now c.in-Err.ensures)) c.list_refusal-in-Err.ensures

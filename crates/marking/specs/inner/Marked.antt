@@ -5,15 +5,18 @@ use Rattle.laws.specs.Limits.{row}
 use Rattle.model.specs.Rules.{Pair}
 use Rattle.model.specs.Result.{is_changed}
 use Rattle.table.specs.inner.Flat.{pair_places, place_of, set_of}
-use Rattle.judging.specs.inner.Known.{Known, known}
+use Rattle.truths.specs.declared.Truth3.TheVariants.{False, True}
+use Rattle.truths.specs.Truths.{is_true}
+use Rattle.judging.specs.declared.truth.Known.{Known}
+use Rattle.judging.specs.inner.Known.{known}
 
 -- The pair at p is ruled out.
 unfoldable pub ruled_out : ℕ → Known → Known
-ruled_out p k = known k.positive (set k.negative p true) (set k.truth (pair_places + p) 0)
+ruled_out p k = known k.positive (set k.negative p true) (set k.truth (pair_places + p) False)
 
 -- The pair at p becomes positive.
 unfoldable pub made_positive : ℕ → Known → Known
-made_positive p k = known (set k.positive p true) k.negative (set k.truth (pair_places + p) (cond (eqb (get_or k.truth p 0) 2) 0 2))
+made_positive p k = known (set k.positive p true) k.negative (set k.truth (pair_places + p) (cond (is_true (get_or k.truth p False)) False True))
 
 -- The pair at q is ruled out unless it is the one at p or negative.
 unfoldable pub rival_out : ℕ → ℕ → Known → Known
@@ -58,15 +61,15 @@ pub record FirstNegative (width : ℕ) (live : List ℕ) (positive negative : Li
   pub at : (s v : ℕ) → s < width → v < row
       → get_or negative (s * row + v) false ≡ (notᵇ (get_or positive (s * row + v) false) ∧ᵇ (is_changed row (set_of positive) s ∨ᵇ eqb (get_or live (s * row + v) 0) 0))
 
--- NONE and every value of each of the first slots is positive or negative.
-unfoldable pub AllMarked : ℕ → List ℕ → List Bool → List Bool → Type 0
-AllMarked width counts positive negative =
-    (s v : ℕ) → s < width → v ≤ get_or counts s 0 → get_or positive (s * row + v) false ∨ᵇ get_or negative (s * row + v) false ≡ true
+-- NONE and every value of each slot is positive or negative, the slots given by how many values each of them has.
+unfoldable pub AllMarked : List ℕ → List Bool → List Bool → Type 0
+AllMarked counts positive negative =
+    (s v : ℕ) → s < length counts → v ≤ get_or counts s 0 → get_or positive (s * row + v) false ∨ᵇ get_or negative (s * row + v) false ≡ true
 
 -- One of them is neither.
-pub record NotMarked (width : ℕ) (counts : List ℕ) (positive negative : List Bool) : Type 0 where
+pub record NotMarked (counts : List ℕ) (positive negative : List Bool) : Type 0 where
   pub slot : ℕ
   pub value : ℕ
-  pub in_width : slot < width
+  pub in_width : slot < length counts
   pub in_count : value ≤ get_or counts slot 0
   pub neither : get_or positive (slot * row + value) false ∨ᵇ get_or negative (slot * row + value) false ≡ false

@@ -1,15 +1,14 @@
 -- `names::has_slot` meets its contract.
-use borrow.Author.Tests.{lt-ltb, le-ltb}
+use Rattle.std.proofs.Common.{arith}
+use Rattle.std.proofs.lemmas.Grind.{common_steps}
 use Rattle.laws.specs.Truth.{◌∧ᵇ◌}
-use Rattle.laws.specs.Limits.{slot_limit}
 use Rattle.names.specs.Names.{has_slot}
-use native.Mathlib.Omega.{arith}
 use Rattle.names.proofs.has_slot.Goals as goal
 
-pub returns-then-slot-ge-SLOTS : goal.returns-then-slot-ge-SLOTS
+pub returns-then-slot-lt-SLOTS : goal.returns-then-slot-lt-SLOTS
 unfolding has_slot ◌∧ᵇ◌
-returns-then-slot-ge-SLOTS c = rw (le-ltb c.args.slot slot_limit (omega arith))
+returns-then-slot-lt-SLOTS c = grind (arith, common_steps)
 
-pub returns : goal.returns
+pub returns-else-slot-lt-SLOTS : goal.returns-else-slot-lt-SLOTS
 unfolding has_slot ◌∧ᵇ◌
-returns c = rw (lt-ltb c.args.slot slot_limit (omega arith))
+returns-else-slot-lt-SLOTS c = grind (arith, common_steps)

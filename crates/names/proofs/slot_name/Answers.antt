@@ -1,29 +1,17 @@
 -- `names::slot_name` meets its contract.
-use mathlib.Core.Path.{◌≡◌, refl, sym, ◌∙◌}
-use mathlib.Core.Bool.{true}
-use Prim.Native.Nat.{◌<◌}
-use borrow.Author.Tests.{not-true, not-false}
-use Rattle.laws.specs.Limits.{slot_limit}
-use Rattle.names.specs.Names.{has_slot}
-use Rattle.names.proofs.Names.{slot_inside, slot_shown, slot_lacking, at_beginning}
+use Rattle.std.proofs.Common.{rules}
+use Rattle.names.proofs.Names.{slot_inside, slot_shown, slot_lacking}
 use native.Mathlib.Omega.{arith}
-use Rattle.names.proofs.slot_name.Goals.{Else-not-has_slot}
 use Rattle.names.proofs.slot_name.Goals as goal
 
-there : (c : Else-not-has_slot) → has_slot c.args.t.width c.args.slot ≡ true
-there c = sym c.has_slot.ensures ∙ not-false c.has_slot.result c.if-not-has_slot.false-raw
-
-inside : (c : Else-not-has_slot) → c.args.slot < slot_limit
-inside c = (slot_inside _ _ (there c)).0
-
 pub returns-then-not-has_slot : goal.returns-then-not-has_slot
-returns-then-not-has_slot c = rw (slot_lacking c.args.text.now c.args.t c.args.slot (sym c.has_slot.ensures ∙ not-true c.has_slot.result c.if-not-has_slot.true-raw)) (refl, refl, at_beginning c.args.text.ref_ptr)
+returns-then-not-has_slot c = slot_lacking c.args.text.now c.args.t c.args.slot (search rules)
 
 pub offset_bounds-t-slot : goal.offset_bounds-t-slot
-offset_bounds-t-slot c = omega (arith, inside (goal.at.offset_bounds-t-slot c).Else-not-has_slot)
+offset_bounds-t-slot c = omega (arith, (slot_inside c.args.t.width c.args.slot (search rules)).0)
 
 pub bounds-t-slot : goal.bounds-t-slot
-bounds-t-slot c = inside (goal.at.bounds-t-slot c).Else-not-has_slot
+bounds-t-slot c = (slot_inside c.args.t.width c.args.slot (search rules)).0
 
 pub returns : goal.returns
-returns c = rw (slot_shown c.args.text.now c.args.t c.args.slot (there (goal.at.returns c).Else-not-has_slot)) c.stretch.ensures
+returns c = rw (slot_shown c.args.text.now c.args.t c.args.slot (search rules)) c.stretch.ensures

@@ -1,39 +1,7 @@
 -- `packing::pack_card` meets its contract.
-use mathlib.Core.Path.{refl}
-use Rattle.laws.specs.Limits.{rule_limit}
-use Rattle.table.specs.inner.Shape.{Shaped}
-use Rattle.table.proofs.Shape.{shaped}
-use Rattle.soundness.proofs.Admitted.{cleared}
-use Rattle.packing.proofs.pack_card.Goals.{Start}
+use Rattle.cards.specs.Cards.{packed_card}
 use Rattle.packing.proofs.pack_card.Goals as goal
 
-shape : (c : Start) → Shaped c.args.t
-shape c = shaped c.args.t _ c.well_formed.0
-
-pub admit-entry-requires : goal.admit-entry-requires
-admit-entry-requires c = (cleared c.args.t 32 (λ l. c.if-n-le-FEW.true), refl)
-
-pub pack_card_by-requires : goal.pack_card_by-requires
-pack_card_by-requires c = (c.args.t, _, shape (goal.at.pack_card_by-requires c).Start, c.admit-entry.ensures)
-
-pub returns-then-n-le-FEW : goal.returns-then-n-le-FEW
-returns-then-n-le-FEW c = c.pack_card_by.ensures c.args.t _ (shape (goal.at.returns-then-n-le-FEW c).Start) c.admit-entry.ensures
-
-pub admit-entry-requires-then-n-le-SOME : goal.admit-entry-requires-then-n-le-SOME
-admit-entry-requires-then-n-le-SOME c = (cleared c.args.t 256 (λ l. c.if-n-le-SOME.true), refl)
-
-pub pack_card_by-requires-then-n-le-SOME : goal.pack_card_by-requires-then-n-le-SOME
-pack_card_by-requires-then-n-le-SOME c = (c.args.t, _, shape (goal.at.pack_card_by-requires-then-n-le-SOME c).Start, c.admit-entry-then-n-le-SOME.ensures)
-
-pub returns-then-n-le-SOME : goal.returns-then-n-le-SOME
-returns-then-n-le-SOME c = c.pack_card_by-then-n-le-SOME.ensures c.args.t _ (shape (goal.at.returns-then-n-le-SOME c).Start) c.admit-entry-then-n-le-SOME.ensures
-
-pub admit-entry-requires-2 : goal.admit-entry-requires-2
-admit-entry-requires-2 c = (cleared c.args.t rule_limit (λ l. l), refl)
-
-pub pack_card_by-requires-2 : goal.pack_card_by-requires-2
-pack_card_by-requires-2 c = (c.args.t, _, shape (goal.at.pack_card_by-requires-2 c).Start, c.admit-entry-2.ensures)
-
 pub returns : goal.returns
-returns c =
-    c.pack_card_by-2.ensures c.args.t _ (shape (goal.at.returns c).Start) c.admit-entry-2.ensures
+unfolding packed_card
+returns c = c.pack_form.ensures

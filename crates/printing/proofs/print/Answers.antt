@@ -1,27 +1,29 @@
 -- `print` meets its contract.
-use mathlib.Core.Path.{◌≡◌, sym, ap, ◌∙◌}
+use mathlib.Core.Path.{◌≡◌, sym, ap}
+use mathlib.Core.List.{List}
+use Prim.Native.Nat.{ℕ}
 use lib.ListN.{length}
-use Rattle.reader.specs.declared.Outcome.TheVariants.{Accepted}
-use Rattle.reader.specs.declared.FileRead.{FileRead}
+use borrow.Author.Rules.{rules}
+use Rattle.std.specs.Prelude.{Err}
+use Rattle.reader.specs.Tables.{FileRead}
 use Rattle.rule_file.specs.Whole.{reading}
 use Rattle.printing.proofs.Fitting.{refused_first, then_fitted, answer_refused}
-use Rattle.printing.proofs.print.Goals.{In-Accepted}
 use Rattle.printing.proofs.print.Goals as goal
 
--- The text is accepted where the reading's answer says so.
-accepted : (c : In-Accepted) → (reading c.args.text.now).outcome ≡ Accepted
-unfolding reading
-accepted c = sym (ap (λ (r : FileRead). r.outcome) c.read-read.ensures) ∙ c.in-Accepted.is
+-- What the reading's answer says of the outcome.
+outcome-is : (text : List ℕ) {r : FileRead} → r ≡ reading text → (reading text).outcome ≡ r.outcome
+outcome-is text e = sym (ap (λ (r : FileRead). r.outcome) e)
 
 pub print_table-requires : goal.print_table-requires
 unfolding reading
-print_table-requires c = (accepted (goal.at.print_table-requires c).In-Accepted, ap (λ (r : FileRead). r.table) c.read-read.ensures)
+print_table-requires c = (outcome-is c.args.text.now c.in_ok-read.ensures, ap (λ (r : FileRead). r.table) c.in_ok-read.ensures)
 
-pub returns-in-Accepted : goal.returns-in-Accepted
-returns-in-Accepted c = rw (then_fitted c.args.text.now (length c.args.out.now) (accepted (goal.at.returns-in-Accepted c).In-Accepted)) c.print_table.ensures
-
-pub returns-in-Refused : goal.returns-in-Refused
+pub returns : goal.returns
 unfolding reading
-returns-in-Refused c =
-    answer_refused _ _ _ c.args.out.now
-    (refused_first c.args.text.now (length c.args.out.now) _ _ (sym (ap (λ (r : FileRead). r.outcome) c.read-read.ensures) ∙ c.in-Refused.is))
+returns c = rw (then_fitted c.args.text.now (length c.args.out.now) (outcome-is c.args.text.now c.in_ok-read.ensures)) c.print_table.ensures
+
+pub returns-in_err-read : goal.returns-in_err-read
+unfolding reading
+returns-in_err-read c =
+    let z : c.from_residual.result ≡ Err c.in_err-read.field-0.0 = search rules in
+    rw z (answer_refused _ _ _ c.args.out.now (refused_first c.args.text.now (length c.args.out.now) _ _ (outcome-is c.args.text.now c.in_err-read.ensures)))

@@ -1,19 +1,21 @@
 -- What the steps over rules mean.
-use Rattle.std.specs.Prelude.{ℕ, ◌≤◌, ◌<◌, ◌≡◌, List}
+use Rattle.std.specs.Prelude.{ℕ, ◌≤◌, ◌<◌, ◌≡◌, Result, Ok, Err, List}
 use Rattle.text.specs.Tokens.{Token, IF, BECOMES, SEMICOLON}
 use Rattle.model.specs.Rules.{Pair, Rule}
 use Rattle.grammar.specs.Files.{Slot}
-use Rattle.grammar.specs.Reading.{Part, took, stop, ◌then◌, expects, read_slot, read_value, read_condition, read_assign}
+use Rattle.grammar.specs.Reading.{Part, took, ◌then◌, expects, read_slot, read_value, read_condition, read_assign}
 use Rattle.model.specs.Result.{pair}
 use Rattle.laws.specs.inner.Filled.{Filled}
 use Rattle.laws.specs.Limits.{literal_limit, assignment_limit, slot_limit, value_limit}
 use Rattle.table.specs.Zero.{zero_literal, zero_assignment}
 use Rattle.table.specs.declared.Rule as ruled
-use Rattle.steps.specs.inner.Places.{tokens_past}
-use Rattle.clauses.specs.declared.conditions.Literals.{Literals}
-use Rattle.clauses.specs.declared.assignments.Assignments.{Assignments}
-use Rattle.reader.specs.declared.rules.PairRead.{PairRead}
-use Rattle.reader.specs.declared.rules.PairRead.TheVariants as read
+use Rattle.steps.specs.inner.Places.{read_part}
+use Rattle.clauses.specs.inner.Assignments.{AssignmentPlaces}
+use Rattle.clauses.specs.inner.Conditions.{LiteralPlaces}
+use Rattle.steps.specs.declared.step.Fault.{Fault}
+use Rattle.steps.specs.declared.step.Read.{Read}
+use Rattle.table.specs.Link.{rule_of}
+use Rattle.reader.specs.declared.rules.Trigger.{Trigger}
 
 -- A trigger: `slot *= value`.
 unfoldable pub trigger_pair : List Slot → List Token → Part Pair
@@ -30,14 +32,17 @@ read_trigger slots ts =
     expects IF t1 then λ u t2.
     took p t2
 
--- A pair read.
-abbrev pub pair_part : List ℕ → ℕ → PairRead → Part Pair
-pair_part rest base (read.Took s v next) = took (pair s v) (tokens_past rest base next)
-pair_part rest base (read.Fault k) = stop k
+-- A trigger's pair.
+abbrev pub trigger_as_pair : Trigger → Pair
+trigger_as_pair t = pair t.slot t.value
 
-abbrev pub PairLies : ℕ → ℕ → PairRead → Type 0
-PairLies size from (read.Took s v next) = (s < slot_limit) × (v ≤ value_limit) × (from < next) × (next ≤ size)
-PairLies size from (read.Fault k) = Unit
+-- A pair read.
+abbrev pub pair_part : List ℕ → ℕ → Result (Read Trigger) Fault → Part Pair
+pair_part rest base r = read_part trigger_as_pair rest base r
+
+abbrev pub PairLies : ℕ → ℕ → Result (Read Trigger) Fault → Type 0
+PairLies size from (Ok r) = (r.value.slot < slot_limit) × (r.value.value ≤ value_limit) × (from < r.next) × (r.next ≤ size)
+PairLies size from (Err k) = Unit
 
 -- The rest of a rule, after its trigger and IF.
 unfoldable pub read_rest : List Slot → Pair → List Token → Part Rule
@@ -53,6 +58,14 @@ pub record PlainRule (r : ruled.Rule) : Type 0 where
   pub assignments_filled : Filled assignment_limit zero_assignment r.assignments r.assigned
   pub no_stratum : r.stratum ≡ 0
 
+-- A rule read.
+abbrev pub rule_part : List ℕ → ℕ → Result (Read ruled.Rule) Fault → Part Rule
+rule_part rest base r = read_part rule_of rest base r
+
+abbrev pub RuleLies : ℕ → ℕ → Result (Read ruled.Rule) Fault → Type 0
+RuleLies size from (Ok r) = (from < r.next) × (r.next ≤ size) × PlainRule r.value
+RuleLies size from (Err k) = Unit
+
 -- A rule of its parts.
-abbrev pub made_rule : ℕ → ℕ → Literals → Assignments → ruled.Rule
-made_rule s v ls ps = record { slot = s; value = v; literals = ls.places; tested = ls.count; assignments = ps.places; assigned = ps.count; stratum = 0 }
+abbrev pub made_rule : Trigger → LiteralPlaces → AssignmentPlaces → ruled.Rule
+made_rule t ls ps = record { slot = t.slot; value = t.value; literals = ls.places; tested = ls.count; assignments = ps.places; assigned = ps.count; stratum = 0 }

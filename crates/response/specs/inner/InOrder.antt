@@ -12,39 +12,41 @@ use Rattle.marks.specs.Marks.{declared_pairs}
 use Rattle.selecting.specs.inner.Selected.{OneValue}
 use Rattle.cards.specs.Cards.{changes_of}
 use Rattle.laws.specs.Packed.{byte_count}
-use Rattle.laws.specs.Limits.{slot_limit, value_limit}
-use Rattle.rows.specs.inner.Rows.{table_in, RowsFit}
+use Rattle.laws.specs.Limits.{slot_limit, value_limit, rule_limit}
+use Rattle.rows.specs.declared.RuleRow.{RuleRow}
+use Rattle.rows.specs.inner.RuleRows.{rows_table}
 use Rattle.cards.specs.declared.Card.{Card}
 use Rattle.cards.specs.declared.Slip.{Slip}
 use Rattle.cards.specs.Forms.{card_bits}
-use Rattle.cards.specs.inner.Fitting.{counts_in, CardFits, SlipFits}
+use Rattle.cards.specs.inner.Fitting.{CardFits, SlipFits}
 use Rattle.response.specs.Respond.{Rooms, changes_room, outcome_of, Outputs, outputs_after}
 use Rattle.laws.specs.Answers.{OrRefused}
-use Rattle.response.specs.declared.Outcome.{Outcome}
+use Rattle.response.specs.Outcomes.{Outcome}
 use Rattle.response.specs.Ending.{Answer}
 
--- What is left of a table that passed 31: rows of its rules, which name declared pairs alone and, for the response by strata, carry the least strata; its number of slots, and how many values each of these has.
-pub record Kept (way : Way) (rows : List (List ℕ)) (n width : ℕ) (counts : List ℕ) : Type 0 where
-  pub rows_fit : RowsFit rows n
-  pub least : way ≡ ways.Strata → T (carries_least (table_in rows n))
-  pub few_slots : width ≤ slot_limit
-  pub few_values : (i : ℕ) → i < width → get_or counts i 0 ≤ value_limit
-  pub assigned : (m : ℕ) (p : Pair) → Numbered (length (rules_of (table_in rows n))) m → T (among p (rule_at (rules_of (table_in rows n)) m).assignments) → T (among p (declared_pairs (counts_in width counts)))
-  pub in_tests : (m : ℕ) (p : Pair) → Numbered (length (rules_of (table_in rows n))) m → T (among p (tested (rule_at (rules_of (table_in rows n)) m))) → T (among p (declared_pairs (counts_in width counts)))
+-- What is left of a table that passed 31: rows of its rules, which name declared pairs alone and, for the response by strata, carry the least strata; and how many values each of its slots has.
+pub record Kept (way : Way) (rows : List RuleRow) (counts : List ℕ) : Type 0 where
+  pub few_rules : length rows ≤ rule_limit
+  pub least : way ≡ ways.Strata → T (carries_least (rows_table rows))
+  pub few_slots : length counts ≤ slot_limit
+  pub few_values : (i : ℕ) → i < length counts → get_or counts i 0 ≤ value_limit
+  pub assigned : (m : ℕ) (p : Pair) → Numbered (length (rules_of (rows_table rows))) m → T (among p (rule_at (rules_of (rows_table rows)) m).assignments) → T (among p (declared_pairs counts))
+  pub in_tests : (m : ℕ) (p : Pair) → Numbered (length (rules_of (rows_table rows))) m → T (among p (tested (rule_at (rules_of (rows_table rows)) m))) → T (among p (declared_pairs counts))
 
 -- With a card that counts as many slots, in 4 bits each, and is empty beyond them, and a slip whose changes go into 5 and 4 bits, are declared, and give no slot two values.
-pub record InOrder (way : Way) (rows : List (List ℕ)) (n width : ℕ) (counts : List ℕ) (card : Card) (slip : Slip) : Type 0 where
-  pub kept : Kept way rows n width counts
-  pub same_width : card.count ≡ width
+pub record InOrder (way : Way) (rows : List RuleRow) (counts : List ℕ) (card : Card) (slip : Slip) : Type 0 where
+  pub kept : Kept way rows counts
+  pub same_width : card.count ≡ length counts
   pub card_fits : CardFits card
   pub rest_empty : (s : ℕ) → card.count ≤ s → get_or card.values s 0 ≡ 0
   pub slip_fits : SlipFits slip
-  pub slip_declared : (p : Pair) → T (among p (changes_of slip)) → T (among p (declared_pairs (counts_in width counts)))
+  pub slip_declared : (p : Pair) → T (among p (changes_of slip)) → T (among p (declared_pairs counts))
   pub slip_once : OneValue (changes_of slip)
 
--- A flag for each row, of the rules that ran: none as yet.
-abbrev pub NoneRan : List (List ℕ) → List Bool → Type 0
-NoneRan rows ran = ran ≡ replicate (length rows) false
+-- Flags of the rules that ran, for at least so many: none as yet.
+pub record NoneRan (count : ℕ) (ran : List Bool) : Type 0 where
+  pub room : count ≤ length ran
+  pub none : ran ≡ replicate (length ran) false
 
 -- The outputs have room for so many slots and rules.
 pub record HasRoom (width count : ℕ) (rooms : Rooms) : Type 0 where

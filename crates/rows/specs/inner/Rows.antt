@@ -61,6 +61,10 @@ pub record RowFits (row : List ℕ) : Type 0 where
   pub trigger_becomes : get_or row 0 0 / pair_places ≡ 1
   pub each_test : (j : ℕ) → j < get_or row 1 0 → get_or row (4 + j) 0 < tests
 
+-- A row of a rule that tests and assigns nothing and carries no stratum.
+abbrev pub UnusedRow : List ℕ → Type 0
+UnusedRow row = ((rule_in row).tested ≡ 0) × ((rule_in row).assigned ≡ 0) × ((rule_in row).stratum ≡ 0)
+
 -- A row has a rule: the same to the model, with the same stratum.
 pub record Row (r : Rule) (row : List ℕ) : Type 0 where
   pub fits : RowFits row

@@ -1,21 +1,22 @@
 -- `soundness::admit` meets its contract.
-use mathlib.Core.Path.{refl, sym, ◌∙◌}
-use borrow.Author.Tests.{not-true, not-false}
+use mathlib.Core.Path.{◌≡◌, sym, ◌∙◌}
+use borrow.Author.Rules.{rules}
+use Rattle.std.specs.Prelude.{None}
 use Rattle.soundness.proofs.WellFormed.{sound_form, unsound_form}
-use Rattle.soundness.proofs.Admitted.{still_failed, further, entered_least, entered_rows}
+use Rattle.soundness.proofs.Admitted.{kept_least}
 use Rattle.soundness.proofs.admit.Goals as goal
 
-pub returns-then-not-entry : goal.returns-then-not-entry
-returns-then-not-entry c =
-    let f = not-true c.enter-entry.result.passed c.if-not-entry.true in
-    still_failed _ _ _ _ _ _ f (unsound_form c.args.t (sym c.enter-entry.ensures.says ∙ f)) c.enter-entry.ensures
+pub returns-in_err-entry : goal.returns-in_err-entry
+returns-in_err-entry c =
+    let z : c.from_residual.result ≡ None = search rules in
+    rw z (sym (unsound_form c.args.t.now (sym c.in_err-entry.ensures)))
 
-pub is_least-least-requires : goal.is_least-least-requires
-is_least-least-requires c = entered_rows c.args.t _ _ _ _ (not-false c.enter-entry.result.passed c.if-not-entry.false) c.enter-entry.ensures
+pub returns-then-is_least : goal.returns-then-is_least
+returns-then-is_least c =
+    let w = c.in_ok-entry.ensures in
+    (sym c.if-is_least.true ∙ c.is_least.ensures ∙ kept_least c.args.t.now c.in_ok-entry.entry _ _ w.1 ∙ sym (sound_form c.args.t.now (sym w.0)), w.1)
 
-pub returns : goal.returns
-returns c =
-    let t = c.args.t in
-    let o = not-false c.enter-entry.result.passed c.if-not-entry.false in
-    let w = c.enter-entry.ensures in
-    further t _ _ _ _ _ _ _ o refl (c.is_least-least.ensures ∙ entered_least t _ _ _ _ o w ∙ sym (sound_form t (sym w.says ∙ o))) w
+pub returns-else-is_least : goal.returns-else-is_least
+returns-else-is_least c =
+    let w = c.in_ok-entry.ensures in
+    sym c.if-is_least.false ∙ c.is_least.ensures ∙ kept_least c.args.t.now c.in_ok-entry.entry _ _ w.1 ∙ sym (sound_form c.args.t.now (sym w.0))

@@ -1,10 +1,10 @@
 -- Where names were declared, each stretch of the text as one number.
-use Rattle.std.specs.Prelude.{ℕ, ◌+◌, ◌-◌, ◌*◌, ◌/◌, ◌%◌, ◌≤◌, ◌<◌, ◌≡◌, List, [], ◌∷◌, length, take, drop, get_or}
+use Rattle.std.specs.Prelude.{ℕ, suc, ◌+◌, ◌-◌, ◌*◌, ◌/◌, ◌%◌, ◌≤◌, ◌<◌, ◌≡◌, Option, Some, None, Result, Ok, Err, List, [], ◌∷◌, length, take, drop, get_or}
 use Rattle.laws.specs.Limits.{text_limit, slot_limit, value_limit}
-use Rattle.grammar.specs.Reading.{Part, took, stop}
-use Rattle.steps.specs.inner.Places.{tokens_past}
-use Rattle.steps.specs.declared.lookup.Number.{Number}
-use Rattle.steps.specs.declared.lookup.Number.TheVariants as number
+use Rattle.grammar.specs.Reading.{Part}
+use Rattle.steps.specs.inner.Places.{read_part}
+use Rattle.steps.specs.declared.step.Fault.{Fault}
+use Rattle.steps.specs.declared.step.Read.{Read}
 
 -- The key of a name: its first, its middle and its last byte, and its length.
 unfoldable pub key_of : List ℕ → ℕ
@@ -38,22 +38,29 @@ Listed text [] (n ∷ ns) = ⊥
 Listed text (k ∷ ks) [] = k ≡ 0
 Listed text (k ∷ ks) (n ∷ ns) = (0 < k) × SpanLies text k × (span_letters text k ≡ n) × Listed text ks ns
 
--- A number read.
-abbrev pub number_part : List ℕ → ℕ → Number → Part ℕ
-number_part rest base (number.Is n next) = took n (tokens_past rest base next)
-number_part rest base (number.Fault k) = stop k
+-- A place from 0 as one from 1, and 0 for none.
+abbrev pub counted_from_1 : Option ℕ → ℕ
+counted_from_1 None = 0
+counted_from_1 (Some i) = suc i
 
--- It is 1 to `top`, and the position after it moves on and stays in the remainder.
-abbrev pub NumberLies : ℕ → ℕ → ℕ → Number → Type 0
-NumberLies top size from (number.Is n next) = (0 < n) × (n ≤ top) × (from < next) × (next ≤ size)
-NumberLies top size from (number.Fault k) = Unit
+-- A number read.
+abbrev pub number_part : List ℕ → ℕ → Result (Read ℕ) Fault → Part ℕ
+number_part rest base r = read_part (λ n. n) rest base r
+
+-- A place read, which the reading counts from 1.
+abbrev pub place_part : List ℕ → ℕ → Result (Read ℕ) Fault → Part ℕ
+place_part rest base r = read_part (λ n. suc n) rest base r
+
+-- It is below `top`, and the position after it moves on and stays in the remainder.
+abbrev pub NumberLies : ℕ → ℕ → ℕ → Result (Read ℕ) Fault → Type 0
+NumberLies top size from (Ok r) = (r.value < top) × (from < r.next) × (r.next ≤ size)
+NumberLies top size from (Err k) = Unit
 
 -- A value's number is 0 to 15, 0 for NONE.
-abbrev pub ValueLies : ℕ → ℕ → Number → Type 0
-ValueLies size from (number.Is n next) = (n ≤ value_limit) × (from < next) × (next ≤ size)
-ValueLies size from (number.Fault k) = Unit
+abbrev pub ValueLies : ℕ → ℕ → Result (Read ℕ) Fault → Type 0
+ValueLies size from (Ok r) = (r.value ≤ value_limit) × (from < r.next) × (r.next ≤ size)
+ValueLies size from (Err k) = Unit
 
 -- A slot's number is 0 to 31.
-abbrev pub SlotLies : ℕ → ℕ → Number → Type 0
-SlotLies size from (number.Is n next) = (n < slot_limit) × (from < next) × (next ≤ size)
-SlotLies size from (number.Fault k) = Unit
+abbrev pub SlotLies : ℕ → ℕ → Result (Read ℕ) Fault → Type 0
+SlotLies size from r = NumberLies slot_limit size from r

@@ -1,14 +1,14 @@
 -- `tally::is_full` meets its contract.
-use mathlib.Core.Path.{sym}
-use Rattle.tally.proofs.TallyLaws.{full_answered, full_refused, not_full}
-use borrow.Author.Rules.{rules}
+use Rattle.std.proofs.Common.{arith}
+use Rattle.std.proofs.lemmas.Grind.{common_steps}
+use Rattle.laws.specs.Truth.{◌∨ᵇ◌}
+use Rattle.tally.specs.Counting.{is_full}
 use Rattle.tally.proofs.is_full.Goals as goal
 
 pub returns-then-tally-ge-FULL : goal.returns-then-tally-ge-FULL
-returns-then-tally-ge-FULL c = sym (full_answered _ c.if-tally-ge-FULL.true)
+unfolding is_full ◌∨ᵇ◌
+returns-then-tally-ge-FULL c = grind (arith, common_steps)
 
-pub returns-then-tally-ge-FULL-2 : goal.returns-then-tally-ge-FULL-2
-returns-then-tally-ge-FULL-2 c = sym (full_refused _ (search rules) c.if-tally-ge-FULL-2.true)
-
-pub returns : goal.returns
-returns c = sym (not_full _ (search rules) c.if-tally-ge-FULL-2.false)
+pub returns-else-tally-ge-FULL : goal.returns-else-tally-ge-FULL
+unfolding is_full ◌∨ᵇ◌
+returns-else-tally-ge-FULL c = grind (arith, common_steps)

@@ -1,26 +1,19 @@
 -- `tally::place` meets its contract.
-use mathlib.Core.Path.{◌≡◌, sym, ◌∙◌}
-use mathlib.Core.Bool.{true}
-use native.Mathlib.Omega.{arith}
-use borrow.Author.Rules.{rules}
-use borrow.Author.Tests.{not-true, not-false}
+use Rattle.std.proofs.Common.{arith}
+use Rattle.std.proofs.lemmas.Grind.{common_steps}
+use Rattle.laws.specs.Truth.{◌∧ᵇ◌}
 use Rattle.tally.specs.Editors.{is_editor}
-use Rattle.tally.proofs.EditorLaws.{editor_e, place_other, place_no_editor, place_editor}
-use Rattle.tally.proofs.place.Goals.{Else-not-is_editor}
+use Rattle.tally.specs.inner.Places.{record_place}
 use Rattle.tally.proofs.place.Goals as goal
 
-pub returns-then-count-ne-EDITORS : goal.returns-then-count-ne-EDITORS
-returns-then-count-ne-EDITORS c = sym (place_other _ _ c.if-count-ne-EDITORS.true)
-
-pub returns-then-not-is_editor : goal.returns-then-not-is_editor
-returns-then-not-is_editor c = sym (place_no_editor _ _ (sym c.is_editor.ensures ∙ not-true _ c.if-not-is_editor.true-raw))
-
--- The number is an editor's.
-editor : (c : Else-not-is_editor) → is_editor c.args.editor ≡ true
-editor c = sym c.is_editor.ensures ∙ not-false _ c.if-not-is_editor.false-raw
-
 pub overflow_sub-result : goal.overflow_sub-result
-overflow_sub-result c = let e = editor_e _ (editor (goal.at.overflow_sub-result c).Else-not-is_editor) in omega (arith, e.0, e.1)
+unfolding record_place is_editor ◌∧ᵇ◌
+overflow_sub-result c = grind (arith, common_steps)
 
-pub returns : goal.returns
-returns c = sym (place_editor _ _ (search rules) (editor (goal.at.returns c).Else-not-is_editor))
+pub returns-then-is_editor : goal.returns-then-is_editor
+unfolding record_place is_editor ◌∧ᵇ◌
+returns-then-is_editor c = grind (arith, common_steps)
+
+pub returns-else-count-eq-EDITORS : goal.returns-else-count-eq-EDITORS
+unfolding record_place is_editor ◌∧ᵇ◌
+returns-else-count-eq-EDITORS c = grind (arith, common_steps)

@@ -13,7 +13,11 @@ pub record Woken (n left : ℕ) (woken : List ℕ) : Type 0 where
   pub few : left ≤ n
   pub low : (k : ℕ) → k < left → get_or woken k 0 < n
 
--- The rule looked at next: the one woken last, or where none is woken the one at place k.
+-- The rule looked at next: the one woken last, or where none is woken the given one, which stands at place k.
+abbrev pub turn_or : ℕ → ℕ → List ℕ → ℕ → Turn
+turn_or rule k woken zero = record { rule = rule; place = k + 1; left = 0 }
+turn_or rule k woken (suc left) = record { rule = get_or woken left 0; place = k; left = left }
+
+-- So with the one at place k of the sorted rules.
 unfoldable pub turn_of : List ℕ → ℕ → List ℕ → ℕ → Turn
-turn_of positions k woken zero = record { rule = get_or positions k 0; place = k + 1; left = 0 }
-turn_of positions k woken (suc left) = record { rule = get_or woken left 0; place = k; left = left }
+turn_of positions k woken left = turn_or (get_or positions k 0) k woken left

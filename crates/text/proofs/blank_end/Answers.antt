@@ -1,16 +1,16 @@
 -- `text::blank_end` meets its contract: sixteen spaces passed over leave what is white.
-use Prim.Native.Nat.{◌+◌, ◌≤◌}
-use native.Mathlib.Omega.{arith}
-use lib.ListN.{length}
-use borrow.Author.Tests.{not-false}
-use borrow.Author.Rules.{rules}
+use Rattle.std.proofs.Common.{◌-◌, ◌≤◌, length, drop, length-drop, arith, refl}
+use lib.ListN.{take, length-take}
+use Rattle.text.proofs.Steps as steps
 use Rattle.text.proofs.blank_end.Goals as goal
 
 pub loop-i-preserved : goal.loop-i-preserved
 loop-i-preserved c =
-    let l = c.loop-i in
+    let i = c.loop-i.i in
     let s = c.args.text.now in
-    let h : l.i + 16 ≤ length s = search rules in
-    let w = c.is_blank.ensures (not-false c.is_blank.result c.if-not-is_blank.false-raw) in
-    let v = l.invariant.1 in
-    (h, omega arith)
+    let w = steps.blank_over s i _ c.starts_with.ensures.value c.loop-i-test.true in
+    let b : 16 ≤ length (take (length s - i) (drop i s)) = c.loop-i-test.ensures.bound refl in
+    let l = length-drop i s in
+    let m = length-take (length s - i) (drop i s) in
+    let v = c.loop-i.invariant.1 in
+    (omega arith, omega arith)

@@ -1,39 +1,15 @@
--- `text::run_end` meets its contract: the name bytes passed and those that follow are the whole run.
-use Prim.Native.Nat.{suc, ◌+◌, ◌≤◌, ◌<◌}
-use native.Mathlib.Omega.{arith}
-use mathlib.Core.Path.{◌≡◌}
-use mathlib.Core.Logic.{⊎_elim}
-use lib.ListN.{length, drop}
-use borrow.Author.Rules.{rules}
-use Rattle.text.proofs.Steps as steps
+use Rattle.std.proofs.Common.{ℕ, ◌+◌, [], ◌∷◌, ap, rules, tests}
+use Rattle.std.proofs.lemmas.Iterator.{YieldsList-from_slice}
+use Rattle.std.proofs.lemmas.Iterator.Consumers.{count_from_yields_List}
+use Rattle.std.proofs.lemmas.Iterator.Search.{YieldsList-from_take_while}
+use Rattle.classes.specs.Classes.{one_of, class_of}
 use Rattle.text.specs.Tokens.{run}
+use Rattle.text.proofs.Steps as steps
 use Rattle.text.proofs.run_end.Goals as goal
-
-pub returns-then-c-ne-HYPHEN : goal.returns-then-c-ne-HYPHEN
-returns-then-c-ne-HYPHEN c =
-    let l = c.loop-i in
-    let s = c.args.text.now in
-    let h : l.i < length s = search rules in
-    let z = steps.run_stops s l.i _ h c.class_of-c.ensures c.if-c-ne-ALPHANUMERIC.true c.if-c-ne-HYPHEN.true in
-    let v = l.invariant.1 in
-    omega arith
-
-pub loop-i-preserved : goal.loop-i-preserved
-loop-i-preserved c =
-    let l = c.loop-i in
-    let s = c.args.text.now in
-    let h : l.i < length s = search rules in
-    let e = c.class_of-c.ensures in
-    let z : run (drop l.i s) ≡ suc (run (drop (l.i + 1) s)) =
-    ⊎_elim (λ x. steps.run_three s l.i _ h e x.if-c-ne-HYPHEN.false) (λ x. steps.run_two s l.i _ h e x.if-c-ne-ALPHANUMERIC.false) c.if-c-ne-ALPHANUMERIC.branch-raw in
-    let v = l.invariant.1 in
-    (omega arith, omega arith)
 
 pub returns : goal.returns
 returns c =
-    let l = c.loop-i in
-    let s = c.args.text.now in
-    let h : length s ≤ l.i = search rules in
-    let z = steps.run_ends s l.i h in
-    let v = l.invariant.1 in
-    omega arith
+    let a = c.args in
+    ap (λ (n : ℕ). a.at + n) (steps.prefix_counted (λ x. one_of (2 ∷ 3 ∷ []) (class_of x)) run steps.prefix_run a.text.now a.at c.min-start.result c.count.result (search rules)
+    (count_from_yields_List c.take_while.result _ c.count.ensures.ran
+    (YieldsList-from_take_while _ (λ x. one_of (2 ∷ 3 ∷ []) (class_of x)) (YieldsList-from_slice _ (cc)) c.take_while.ensures.closure c.take_while.ensures.done (λ x b q k. search (rules, tests)))))

@@ -1,9 +1,9 @@
--- Each text moves the position on, within the input.
-use Rattle.std.proofs.Common.{◌-◌, ◌≤◌, length}
+-- Each text takes at least two bytes of what is left of the input.
+use Rattle.std.proofs.Common.{◌+◌, ◌≤◌, length}
 use Rattle.token_cases.proofs.write_cases.Given as goal
 
-abbrev pub invariant-loop-at : goal.invariant-loop-at
-invariant-loop-at g l = (l.at ≤ length l.cases) × (l.number ≤ l.at)
+abbrev pub invariant-loop-rest : goal.invariant-loop-rest
+invariant-loop-rest g l = l.number + length l.rest ≤ length l.cases
 
-abbrev pub decreases-loop-at : goal.decreases-loop-at
-decreases-loop-at g l = length l.cases - l.at
+abbrev pub decreases-loop-rest : goal.decreases-loop-rest
+decreases-loop-rest g l = length l.rest

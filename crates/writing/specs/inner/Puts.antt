@@ -1,5 +1,6 @@
 -- What a function that puts bytes into an output leaves: the output with them at their place, where they fit, and the place after them.
 use Rattle.std.specs.Prelude.{ℕ, ◌+◌, ◌*◌, ◌≤◌, ◌≡◌, List, ◌++◌, length, take, drop}
+use Rattle.writing.specs.declared.sheet.Sheet.{Sheet}
 use Rattle.laws.specs.Limits.{name_limit, slot_limit, value_limit, rule_limit, literal_limit, assignment_limit}
 
 -- No pair with its mark, no line of a slot and no line of a rule has more bytes, and so no print of an accepted text has more than `longest` (`print_bounded`, crate `printing`).
@@ -24,3 +25,8 @@ pub record Puts (before : List ℕ) (at : ℕ) (ys after : List ℕ) (end : ℕ)
   pub ends : end ≡ at + length ys
   pub same_length : length after ≡ length before
   pub there : at + length ys ≤ length before → after ≡ put_in before at ys
+
+-- The same on a sheet, which keeps its output.
+pub record PutsOn (before : Sheet) (ys : List ℕ) (after : Sheet) : Type 0 where
+  pub same_output : after.out.ghost_name ≡ before.out.ghost_name
+  pub puts : Puts before.out.now before.at ys after.out.now after.at

@@ -9,6 +9,7 @@ use Rattle.table.specs.Zero.{zero_slot, zero_rule}
 use Rattle.table.specs.inner.Flat.{place_of}
 use Rattle.table.specs.Link.{rules_of}
 use Rattle.steps.specs.inner.Spans.{span_start, span_letters}
+use Rattle.writing.specs.declared.spelling.Spelling.{Spelling}
 use Rattle.writing.specs.inner.Written.{Pairing, rule_bytes, line_bytes, lines_joined}
 
 -- The letters at a span; none where it does not lie in the text.
@@ -22,6 +23,10 @@ spelled_value text valuespans p = cond (eqb p.value 0) (bytes "NONE") (spelled t
 -- A pair by the spans of its slot and of its value.
 unfoldable pub spelled_pair : List ℕ → List ℕ → List ℕ → Pairing
 spelled_pair text slotspans valuespans mark p = spelled text (get_or slotspans p.slot 0) ++ (mark ++ spelled_value text valuespans p)
+
+-- The same by a spelling.
+abbrev pub paired : Spelling → Pairing
+paired s = spelled_pair s.text.now s.slotspans.now s.valuespans.now
 
 -- The names of the first values of a slot.
 unfoldable pub spelled_values : List ℕ → List ℕ → ℕ → ℕ → List (List ℕ)

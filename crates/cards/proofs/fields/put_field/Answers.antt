@@ -1,8 +1,7 @@
 -- `cards::fields::put_field` meets its contract.
 use mathlib.Core.Path.{◌≡◌, ap, ◌∙◌}
 use Prim.Native.Nat.{ℕ, ◌+◌, ◌*◌, ◌^◌, ◌%◌, ◌-◌, ◌≤◌, ◌<◌}
-use lib.ListN.{length-set}
-use lib.Pow.{pow_mono, shl_lt, shr_le}
+use lib.Pow.{pow_mono, shl_lt}
 use Rattle.laws.proofs.Put.{kept_lt, put_one, put_two}
 use native.Mathlib.Omega.{arith}
 use Rattle.cards.proofs.fields.put_field.Goals.{After-shifted, After-shifted-word}
@@ -24,20 +23,8 @@ word_lt c =
     let z : h + (16 - h) ≡ 16 = omega (arith, c.requires.1) in
     rw c.shifted-word.ensures (rw z at (shl_lt h (16 - h) ((let it : c.shifted.result + c.args.x < 2 ^ (c.args.at % 8 + c.args.width) = rw c.shifted.ensures (kept_lt (c.args.at % 8) c.args.width c.args.x c.number.result (omega arith) c.number.ensures.1 c.requires.2) in it))))
 
-pub shifted-requires : goal.shifted-requires
-shifted-requires c = (omega (arith, c.number.ensures.1, shr_le c.number.result (8 - c.args.at % 8)), omega (arith, c.requires.1))
-
-pub overflow_add-joined : goal.overflow_add-joined
-overflow_add-joined c = record { fits = omega (arith, joined_word (goal.at.overflow_add-joined c).After-shifted) }
-
-pub shifted-word-requires : goal.shifted-word-requires
-shifted-word-requires c = (joined_word (goal.at.shifted-word-requires c).After-shifted, omega arith)
-
 pub overflow_cast-out : goal.overflow_cast-out
 overflow_cast-out c = record { fits = omega (arith, word_lt (goal.at.overflow_cast-out c).After-shifted-word) }
-
-pub bounds-out-k-then-used-gt8 : goal.bounds-out-k-then-used-gt8
-bounds-out-k-then-used-gt8 c = rw length-set (omega (arith, c.if-used-gt8.true, c.requires.4))
 
 pub returns-then-used-gt8 : goal.returns-then-used-gt8
 returns-then-used-gt8 c =

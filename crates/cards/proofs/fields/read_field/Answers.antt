@@ -4,11 +4,7 @@ use Prim.Native.Nat.{◌^◌}
 use native.Mathlib.Nat.{mod-lt, one-mul}
 use lib.Pow.{pow_pos}
 use Rattle.laws.proofs.Put.{field_word}
-use native.Mathlib.Omega.{arith}
 use Rattle.cards.proofs.fields.read_field.Goals as goal
-
-pub nonzero_rem-result : goal.nonzero_rem-result
-nonzero_rem-result c = let p = pow_pos c.args.width in omega (arith, c.shifted.ensures, p)
 
 pub returns : goal.returns
 returns c =

@@ -1,35 +1,25 @@
 -- `clauses::assignments::assignment_value` meets its contract.
 use native.Mathlib.Omega.{arith}
-use mathlib.Core.Path.{ap, subst, ◌∙◌}
-use lib.ListN.{length}
-use Rattle.steps.specs.inner.Places.{step_part, StepLies}
-use Rattle.steps.specs.declared.step.Step.TheVariants as step
-use Rattle.steps.specs.inner.Spans.{number_part, ValueLies}
-use Rattle.steps.specs.declared.lookup.Number.TheVariants as number
+use mathlib.Core.Path.{◌≡◌}
+use borrow.Author.Rules.{rules}
+use Rattle.std.specs.Prelude.{Err}
 use Rattle.clauses.proofs.AssignmentLaws as assignments
-use Rattle.clauses.proofs.assignments.assignment_value.Goals.{In-At, In-Is}
 use Rattle.clauses.proofs.assignments.assignment_value.Goals as goal
 
--- The position after the mark.
-mark-lies : (c : In-At) → StepLies (length c.args.rest.now) c.args.at (step.At c.in-At.after)
-mark-lies c = subst (StepLies _ _) c.in-At.is c.word_next-mark.ensures.1
+pub returns-in_err-after : goal.returns-in_err-after
+returns-in_err-after c =
+    let z : c.from_residual.result ≡ Err c.in_err-after.field-0.0 = search rules in
+    rw z (λ base slots h. assignments.value_mark slots _ _ _ (c.in_err-after.ensures.0 base), tt)
 
--- The value that was found is 0 to 15.
-found-lies : (c : In-Is) → ValueLies (length c.args.rest.now) c.in-At.after (number.Is c.in-Is.value c.in-Is.next)
-found-lies c = subst (ValueLies _ _) c.in-Is.is c.value_next-found.ensures.1
+pub returns-in_err-found : goal.returns-in_err-found
+returns-in_err-found c =
+    let z : c.from_residual-in_err-found.result ≡ Err c.in_err-found.field-0.0 = search rules in
+    rw z (λ base slots h. assignments.value_stop slots _ _ _ tt _ (c.in_ok-after.ensures.0 base) (c.in_err-found.ensures.0 base slots h), tt)
 
-pub byte-requires-in-Is : goal.byte-requires-in-Is
-byte-requires-in-Is c = omega (arith, (found-lies (goal.at.byte-requires-in-Is c).In-Is).0)
-
-pub returns-in-Is : goal.returns-in-Is
-returns-in-Is c =
-    let l = found-lies (goal.at.returns-in-Is c).In-Is in
-    let n = mark-lies (goal.at.returns-in-Is c).In-At in
-    (λ base slots h. rw (c.byte.ensures, c.byte-in-Is.ensures) (assignments.value_took slots _ _ _ _ _ _ (c.word_next-mark.ensures.0 base ∙ ap (step_part _ base) c.in-At.is) (c.value_next-found.ensures.0 base slots h ∙ ap (number_part _ base) c.in-Is.is)), (omega (arith, n.0, l.1), l.2))
-
-pub returns-in-Fault-found : goal.returns-in-Fault-found
-returns-in-Fault-found c = (λ base slots h. assignments.value_stop slots _ _ _ _ _ (c.word_next-mark.ensures.0 base ∙ ap (step_part _ base) c.in-At.is) (c.value_next-found.ensures.0 base slots h ∙ ap (number_part _ base) c.in-Fault-found.is), tt)
-
-pub returns-in-Fault : goal.returns-in-Fault
-returns-in-Fault c =
-    (λ base slots h. assignments.value_mark slots _ _ _ (c.word_next-mark.ensures.0 base ∙ ap (step_part _ base) c.in-Fault.is), tt)
+pub returns : goal.returns
+returns c =
+    let m = c.in_ok-after.ensures in
+    let v = c.in_ok-found.ensures in
+    let k = m.1.0 in
+    let j = v.1.1 in
+    (λ base slots h. assignments.value_took slots _ _ _ _ tt _ (m.0 base) (v.0 base slots h), (omega arith, v.1.2))

@@ -1,75 +1,71 @@
 -- `clauses::assignments::assignments_next` meets its contract.
-use Prim.Native.Nat.{suc, ◌-◌}
+use Prim.Native.Nat.{◌-◌}
 use native.Mathlib.Omega.{arith}
 use mathlib.Core.Path.{◌≡◌, sym, ap, subst, ◌∙◌}
 use lib.ListN.{length}
+use borrow.Author.Rules.{rules}
+use Rattle.std.specs.Prelude.{Ok, Err}
 use Rattle.laws.specs.Limits.{assignment_limit}
+use Rattle.steps.specs.declared.step.Fork.{Fork}
 use Rattle.steps.specs.inner.Places.{choice, ForkLies}
-use Rattle.clauses.specs.inner.Assignments.{pairs_in, UnusedZero, assignment_part, AssignmentLies}
-use Rattle.steps.specs.declared.step.Fork.TheVariants as way
-use Rattle.clauses.specs.declared.assignments.AssignmentRead.TheVariants as read
+use Rattle.clauses.specs.inner.Assignments.{pairs_in, UnusedZero}
+use Rattle.table.specs.Link.{assignment_of}
+use Rattle.table.specs.Zero.{zero_assignment}
 use Rattle.clauses.proofs.AssignmentLaws as assignments
-use Rattle.clauses.proofs.assignments.assignments_next.Goals.{After-with_assignment-list, In-First, In-Second, In-Took}
+use Rattle.clauses.proofs.ListLaws as lists
+use Prim.Native.Nat.{suc}
 use Rattle.clauses.proofs.assignments.assignments_next.Goals as goal
-
--- The position after the assignment, and what was read.
-read-lies : (c : In-Took) → AssignmentLies (length c.args.rest.now) c.loop-list.at (read.Took c.in-Took.assignment c.in-Took.next)
-read-lies c = subst (AssignmentLies _ _) c.in-Took.is c.assignment_next-read.ensures.1
-
--- The position after the mark.
-comma-lies : (c : In-First) → ForkLies (length c.args.rest.now) c.in-Took.next (way.First c.in-First.after)
-comma-lies c = subst (ForkLies _ _) c.in-First.is c.fork_next-mark.ensures.1
-
-close-lies : (c : In-Second) → ForkLies (length c.args.rest.now) c.in-Took.next (way.Second c.in-Second.after)
-close-lies c = subst (ForkLies _ _) c.in-Second.is c.fork_next-mark.ensures.1
-
--- One assignment fewer may come.
-room_falls : (c : After-with_assignment-list) → assignment_limit - c.loop-list.list.count ≡ suc (assignment_limit - c.with_assignment-list.result.count)
-room_falls c = let e = c.with_assignment-list.ensures.1 in let h = c.loop-list-test.true in omega arith
 
 pub loop-list-init : goal.loop-list-init
 loop-list-init c =
     let e = c.no_assignments-list.ensures in
     (omega arith, subst UnusedZero (sym e) assignments.none_zero, λ base slots h. assignments.list_start slots _ _ e)
 
-pub with_assignment-list-requires : goal.with_assignment-list-requires
-with_assignment-list-requires c = c.loop-list-test.true
-
-pub loop-list-smaller : goal.loop-list-smaller
-loop-list-smaller c = let e = room_falls (goal.at.loop-list-smaller c).After-with_assignment-list in omega arith
-
 pub loop-list-preserved : goal.loop-list-preserved
 loop-list-preserved c =
     let l = c.loop-list in
-    let f = c.with_assignment-list.ensures.0 l.invariant.1 in
-    let d = read-lies (goal.at.loop-list-preserved c).In-Took in
-    let g = comma-lies (goal.at.loop-list-preserved c).In-First in
-    (omega (arith, l.invariant.0, d.0, g.0), f.1, λ base slots h. l.invariant.2 base slots h ∙ assignments.list_on slots _ _ _ _ _ _ _ _ (room_falls (goal.at.loop-list-preserved c).After-with_assignment-list) f.0 (c.assignment_next-read.ensures.0 base slots h ∙ ap (assignment_part _ base) c.in-Took.is) (c.fork_next-mark.ensures.0 base ∙ ap (choice _ base) c.in-First.is))
+    let h = c.loop-list-test.true in
+    let f = lists.longer assignment_of assignment_limit zero_assignment c.in_ok-read.read.value l.list c.push.new.self c.push.ensures l.invariant.1 h in
+    let n = f.2 in
+    let e : assignment_limit - l.list.count ≡ suc (assignment_limit - c.push.new.self.count) = omega arith in
+    let r = c.args.s.tokens.rest.now in
+    let a = c.in_ok-read.ensures in
+    let k = c.in_ok-next.ensures in
+    let d = subst (λ (x : Fork). ForkLies (length r) c.in_ok-read.read.next (Ok x)) c.in-First.is k.1 in
+    (omega (arith, l.invariant.0, a.1.0, d.0), f.1, λ base slots L. l.invariant.2 base slots L ∙ assignments.list_on slots _ _ _ _ _ _ _ _ e f.0 (a.0 base slots L) (k.0 base ∙ ap (λ (x : Fork). choice r base (Ok x)) c.in-First.is))
 
 pub returns-in-Second : goal.returns-in-Second
 returns-in-Second c =
     let l = c.loop-list in
-    let f = c.with_assignment-list.ensures.0 l.invariant.1 in
-    let d = read-lies (goal.at.returns-in-Second c).In-Took in
-    let g = close-lies (goal.at.returns-in-Second c).In-Second in
-    (λ base slots h. l.invariant.2 base slots h ∙ assignments.list_end slots _ _ _ _ _ _ _ _ (room_falls (goal.at.returns-in-Second c).After-with_assignment-list) f.0 (c.assignment_next-read.ensures.0 base slots h ∙ ap (assignment_part _ base) c.in-Took.is) (c.fork_next-mark.ensures.0 base ∙ ap (choice _ base) c.in-Second.is), ((omega (arith, l.invariant.0, d.0, g.0), g.1), f.1))
-
-pub returns-in-Fault-mark : goal.returns-in-Fault-mark
-returns-in-Fault-mark c =
-    let l = c.loop-list in
-    let f = c.with_assignment-list.ensures.0 l.invariant.1 in
-    (λ base slots h. l.invariant.2 base slots h ∙ assignments.list_fault slots _ _ _ _ _ _ _ (room_falls (goal.at.returns-in-Fault-mark c).After-with_assignment-list) (c.assignment_next-read.ensures.0 base slots h ∙ ap (assignment_part _ base) c.in-Took.is) (c.fork_next-mark.ensures.0 base ∙ ap (choice _ base) c.in-Fault-mark.is), (tt, f.1))
-
-pub returns-in-Fault : goal.returns-in-Fault
-returns-in-Fault c =
     let h = c.loop-list-test.true in
+    let f = lists.longer assignment_of assignment_limit zero_assignment c.in_ok-read.read.value l.list c.push.new.self c.push.ensures l.invariant.1 h in
+    let n = f.2 in
+    let e : assignment_limit - l.list.count ≡ suc (assignment_limit - c.push.new.self.count) = omega arith in
+    let r = c.args.s.tokens.rest.now in
+    let a = c.in_ok-read.ensures in
+    let k = c.in_ok-next.ensures in
+    let d = subst (λ (x : Fork). ForkLies (length r) c.in_ok-read.read.next (Ok x)) c.in-Second.is k.1 in
+    (λ base slots L. l.invariant.2 base slots L ∙ assignments.list_end slots _ _ _ _ _ _ _ _ e f.0 (a.0 base slots L) (k.0 base ∙ ap (λ (x : Fork). choice r base (Ok x)) c.in-Second.is), (omega (arith, l.invariant.0, a.1.0, d.0), d.1, f.1))
+
+pub returns-in_err-next : goal.returns-in_err-next
+returns-in_err-next c =
     let l = c.loop-list in
+    let h = c.loop-list-test.true in
     let e : assignment_limit - l.list.count ≡ suc (assignment_limit - l.list.count - 1) = omega arith in
-    (λ base slots h. l.invariant.2 base slots h ∙ assignments.list_stop slots _ _ _ _ _ e (c.assignment_next-read.ensures.0 base slots h ∙ ap (assignment_part _ base) c.in-Fault.is), (tt, l.invariant.1))
+    let z : c.from_residual-in_err-next.result ≡ Err c.in_err-next.field-0.0 = search rules in
+    rw z (λ base slots L. l.invariant.2 base slots L ∙ assignments.list_fault slots _ _ _ _ _ _ _ e (c.in_ok-read.ensures.0 base slots L) (c.in_err-next.ensures.0 base), tt)
+
+pub returns-in_err-read : goal.returns-in_err-read
+returns-in_err-read c =
+    let l = c.loop-list in
+    let h = c.loop-list-test.true in
+    let e : assignment_limit - l.list.count ≡ suc (assignment_limit - l.list.count - 1) = omega arith in
+    let z : c.from_residual.result ≡ Err c.in_err-read.field-0.0 = search rules in
+    rw z (λ base slots L. l.invariant.2 base slots L ∙ assignments.list_stop slots _ _ _ _ _ e (c.in_err-read.ensures.0 base slots L), tt)
 
 pub returns : goal.returns
 returns c =
-    let h = c.loop-list-test.false in
     let l = c.loop-list in
+    let h = c.loop-list-test.false in
     let e : assignment_limit - l.list.count ≡ 0 = omega arith in
-    (λ base slots h. l.invariant.2 base slots h ∙ assignments.list_full slots _ _ _ e ∙ c.surplus_fault.ensures base (pairs_in l.list), (tt, l.invariant.1))
+    (λ base slots L. l.invariant.2 base slots L ∙ assignments.list_full slots _ _ _ e ∙ c.surplus_fault.ensures base (pairs_in l.list), tt)

@@ -11,8 +11,8 @@ use Rattle.clauses.proofs.assignments.assignments_next.Given as goal
 
 abbrev pub invariant-loop-list : goal.invariant-loop-list
 invariant-loop-list l =
-    (l.start ≤ l.at) × UnusedZero l.list × ((base : ℕ) (slots : List Slot) → Looked l.text slots l.slotspans l.valuespans
-    → read_assignments slots assignment_limit [] (tokens_past l.rest base l.start) ≡ read_assignments slots (assignment_limit - l.list.count) (pairs_in l.list) (tokens_past l.rest base l.at))
+    (l.start ≤ l.at) × UnusedZero l.list × ((base : ℕ) (slots : List Slot) → Looked l.s.text.now slots l.s.slotspans.now l.s.valuespans.now
+    → read_assignments slots assignment_limit [] (tokens_past l.s.tokens.rest.now base l.start) ≡ read_assignments slots (assignment_limit - l.list.count) (pairs_in l.list) (tokens_past l.s.tokens.rest.now base l.at))
 
 abbrev pub decreases-loop-list : goal.decreases-loop-list
 decreases-loop-list l = assignment_limit - l.list.count

@@ -1,8 +1,7 @@
 -- `clauses::assignments::no_assignments` meets its contract.
-use mathlib.Core.Path.{refl}
 use Rattle.laws.specs.Filled.{filled}
 use Rattle.clauses.proofs.assignments.no_assignments.Goals as goal
 
 pub returns : goal.returns
 unfolding filled
-returns c = refl
+returns c = c.new.ensures

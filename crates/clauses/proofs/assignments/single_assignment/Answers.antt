@@ -1,34 +1,27 @@
 -- `clauses::assignments::single_assignment` meets its contract.
 use native.Mathlib.Omega.{arith}
-use mathlib.Core.Path.{sym, ap, subst, ◌∙◌}
-use Prim.Native.Nat.{ℕ}
-use lib.ListN.{length}
-use Rattle.steps.specs.inner.Places.{NamedLies}
-use Rattle.clauses.specs.inner.Assignments.{UnusedZero, assignment_part, AssignmentLies}
-use Rattle.clauses.specs.declared.assignments.AssignmentRead.TheVariants as read
+use mathlib.Core.Path.{◌≡◌, sym, subst}
+use borrow.Author.Rules.{rules}
+use Rattle.std.specs.Prelude.{Err}
+use Rattle.clauses.specs.inner.Assignments.{UnusedZero}
+use Prim.Native.Nat.{◌<◌}
+use Rattle.laws.specs.Limits.{assignment_limit}
+use Rattle.table.specs.Link.{assignment_of}
+use Rattle.table.specs.Zero.{zero_assignment}
 use Rattle.clauses.proofs.AssignmentLaws as assignments
-use Rattle.clauses.proofs.assignments.single_assignment.Goals.{After-no_assignments-none, In-Took}
+use Rattle.clauses.proofs.ListLaws as lists
 use Rattle.clauses.proofs.assignments.single_assignment.Goals as goal
 
--- The position after the assignment.
-read-lies : (c : In-Took) (at : ℕ) → NamedLies (length c.args.rest.now) at c.args.named
-    → AssignmentLies (length c.args.rest.now) at (read.Took c.in-Took.assignment c.in-Took.next)
-read-lies c at l = subst (AssignmentLies _ _) c.in-Took.is (c.assignment_of-read.ensures.1 at l)
+pub returns-in_err-read : goal.returns-in_err-read
+returns-in_err-read c =
+    let z : c.from_residual.result ≡ Err c.in_err-read.field-0.0 = search rules in
+    rw z (λ base ts slots e L. assignments.single_stop slots _ ts _ (assignments.none_pairs _ c.no_assignments-list.ensures) (c.in_err-read.ensures.0 base ts slots e L), λ at l. tt)
 
--- No assignments are a list of which no place is used.
-none_zero : (c : After-no_assignments-none) → UnusedZero c.no_assignments-none.result
-none_zero c = subst UnusedZero (sym c.no_assignments-none.ensures) assignments.none_zero
-
-pub with_assignment-list-requires : goal.with_assignment-list-requires
-with_assignment-list-requires c = rw c.no_assignments-none.ensures (omega arith)
-
-pub returns-in-Took : goal.returns-in-Took
-returns-in-Took c =
-    let z = assignments.none_pairs _ c.no_assignments-none.ensures in
-    let f = c.with_assignment-list.ensures.0 (none_zero (goal.at.returns-in-Took c).After-no_assignments-none) in
-    (λ base ts slots e h. assignments.single_took slots _ _ ts _ _ z f.0 (c.assignment_of-read.ensures.0 base ts slots e h ∙ ap (assignment_part _ base) c.in-Took.is), λ at l. (read-lies (goal.at.returns-in-Took c).In-Took at l, f.1))
-
-pub returns-in-Fault : goal.returns-in-Fault
-returns-in-Fault c =
-    let z = assignments.none_pairs _ c.no_assignments-none.ensures in
-    (λ base ts slots e h. assignments.single_stop slots _ ts _ z (c.assignment_of-read.ensures.0 base ts slots e h ∙ ap (assignment_part _ base) c.in-Fault.is), λ at l. (tt, none_zero (goal.at.returns-in-Fault c).After-no_assignments-none))
+pub returns : goal.returns
+returns c =
+    let n = c.no_assignments-list.ensures in
+    let none = c.no_assignments-list.result in
+    let few : none.count < assignment_limit = rw n (omega arith) in
+    let f = lists.longer assignment_of assignment_limit zero_assignment c.in_ok-read.read.value none c.push.new.self c.push.ensures (subst UnusedZero (sym n) assignments.none_zero) few in
+    let a = c.in_ok-read.ensures in
+    (λ base ts slots e L. assignments.single_took slots _ _ ts _ _ (assignments.none_pairs _ n) f.0 (a.0 base ts slots e L), λ at l. let k = a.1 at l in (k.0, k.1, f.1))

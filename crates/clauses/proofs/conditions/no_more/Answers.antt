@@ -1,30 +1,26 @@
 -- `clauses::conditions::no_more` meets its contract.
-use mathlib.Core.Path.{refl, sym, ap, ◌∙◌}
-use Rattle.grammar.specs.Reading.{stop, no_literal}
+use mathlib.Core.Path.{◌≡◌, refl, sym, ap, ◌∙◌}
+use borrow.Author.Rules.{rules}
+use Rattle.grammar.specs.Reading.{stop}
+use Rattle.steps.specs.declared.step.Fault.{Fault}
+use Rattle.steps.specs.Faults.{fault_number}
 use Rattle.steps.proofs.Places as places
 use Rattle.clauses.proofs.ConditionLaws as conditions
+use Rattle.text.specs.declared.Token.TheVariants as v
+use Rattle.text.specs.declared.Word.TheVariants as w
+use Rattle.grammar.specs.Reading.{no_literal}
 use Rattle.clauses.proofs.conditions.no_more.Goals as goal
 
-pub returns-then-w-eq-NOT : goal.returns-then-w-eq-NOT
-returns-then-w-eq-NOT c =
-    let rest = c.args.rest.now in
-    let at = c.args.at in
-    λ base sofar. ap (no_literal sofar) (places.stands rest base at _ _ c.token_by-next.ensures c.in-Word.is) ∙ conditions.more_not _ sofar _ c.if-w-eq-NOT.true
-
-pub returns-else-w-eq-NOT : goal.returns-else-w-eq-NOT
-returns-else-w-eq-NOT c =
-    let rest = c.args.rest.now in
-    let at = c.args.at in
-    λ base sofar. ap (no_literal sofar) (places.stands rest base at _ _ c.token_by-next.ensures c.in-Word.is) ∙ conditions.more_word _ sofar _ c.if-w-eq-NOT.false
+pub returns-then-eq : goal.returns-then-eq
+returns-then-eq c =
+    let t : c.token-next.result.token ≡ v.Word w.Not = search rules in
+    λ base sofar. ap (no_literal sofar) (places.stands c.args.tokens.rest.now base c.args.at _ _ c.token-next.ensures t) ∙ conditions.more_not sofar _
 
 pub returns-in-Name : goal.returns-in-Name
-returns-in-Name c =
-    let rest = c.args.rest.now in
-    let at = c.args.at in
-    λ base sofar. ap (no_literal sofar) (places.stands rest base at _ _ c.token_by-next.ensures refl) ∙ conditions.more_name rest base c.token_by-next.result.token sofar _ c.in-Name.in-Name-own.keys2
+returns-in-Name c = λ base sofar. ap (no_literal sofar) (places.stands c.args.tokens.rest.now base c.args.at _ _ c.token-next.ensures c.in-Name.is) ∙ conditions.more_name c.args.tokens.rest.now base _ sofar _
 
 pub returns-in_default : goal.returns-in_default
 returns-in_default c =
-    let rest = c.args.rest.now in
-    let at = c.args.at in
-    λ base sofar. ap (no_literal sofar) (places.stands rest base at _ _ c.token_by-next.ensures refl) ∙ conditions.more_other rest base c.token_by-next.result.token sofar _ c.in_default.in_default-own.keys3 ∙ ap stop (sym c.fault_of.ensures)
+    let t : c.token-next.result.token ≡ v.Word w.Not → ⊥ = search rules in
+    λ base sofar. ap (no_literal sofar) (places.stands c.args.tokens.rest.now base c.args.at _ _ c.token-next.ensures refl) ∙ conditions.more_other c.args.tokens.rest.now base _ sofar _ t c.in_default.in_default-own.keys2
+    ∙ ap (λ (k : Fault). stop (fault_number k)) (sym c.fault_of.ensures)

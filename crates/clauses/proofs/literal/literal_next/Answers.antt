@@ -1,12 +1,12 @@
 -- `clauses::literal::literal_next` meets its contract.
-use mathlib.Core.Path.{◌∙◌}
+use mathlib.Core.Path.{◌≡◌, ◌∙◌}
+use borrow.Author.Rules.{rules}
+use Rattle.std.specs.Prelude.{Err}
 use Rattle.clauses.proofs.LiteralLaws as literals
 use Rattle.clauses.proofs.literal.literal_next.Goals as goal
 
-pub plain_literal-requires : goal.plain_literal-requires
-plain_literal-requires c = let p = c.requires in let n = c.skip_nots-nots.ensures in (p.0, (n.at, n.lies), p.1)
-
-pub returns : goal.returns
-returns c =
+pub returns-in_err-named : goal.returns-in_err-named
+returns-in_err-named c =
     let n = c.skip_nots-nots.ensures in
-    (λ base slots L. n.nots base slots ∙ c.plain_literal.ensures.0 base _ slots (n.name base) L, literals.lies_earlier _ _ _ c.plain_literal.result n.later (c.plain_literal.ensures.1 n.at n.lies))
+    let z : c.from_residual.result ≡ Err c.in_err-named.field-0.0 = search rules in
+    rw z (λ base slots L. n.nots base slots ∙ literals.plain_unnamed slots _ _ _ ((c.in_err-named.ensures c.args.s.tokens.rest.now n.at n.here).0 base), tt)

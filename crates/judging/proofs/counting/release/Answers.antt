@@ -13,16 +13,16 @@ use Rattle.judging.proofs.counting.release.Goals.{After-place-p, In-loop-k}
 use Rattle.judging.proofs.counting.release.Goals as goal
 
 -- There is an assignment at the place at hand.
-used : (c : In-loop-k) → c.loop-k.k < (rule_in c.args.row.now).assigned
-used c = omega (arith, c.assigned-m.ensures, c.loop-k-test.true)
+used : (c : In-loop-k) → c.loop-k.k < (rule_in c.args.row.now.numbers).assigned
+used c = omega (arith, c.assigned-k-end.ensures)
 
 -- It is counted.
 counted : (c : After-place-p) → 1 ≤ get_or c.loop-k.live c.place-p.result 0
 counted c =
-    let row = c.args.row.now in
-    let e = row_assigned_next row c.requires.0 c.loop-k.k c.assignment.result (used c.before.before) c.assignment.ensures in
-    let all = rw (← (assigned_start (rule_in row))) at (c.requires.2 c.place-p.result c.place-p.ensures.1) in
-    let left = rw e at (c.loop-k.invariant.2 c.place-p.result c.place-p.ensures.1) in
+    let row = c.args.row.now.numbers in
+    let e = row_assigned_next row c.args.row.now.fits c.loop-k.k c.assignment.result (used c.before.before) c.assignment.ensures in
+    let all = rw (← (assigned_start (rule_in row))) at (c.requires.1 c.place-p.result c.place-p.ensures.1) in
+    let left = rw e at (c.loop-k.invariant.1 c.place-p.result c.place-p.ensures.1) in
     let one = rw (← c.place-p.ensures.0) at (times_here (pair_in c.assignment.result) (assigned_from (rule_in row) (c.loop-k.k + 1))) in
     omega (arith, all, left, one)
 
@@ -31,19 +31,18 @@ overflow_sub-live c = let h = counted (goal.at.overflow_sub-live c).After-place-
 
 pub loop-k-preserved : goal.loop-k-preserved
 loop-k-preserved c =
-    let e = row_assigned_next c.args.row.now c.requires.0 c.loop-k.k c.assignment.result (used (goal.at.loop-k-preserved c).In-loop-k) c.assignment.ensures in
+    let e = row_assigned_next c.args.row.now.numbers c.args.row.now.fits c.loop-k.k c.assignment.result (used (goal.at.loop-k-preserved c).In-loop-k) c.assignment.ensures in
     let one = rw c.place-p.ensures.0 at (counted (goal.at.loop-k-preserved c).After-place-p) in
-    let inside : place_of (pair_in c.assignment.result) < length c.loop-k.live = omega (arith, c.place-p.ensures, c.loop-k.invariant.1) in (
-      search rules,
-      length-set c.loop-k.live _ _ ∙ c.loop-k.invariant.1,
+    let inside : place_of (pair_in c.assignment.result) < length c.loop-k.live = omega (arith, c.place-p.ensures, c.loop-k.invariant.0) in (
+      length-set c.loop-k.live _ _ ∙ c.loop-k.invariant.0,
       λ (q : ℕ) h.
-          let left = rw e at (c.loop-k.invariant.2 q h) in
-          let out = released_next c.loop-k.live (pair_in c.assignment.result) (assigned_from (rule_in c.args.row.now) (c.loop-k.k + 1)) q inside one in
+          let left = rw e at (c.loop-k.invariant.1 q h) in
+          let out = released_next c.loop-k.live (pair_in c.assignment.result) (assigned_from (rule_in c.args.row.now.numbers) (c.loop-k.k + 1)) q inside one in
           rw c.place-p.ensures.0 (omega (arith, left, out)),
     )
 
 pub returns : goal.returns
 returns c =
-    let r = rule_in c.args.row.now in
-    let e = assigned_end r c.loop-k.k (omega (arith, c.assigned-m.ensures, c.loop-k-test.false)) in
-    (c.loop-k.invariant.1, λ (q : ℕ) h. let end = rw e at (c.loop-k.invariant.2 q h) in rw (← (assigned_start r)) (omega (arith, end, times_none q)))
+    let r = rule_in c.args.row.now.numbers in
+    let e = assigned_end r c.loop-k.k (omega (arith, c.assigned-k-end.ensures)) in
+    (c.loop-k.invariant.0, λ (q : ℕ) h. let end = rw e at (c.loop-k.invariant.1 q h) in rw (← (assigned_start r)) (omega (arith, end, times_none q)))

@@ -1,5 +1,5 @@
 use mathlib.Core.Path.{◌≡◌}
-use Prim.Native.Nat.{ℕ, ◌+◌, ◌-◌, ◌≤◌, ◌<◌}
+use Prim.Native.Nat.{ℕ, ◌+◌, ◌<◌}
 use lib.ListN.{length, get_or}
 use Rattle.table.specs.inner.Flat.{pair_places}
 use Rattle.table.proofs.Walks.{assigned_from}
@@ -8,9 +8,4 @@ use Rattle.judging.specs.inner.Times.{times}
 use Rattle.judging.proofs.counting.release.Given as goal
 
 abbrev pub invariant-loop-k : goal.invariant-loop-k
-invariant-loop-k l =
-    (l.k ≤ l.m) × (length l.live ≡ pair_places)
-    × ((q : ℕ) → q < pair_places → get_or l.live q 0 + times q (assigned_from (rule_in l.row) 0) ≡ get_or l.initial.live q 0 + times q (assigned_from (rule_in l.row) l.k))
-
-abbrev pub decreases-loop-k : goal.decreases-loop-k
-decreases-loop-k l = l.m - l.k
+invariant-loop-k l = (length l.live ≡ pair_places) × ((q : ℕ) → q < pair_places → get_or l.live q 0 + times q (assigned_from (rule_in l.row.numbers) 0) ≡ get_or l.initial.live q 0 + times q (assigned_from (rule_in l.row.numbers) l.k))

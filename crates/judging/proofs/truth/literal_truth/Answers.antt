@@ -14,7 +14,7 @@ use Rattle.judging.proofs.truth.literal_truth.Goals as goal
 pub returns-then-number-ge-UNDER_NOT : goal.returns-then-number-ge-UNDER_NOT
 returns-then-number-ge-UNDER_NOT c =
     let x = c.args.number in
-    let under : x / (2 * pair_places) ≡ 1 = omega (arith, c.requires.0, c.if-number-ge-UNDER_NOT.true) in
+    let under : x / (2 * pair_places) ≡ 1 = omega (arith, c.requires, c.if-number-ge-UNDER_NOT.true) in
     λ S k h e. c.not.ensures.0 ∙ ap NOT₃ (c.test_truth-test.ensures S k h e ∙ test_without_not S (marks_of k) x) ∙ literal_not S (marks_of k) (literal_of (literal_in x)) (eq-eqb (x / (2 * pair_places)) 1 under)
 
 pub returns-else-number-ge-UNDER_NOT : goal.returns-else-number-ge-UNDER_NOT

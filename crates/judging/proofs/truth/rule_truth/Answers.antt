@@ -5,10 +5,10 @@ use Prim.Native.Nat.{ℕ, ◌+◌, ◌-◌, ◌<◌}
 use lib.ListN.{get_or}
 use Rattle.table.proofs.Walks.{literals_from}
 use Rattle.rows.specs.inner.Rows.{rule_in}
-use Rattle.rows.proofs.Laws.{number_fits}
 use Rattle.marks.specs.Marks.{truth_turns, truth_condition}
 use Rattle.table.specs.Link.{rule_of}
-use Rattle.judging.specs.inner.Known.{Known, marks_of, Truths}
+use Rattle.judging.specs.declared.truth.Known.{Known}
+use Rattle.judging.specs.inner.Known.{marks_of, Truths}
 use Rattle.judging.proofs.Tests.{trigger_test}
 use Rattle.judging.proofs.Joining.{condition_none, condition_next, rule_joined, trigger_decides, literals_decide}
 use native.Mathlib.Omega.{arith}
@@ -17,46 +17,35 @@ use Rattle.judging.proofs.truth.rule_truth.Goals as goal
 
 -- What the trigger comes to.
 trigger-is : (c : After-test_truth-trigger) (S : List ℕ) (k : Known) → Truths S k → c.args.truth.now ≡ k.truth
-    → c.test_truth-trigger.result ≡ truth_turns S (marks_of k) (rule_of (rule_in c.args.row.now)).trigger
+    → c.test_truth-trigger.result ≡ truth_turns S (marks_of k) (rule_of (rule_in c.args.row.now.numbers)).trigger
 trigger-is c S k t e =
-    let x = rw c.trigger-number.ensures at (c.test_truth-trigger.ensures S k t e) in
-    x ∙ trigger_test S (marks_of k) (get_or c.args.row.now 0 0) c.requires.0.trigger_becomes
+    let x = rw c.trigger-number.ensures.0 at (c.test_truth-trigger.ensures S k t e) in
+    x ∙ trigger_test S (marks_of k) (get_or c.args.row.now.numbers 0 0) c.args.row.now.fits.trigger_becomes
 
 -- The place at hand is that of a literal.
-used : (c : In-literals) → c.literals.j - 1 < (rule_in c.args.row.now).tested
-used c = omega (arith, c.literals.invariant.0, c.literals-test.true)
+used : (c : In-literals) → c.literals.j - 1 < (rule_in c.args.row.now.numbers).tested
+used c = omega (arith, c.tested-j.ensures)
 
 -- It is joined to those after it.
 joins : (c : After-and-condition) →
-    (S : List ℕ) (k : Known) → Truths S k → c.args.truth.now ≡ k.truth → c.and-condition.result ≡ truth_condition S (marks_of k) (literals_from (rule_in c.args.row.now) (c.literals.j - 1))
+    (S : List ℕ) (k : Known) → Truths S k → c.args.truth.now ≡ k.truth → c.and-condition.result ≡ truth_condition S (marks_of k) (literals_from (rule_in c.args.row.now.numbers) (c.literals.j - 1))
 joins c S k t e =
-    let j : c.literals.j ≡ (c.literals.j - 1) + 1 = omega (arith, c.literals-test.true) in
-    rw (c.and-condition.ensures.0, c.literal_truth-x.ensures S k t e, c.literals.invariant.1 S k t e) (condition_next S (marks_of k) c.args.row.now c.requires.0 (c.literals.j - 1) c.literals.j c.literal-next.result j (used c.before.before.before) c.literal-next.ensures)
-
-pub test_truth-trigger-requires : goal.test_truth-trigger-requires
-test_truth-trigger-requires c = (rw c.trigger-number.ensures (omega (arith, c.requires.0.trigger_becomes)), c.requires.1)
+    let j : c.literals.j ≡ (c.literals.j - 1) + 1 = omega arith in
+    rw (c.and-condition.ensures.0, c.literal_truth-x.ensures S k t e, c.literals.invariant S k t e) (condition_next S (marks_of k) c.args.row.now.numbers c.args.row.now.fits (c.literals.j - 1) c.literals.j c.literal-next.result j (used c.before.before.before) c.literal-next.ensures.0)
 
 pub returns-in-False : goal.returns-in-False
-returns-in-False c = λ S k t e. trigger_decides S (marks_of k) (rule_in c.args.row.now) (sym (trigger-is (goal.at.returns-in-False c).After-test_truth-trigger S k t e) ∙ c.in-False.is)
+returns-in-False c = λ S k t e. trigger_decides S (marks_of k) (rule_in c.args.row.now.numbers) (sym (trigger-is (goal.at.returns-in-False c).After-test_truth-trigger S k t e) ∙ c.in-False.is)
 
 pub literals-init : goal.literals-init
-literals-init c =
-    let row = c.args.row.now in
-    (omega (arith, c.tested-j.ensures), λ S k t e. condition_none S (marks_of k) (rule_in row) c.tested-j.result (omega (arith, c.tested-j.ensures)))
-
-pub literal-next-requires : goal.literal-next-requires
-literal-next-requires c = let h = used (goal.at.literal-next-requires c).In-literals in let f = c.requires.0.few_literals in omega (arith, h, f)
-
-pub literal_truth-x-requires : goal.literal_truth-x-requires
-literal_truth-x-requires c = (number_fits c.args.row.now c.requires.0 (c.literals.j - 1) c.literal-next.result (used (goal.at.literal_truth-x-requires c).In-literals) c.literal-next.ensures, c.requires.1)
+literals-init c = λ S k t e. condition_none S (marks_of k) (rule_in c.args.row.now.numbers) c.tested-j.result (omega (arith, c.tested-j.ensures))
 
 pub returns-in-False-condition : goal.returns-in-False-condition
-returns-in-False-condition c = λ S k t e. literals_decide S (marks_of k) (rule_in c.args.row.now) (c.literals.j - 1) (sym (joins (goal.at.returns-in-False-condition c).After-and-condition S k t e) ∙ c.in-False-condition.is)
+returns-in-False-condition c = λ S k t e. literals_decide S (marks_of k) (rule_in c.args.row.now.numbers) (c.literals.j - 1) (sym (joins (goal.at.returns-in-False-condition c).After-and-condition S k t e) ∙ c.in-False-condition.is)
 
 pub literals-preserved : goal.literals-preserved
-literals-preserved c = let h = used (goal.at.literals-preserved c).In-literals in (omega (arith, h), joins (goal.at.literals-preserved c).After-and-condition)
+literals-preserved c = joins (goal.at.literals-preserved c).After-and-condition
 
 pub returns : goal.returns
 returns c =
-    let j : c.literals.j ≡ 0 = omega (arith, c.literals-test.false) in
-    λ S k t e. rw (c.and.ensures.0, trigger-is (goal.at.returns c).After-test_truth-trigger S k t e, c.literals.invariant.1 S k t e, j) (rule_joined S (marks_of k) (rule_in c.args.row.now))
+    let j : c.literals.j ≡ 0 = omega arith in
+    λ S k t e. rw (c.and.ensures.0, trigger-is (goal.at.returns c).After-test_truth-trigger S k t e, c.literals.invariant S k t e, j) (rule_joined S (marks_of k) (rule_in c.args.row.now.numbers))

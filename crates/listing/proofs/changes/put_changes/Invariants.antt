@@ -1,4 +1,3 @@
-use Prim.Native.Nat.{◌-◌}
 use mathlib.Core.List.{map}
 use Rattle.cards.specs.Forms.{changes_in}
 use Rattle.writing.proofs.Putting.{Left}
@@ -8,7 +7,4 @@ use Rattle.listing.proofs.ChangeLines.{changes_from}
 use Rattle.listing.proofs.changes.put_changes.Given as goal
 
 abbrev pub invariant-loop-i : goal.invariant-loop-i
-invariant-loop-i l = Left l.initial.out l.initial.k (changes_text (map (change_line l.text l.t) (changes_in l.changes))) l.out l.k (changes_from l.text l.t l.changes l.i)
-
-abbrev pub decreases-loop-i : goal.decreases-loop-i
-decreases-loop-i l = l.m - l.i
+invariant-loop-i l = Left l.initial.sheet (changes_text (map (change_line l.text l.t) (changes_in l.changes))) l.sheet (changes_from l.text l.t l.changes l.i)

@@ -1,27 +1,21 @@
 -- `numbers::put_number` meets its contract.
-use Prim.Native.Nat.{◌+◌, ◌/◌, ◌%◌}
 use native.Mathlib.Omega.{arith}
-use mathlib.Core.Path.{sym}
-use mathlib.Core.List.{[], ◌∷◌}
-use Rattle.writing.specs.inner.Puts.{longest}
-use Rattle.writing.proofs.Putting.{puts_on, puts_as, room_first, room_rest}
-use Rattle.listing.specs.Printed.{decimal}
+use Rattle.writing.proofs.Putting.{puts_on, room_first, room_rest}
 use Rattle.listing.proofs.Digits.{decimal_one, decimal_more}
+use Rattle.listing.proofs.numbers.+put_number.Goals.{then-n-ge10, else-n-ge10}
 use Rattle.listing.proofs.numbers.+put_number.Goals as goal
 
+pub put_number-requires : goal.put_number-requires
+put_number-requires t c = (omega (arith, c.if-n-ge10.true, c.decreases), room_first _ _ _ (rw (decimal_more c.args.n c.if-n-ge10.true) at c.requires))
+
 pub put-requires : goal.put-requires
-put-requires t c = rw (decimal_one c.args.n c.if-n-lt10.true) at c.requires
-
-pub returns-then-n-lt10 : goal.returns-then-n-lt10
-returns-then-n-lt10 t c = puts_as (sym (decimal_one c.args.n c.if-n-lt10.true)) c.put.ensures
-
-pub put_number-k-requires : goal.put_number-k-requires
-put_number-k-requires t c =
-    let l = c.if-n-lt10.false in
-    (omega (arith, l, c.decreases), room_first c.args.at (decimal (c.args.n / 10)) ((48 + c.args.n % 10) ∷ []) longest (rw (decimal_more c.args.n l) at c.requires))
-
-pub put-requires-2 : goal.put-requires-2
-put-requires-2 t c = room_rest ((48 + c.args.n % 10) ∷ []) c.put_number-k.ensures (rw (decimal_more c.args.n c.if-n-lt10.false) at c.requires)
+put-requires t c = elim c.if-n-ge10.branch [
+  | then-n-ge10 w ↦ rw w.sheet-is (room_rest _ w.put_number.ensures (rw (decimal_more c.args.n w.if-n-ge10.true) at c.requires))
+  | else-n-ge10 w ↦ rw w.sheet-is (rw (decimal_one c.args.n w.if-n-ge10.false) at c.requires)
+]
 
 pub returns : goal.returns
-returns t c = puts_as (sym (decimal_more c.args.n c.if-n-lt10.false)) (puts_on c.put_number-k.ensures c.put-2.ensures)
+returns t c = elim c.if-n-ge10.branch [
+  | then-n-ge10 w ↦ rw (decimal_more c.args.n w.if-n-ge10.true) (puts_on w.put_number.ensures (rw w.sheet-is at c.put.ensures))
+  | else-n-ge10 w ↦ rw (decimal_one c.args.n w.if-n-ge10.false) (rw w.sheet-is at c.put.ensures)
+]

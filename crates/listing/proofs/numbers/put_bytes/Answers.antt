@@ -1,36 +1,24 @@
 -- `numbers::put_bytes` meets its contract.
-use Prim.Native.Nat.{ℕ, ◌+◌}
-use native.Mathlib.Omega.{arith}
-use mathlib.Core.Path.{◌≡◌}
-use mathlib.Core.List.{List, ◌++◌}
+use Prim.Native.Nat.{◌+◌}
+use mathlib.Core.List.{◌++◌}
 use lib.ListN.{get_or, drop}
 use borrow.Author.Rules.{rules}
-use Rattle.writing.proofs.Putting.{left_start, left_on, left_room, left_as, left_end}
+use Rattle.writing.proofs.Putting.{Left, left_on, left_room, left_as, left_end}
 use Rattle.listing.specs.Printed.{hex_digits, hexadecimal}
 use Rattle.listing.proofs.Digits.{hex_next, hex_end}
-use Rattle.listing.proofs.numbers.put_bytes.Goals.{In-loop-i}
+use Rattle.listing.proofs.numbers.put_bytes.Goals.{In-loop-byte}
 use Rattle.listing.proofs.numbers.put_bytes.Goals as goal
 
--- The bytes, and what is left after the next one.
-abbrev given : In-loop-i → List ℕ
-given c = c.args.s.now
+-- The digits of the next byte are left, and those of the bytes behind it.
+next : (c : In-loop-byte) → let i = c.loop-byte.byte-index in
+    Left c.args.sheet.now (hexadecimal c.args.bytes.now) c.loop-byte.sheet (hex_digits (get_or c.args.bytes.now i 0) ++ hexadecimal (drop (i + 1) c.args.bytes.now))
+next c = left_as (hex_next c.args.bytes.now c.loop-byte.byte-index (search rules)) c.loop-byte.invariant
 
-abbrev rest : In-loop-i → List ℕ
-rest c = hexadecimal (drop (c.loop-i.i + 1) (given c))
+pub put_byte-requires : goal.put_byte-requires
+put_byte-requires c = left_room (hex_digits (get_or c.args.bytes.now c.loop-byte.byte-index 0)) _ (next (goal.at.put_byte-requires c).In-loop-byte)
 
-next : (c : In-loop-i) → hexadecimal (drop c.loop-i.i (given c)) ≡ hex_digits (get_or (given c) c.loop-i.i 0) ++ rest c
-next c = hex_next (given c) c.loop-i.i (search rules)
-
-pub loop-i-init : goal.loop-i-init
-loop-i-init c = (omega arith, left_start c.args.out.now c.args.at (hexadecimal c.args.s.now) c.requires)
-
-pub put_byte-k-requires : goal.put_byte-k-requires
-put_byte-k-requires c = left_room (hex_digits (get_or (given (goal.at.put_byte-k-requires c).In-loop-i) c.loop-i.i 0)) (rest (goal.at.put_byte-k-requires c).In-loop-i) (left_as (next (goal.at.put_byte-k-requires c).In-loop-i) c.loop-i.invariant.1)
-
-pub loop-i-preserved : goal.loop-i-preserved
-loop-i-preserved c = (omega arith, left_on (rest (goal.at.loop-i-preserved c).In-loop-i) (left_as (next (goal.at.loop-i-preserved c).In-loop-i) c.loop-i.invariant.1) c.put_byte-k.ensures)
+pub loop-byte-preserved : goal.loop-byte-preserved
+loop-byte-preserved c = left_on _ (next (goal.at.loop-byte-preserved c).In-loop-byte) c.put_byte.ensures
 
 pub returns : goal.returns
-returns c =
-    let l = c.loop-i in
-    left_end (left_as (hex_end c.args.s.now l.i (search rules)) l.invariant.1)
+returns c = left_end (left_as (hex_end c.args.bytes.now c.loop-byte.byte-index (search rules)) c.loop-byte.invariant)

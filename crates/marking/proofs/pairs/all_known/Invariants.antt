@@ -1,7 +1,7 @@
 use mathlib.Core.Path.{◌≡◌}
 use mathlib.Core.Bool.{Bool, true, false}
 use mathlib.Core.List.{List}
-use Prim.Native.Nat.{ℕ, ◌+◌, ◌*◌, ◌-◌, ◌≤◌}
+use Prim.Native.Nat.{ℕ, ◌+◌, ◌*◌}
 use lib.ListN.{get_or}
 use Rattle.laws.specs.Truth.{◌∨ᵇ◌}
 use Rattle.laws.specs.Limits.{row}
@@ -13,13 +13,7 @@ abbrev pub IsMarked : List Bool → List Bool → ℕ → ℕ → Type 0
 IsMarked positive negative s v = get_or positive (s * row + v) false ∨ᵇ get_or negative (s * row + v) false ≡ true
 
 abbrev pub invariant-values : goal.invariant-values
-invariant-values l = (l.v ≤ l.count + 1) × UpTo l.counts (IsMarked l.positive l.negative) l.s l.v
-
-abbrev pub decreases-values : goal.decreases-values
-decreases-values l = l.count + 1 - l.v
+invariant-values l = UpTo l.counts (IsMarked l.marks.positive l.marks.negative) l.s l.v
 
 abbrev pub invariant-slots : goal.invariant-slots
-invariant-slots l = (l.s ≤ l.width) × UpTo l.counts (IsMarked l.positive l.negative) l.s 0
-
-abbrev pub decreases-slots : goal.decreases-slots
-decreases-slots l = l.width - l.s
+invariant-slots l = UpTo l.counts (IsMarked l.marks.positive l.marks.negative) l.s 0

@@ -1,4 +1,4 @@
-use Prim.Native.Nat.{◌+◌, ◌*◌, ◌-◌}
+use Prim.Native.Nat.{◌+◌, ◌*◌}
 use Rattle.laws.specs.Limits.{row}
 use Rattle.marking.proofs.Negative.{Found}
 use Rattle.marking.proofs.pairs.first_negative.Given as goal
@@ -6,17 +6,8 @@ use Rattle.marking.proofs.pairs.first_negative.Given as goal
 abbrev pub invariant-others : goal.invariant-others
 invariant-others l = Found l.live l.positive l.negative (l.s * row + l.v)
 
-abbrev pub decreases-others : goal.decreases-others
-decreases-others l = row - l.v
-
 abbrev pub invariant-unassigned : goal.invariant-unassigned
 invariant-unassigned l = Found l.live l.positive l.negative (l.s * row + l.v)
 
-abbrev pub decreases-unassigned : goal.decreases-unassigned
-decreases-unassigned l = row - l.v
-
 abbrev pub invariant-slots : goal.invariant-slots
 invariant-slots l = Found l.live l.positive l.negative (l.s * row)
-
-abbrev pub decreases-slots : goal.decreases-slots
-decreases-slots l = l.width - l.s

@@ -1,11 +1,8 @@
 use mathlib.Core.Path.{◌≡◌}
-use Prim.Native.Nat.{◌+◌, ◌-◌, ◌≤◌}
+use Prim.Native.Nat.{◌+◌}
 use lib.ListN.{length}
 use Rattle.marking.specs.inner.Waking.{Chained}
 use Rattle.marking.proofs.waking.chain.Given as goal
 
 abbrev pub invariant-literals : goal.invariant-literals
-invariant-literals l = (l.j ≤ l.m) × (length l.nexts ≡ length l.initial.nexts) × (Chained (l.first + 1) l.initial.heads l.initial.nexts → Chained (l.first + 1 + l.j) l.heads l.nexts)
-
-abbrev pub decreases-literals : goal.decreases-literals
-decreases-literals l = l.m - l.j
+invariant-literals l = (length l.nexts ≡ length l.initial.nexts) × (Chained (l.first + 1) l.initial.heads l.initial.nexts → Chained (l.first + 1 + l.j) l.heads l.nexts)

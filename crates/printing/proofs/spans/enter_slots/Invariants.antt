@@ -1,4 +1,3 @@
-use Prim.Native.Nat.{◌-◌, ◌≤◌}
 use mathlib.Core.List.{List}
 use lib.ListN.{take}
 use Rattle.grammar.specs.Files.{Slot}
@@ -7,8 +6,4 @@ use Rattle.printing.specs.inner.Tabled.{Tabled}
 use Rattle.printing.proofs.spans.enter_slots.Given as goal
 
 abbrev pub invariant-loop-i : goal.invariant-loop-i
-invariant-loop-i l =
-    (l.i ≤ l.width) × ((slots : List Slot) → Tabled l.text slots l.t → Indexed l.text (take l.i slots) l.slotspans l.valuespans)
-
-abbrev pub decreases-loop-i : goal.decreases-loop-i
-decreases-loop-i l = l.width - l.i
+invariant-loop-i l = (slots : List Slot) → Tabled l.text slots l.t → Indexed l.text (take l.i slots) l.slotspans l.valuespans

@@ -1,4 +1,3 @@
-use Prim.Native.Nat.{◌-◌, ◌≤◌}
 use mathlib.Core.Path.{◌≡◌}
 use mathlib.Core.List.{map}
 use lib.ListN.{length, take}
@@ -7,7 +6,4 @@ use Rattle.printing.specs.inner.Tabled.{span_of}
 use Rattle.printing.proofs.spans.spans_of.Given as goal
 
 abbrev pub invariant-loop-i : goal.invariant-loop-i
-invariant-loop-i l = (l.i ≤ value_limit) × (length l.spans ≡ value_limit) × (take l.i l.spans ≡ map (span_of l.text) (take l.i l.s.values))
-
-abbrev pub decreases-loop-i : goal.decreases-loop-i
-decreases-loop-i l = value_limit - l.i
+invariant-loop-i l = (length l.spans ≡ value_limit) × (take l.i l.spans ≡ map (span_of l.text) (take l.i l.s.values))

@@ -1,10 +1,9 @@
 -- `reader::statements::slot_statement` meets its contract.
 use native.Mathlib.Omega.{arith}
-use mathlib.Core.Path.{refl, ap, subst, ◌∙◌}
+use mathlib.Core.Path.{◌≡◌, refl}
+use borrow.Author.Rules.{rules}
+use Rattle.std.specs.Prelude.{Err}
 use Rattle.text.specs.Tokens.{SLOT}
-use Rattle.steps.specs.inner.Places.{StepLies, outcome_part}
-use Rattle.lines.specs.inner.Index.{span_slot}
-use Rattle.lines.specs.inner.Lines.{LineLies}
 use Rattle.lines.proofs.Index.{indexed_slots}
 use Rattle.steps.proofs.Places as places
 use Rattle.reader.proofs.StatementLaws as statements
@@ -13,27 +12,19 @@ use Rattle.reader.proofs.statements.slot_statement.Goals as goal
 pub returns-then-width-ge-SLOTS : goal.returns-then-width-ge-SLOTS
 returns-then-width-ge-SLOTS c =
     let h = c.if-width-ge-SLOTS.true in
-    (λ most slots valuespans I e n. statements.on_line_full most slots _ (omega arith) (places.expects_took SLOT _ _ tt n).0, λ most. tt)
+    (λ most slots I e n. statements.on_line_full most slots _ (omega arith) (places.expects_took SLOT _ _ tt n).0, λ most. tt)
 
-pub line_next-line-requires : goal.line_next-line-requires
-line_next-line-requires c = c.requires
-
-pub returns-in-At : goal.returns-in-At
-returns-in-At c =
+pub returns-in_err-line : goal.returns-in_err-line
+returns-in_err-line c =
     let h = c.if-width-ge-SLOTS.false in
-    let r = c.line_next-line.result in
-    let text = c.args.text.now in
-    let rest = c.args.rest.now in
-    let l = subst (StepLies _ _) c.in-At.is c.line_next-line.ensures.1 in
-    let d = subst (LineLies text r.name r.spans r.count) c.in-At.is c.line_next-line.ensures.2 in (
-      λ most slots valuespans I e n. statements.on_line most slots _ _ _ (omega arith) (places.expects_took SLOT _ _ tt n).0 (c.line_next-line.ensures.0 _ slots n (indexed_slots I) ∙ ap (outcome_part rest c.args.base (span_slot text r.name r.spans r.count)) c.in-At.is),
-      λ most. (omega (arith, l.0), l.1, h, refl, d.0, d.1, d.2),
+    let z : c.from_residual.result ≡ Err c.in_err-line.field-0.0 = search rules in
+    rw z (λ most slots I e n. statements.on_line_stop most slots _ _ (omega arith) (places.expects_took SLOT _ _ tt n).0 (c.in_err-line.ensures.0 _ slots n (indexed_slots I)), λ most. tt)
+
+pub returns : goal.returns
+returns c =
+    let h = c.if-width-ge-SLOTS.false in
+    let r = c.in_ok-line.ensures in
+    let l = r.1 in (
+      λ most slots I e n. statements.on_line most slots _ _ _ (omega arith) (places.expects_took SLOT _ _ tt n).0 (r.0 _ slots n (indexed_slots I)),
+      λ most. (omega (arith, l.0), l.1, h, refl, l.2, l.3, l.4),
     )
-
-pub returns-in-Fault : goal.returns-in-Fault
-returns-in-Fault c =
-    let h = c.if-width-ge-SLOTS.false in
-    let r = c.line_next-line.result in
-    let text = c.args.text.now in
-    let rest = c.args.rest.now in
-    (λ most slots valuespans I e n. statements.on_line_stop most slots _ _ (omega arith) (places.expects_took SLOT _ _ tt n).0 (c.line_next-line.ensures.0 _ slots n (indexed_slots I) ∙ ap (outcome_part rest c.args.base (span_slot text r.name r.spans r.count)) c.in-Fault.is), λ most. tt)

@@ -1,56 +1,62 @@
 -- `response::answering::settle_by_marks` meets its contract.
 use mathlib.Core.Path.{◌≡◌, ap, ◌∙◌}
+use Prim.Native.Nat.{◌≤◌}
 use lib.ListN.{length}
 use Rattle.table.specs.Link.{rules_of}
-use Rattle.rows.specs.inner.Rows.{table_in}
+use Rattle.rows.specs.inner.RuleRows.{rows_table}
 use Rattle.cards.specs.Cards.{card_values, changes_of}
-use Rattle.cards.specs.inner.Fitting.{counts_in}
 use Rattle.marks.specs.Marks.{declared_pairs}
-use Rattle.selecting.specs.inner.Selected.{Selected}
-use Rattle.response.proofs.InOrder.{values_small, flags_length, ran_room, ran_none}
-use Rattle.response.proofs.Selected.{counts_are, card_is, slip_is, all_declared, assigned_below, selected_refused, selected_answer, selected_positive, selected_fired}
-use Rattle.response.proofs.RespondLaws.{ends_refused, ends_same}
-use native.Mathlib.Omega.{arith}
-use Rattle.response.proofs.answering.settle_by_marks.Goals.{After-select-number}
+use Rattle.selecting.specs.inner.Selected.{Selected, number_from_0}
+use Rattle.response.proofs.InOrder.{values_small, flags_length, ran_none}
+use Rattle.response.proofs.Selected.{card_is, slip_is, all_declared, assigned_below, selected_refused, selected_answer, selected_positive, selected_fired}
+use Rattle.response.proofs.AnswerLaws.{cut_answer, cut_rules}
+use Rattle.response.proofs.RespondLaws.{ends_refused, ends_same, number_positive}
+use borrow.Author.Rules.{rules}
+use Rattle.std.specs.Prelude.{Err}
+use Rattle.refusals.specs.Numbers.{refusal_number, refusal_second}
+use Rattle.response.proofs.answering.settle_by_marks.Goals.{After-select}
 use Rattle.response.proofs.answering.settle_by_marks.Goals as goal
 
 -- What the selection comes to.
-selected : (q : After-select-number) →
-    Selected (declared_pairs (counts_in q.args.width q.args.counts.now)) (rules_of (table_in q.args.rows.now q.args.n)) (card_values q.args.card) (changes_of q.args.slip)
-    q.select-number.result q.select-number.new.positive q.select-number.new.fired
+selected : (q : After-select) →
+    Selected (declared_pairs q.args.counts.now) (rules_of (rows_table q.args.rows.now)) (card_values q.args.card) (changes_of q.args.slip)
+    (number_from_0 q.select.result) q.select.new.positive q.select.new.fired
 selected q =
     let O = q.requires.0 in
-    q.select-number.ensures _ _ _ (counts_are q.args.rows.now q.args.n q.args.width q.args.counts.now q.args.card q.args.slip O)
-    (card_is q.args.rows.now q.args.n q.args.width q.args.counts.now q.args.card q.args.slip O)
-    (slip_is q.args.rows.now q.args.n q.args.width q.args.counts.now q.args.card q.args.slip O _ q.flags_of-ended.ensures) O.slip_once
-    (all_declared q.args.rows.now q.args.n q.args.width q.args.counts.now q.args.card q.args.slip O)
+    q.select.ensures.selected _ _
+    (card_is q.args.rows.now q.args.counts.now q.args.card q.args.slip O)
+    (slip_is q.args.rows.now q.args.counts.now q.args.card q.args.slip O _ q.flags_of-ended.ensures) O.slip_once
+    (all_declared q.args.rows.now q.args.counts.now q.args.card q.args.slip O)
 
-pub select-number-requires : goal.select-number-requires
-select-number-requires c =
+pub select-requires : goal.select-requires
+select-requires c =
     let O = c.requires.0 in
     record {
-      rows_fit = O.kept.rows_fit;
+      few_rules = O.kept.few_rules;
       few_slots = O.kept.few_slots;
       few_values = O.kept.few_values;
-      assigned_below = assigned_below c.args.rows.now c.args.n c.args.width c.args.counts.now c.args.card c.args.slip O;
+      assigned_below = assigned_below c.args.rows.now c.args.counts.now c.args.card c.args.slip O;
       card_values = values_small c.args.card O.card_fits O.rest_empty;
       pair_flags = ap length c.flags_of-ended.ensures ∙ flags_length (changes_of c.args.slip);
-      fired_room = ran_room c.args.rows.now c.args.ran.now c.requires.1 c.args.n O.kept.rows_fit;
-      none_fired = ran_none c.args.rows.now c.args.ran.now c.requires.1;
+      fired_room = c.requires.1.room;
+      none_fired = ran_none _ c.args.ran.now c.requires.1;
     }
 
-pub returns-then-number-gt0 : goal.returns-then-number-gt0
-returns-then-number-gt0 c = ends_refused _ _ _ _ (selected_refused c.args.rows.now c.args.n c.args.width c.args.counts.now c.args.card c.args.slip c.requires.0 _ _ _ (selected (goal.at.returns-then-number-gt0 c).After-select-number) c.if-number-gt0.true)
-
-pub write_answer-requires : goal.write_answer-requires
-write_answer-requires c =
-    let O = c.requires.0 in
-    (O.kept.rows_fit.few, omega (arith, ran_room c.args.rows.now c.args.ran.now c.requires.1 c.args.n O.kept.rows_fit, c.ran-1.given), O.kept.few_slots, O.same_width, O.card_fits, c.requires.2)
+pub returns-in_err-select : goal.returns-in_err-select
+returns-in_err-select c =
+    let r = c.in_err-select.field-0.0 in
+    let z : c.from_residual.result ≡ Err r = search rules in
+    let k : number_from_0 c.select.result ≡ refusal_number r = ap number_from_0 c.in_err-select.was in
+    let s : refusal_second r ≡ 0 = c.in_err-select.ensures.second in
+    let e = selected_refused c.args.rows.now c.args.counts.now c.args.card c.args.slip c.requires.0 _ _ _ (selected (goal.at.returns-in_err-select c).After-select) (rw k (number_positive r)) in
+    rw z (ends_refused _ _ _ _ (e ∙ rw (k, s)))
 
 pub returns : goal.returns
 returns c =
     let O = c.requires.0 in
-    let z : c.select-number.result ≡ 0 = omega (arith, c.if-number-gt0.false) in
-    ends_same _ _ _ _ _ (selected_answer c.args.rows.now c.args.n c.args.width c.args.counts.now c.args.card c.args.slip O _ _ _ (selected (goal.at.returns c).After-select-number) z)
-    (c.write_answer.ensures _ _ (selected_positive c.args.rows.now c.args.n c.args.width c.args.counts.now c.args.card c.args.slip O _ _ _ (selected (goal.at.returns c).After-select-number) z)
-    (selected_fired c.args.rows.now c.args.n c.args.width c.args.counts.now c.args.card c.args.slip O _ _ _ (selected (goal.at.returns c).After-select-number) z) O.rest_empty)
+    let z : number_from_0 c.select.result ≡ 0 = ap number_from_0 c.in_ok-select.was in
+    let Q = selected (goal.at.returns c).After-select in
+    let R : length c.args.rows.now ≤ length c.select.new.fired = search rules in
+    ends_same _ _ _ _ _ (selected_answer c.args.rows.now c.args.counts.now c.args.card c.args.slip O _ _ _ Q z ∙ cut_answer _ _ R _ _ _ _)
+    (c.write_answer.ensures _ _ (selected_positive c.args.rows.now c.args.counts.now c.args.card c.args.slip O _ _ _ Q z)
+    (cut_rules _ _ R _ (selected_fired c.args.rows.now c.args.counts.now c.args.card c.args.slip O _ _ _ Q z)) O.rest_empty)

@@ -1,18 +1,10 @@
 -- `results::ending::is_changed` meets its contract.
-use mathlib.Core.Path.{◌≡◌}
-use Rattle.laws.specs.Limits.{row}
 use Rattle.results.proofs.Values.{changed_start, changed_next}
 use borrow.Author.Rules.{rules}
 use Rattle.results.proofs.ending.is_changed.Goals as goal
 
 pub loop-v-init : goal.loop-v-init
-loop-v-init c = (search rules, changed_start _ _)
+loop-v-init c = changed_start _ _
 
 pub loop-v-preserved : goal.loop-v-preserved
-loop-v-preserved c = (search rules, changed_next c.args.changes.now c.args.slot c.loop-v.v c.loop-v.found (search rules) c.loop-v.invariant.1)
-
-pub returns : goal.returns
-returns c =
-    let l = c.loop-v in
-    let z : l.v ≡ row = search rules in
-    rw z at l.invariant.1
+loop-v-preserved c = changed_next c.args.changes.now c.args.slot c.loop-v.v c.loop-v.found (search rules) c.loop-v.invariant

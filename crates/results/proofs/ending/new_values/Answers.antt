@@ -1,6 +1,5 @@
 -- `results::ending::new_values` meets its contract.
 use mathlib.Core.Path.{◌≡◌, refl, ◌∙◌}
-use mathlib.Core.Logic.{⊎_elim}
 use Rattle.laws.specs.Filled.{filled}
 use Rattle.laws.specs.Tabulated.{tabulate}
 use Rattle.model.specs.Result.{new_value, new_card}
@@ -10,24 +9,24 @@ use Rattle.results.specs.inner.Ending.{new_places}
 use Rattle.results.proofs.Values.{new_changed, new_kept, filled_next}
 use native.Mathlib.Omega.{arith}
 use borrow.Author.Rules.{rules}
+use Rattle.results.proofs.ending.new_values.Goals.{in-Some, in-None}
 use Rattle.results.proofs.ending.new_values.Goals as goal
 
 pub loop-s-init : goal.loop-s-init
 unfolding filled tabulate
-loop-s-init c = (search rules, refl)
+loop-s-init c = refl
 
 pub loop-s-preserved : goal.loop-s-preserved
 loop-s-preserved c =
-    let v = c.changed_value-v.result in
-    let e = c.changed_value-v.ensures in
     let C = set_of c.args.changes.now in
-    let q : c.if-v-lt-ROW.values ≡ new_value row C c.args.card.now c.loop-s.s = ⊎_elim
-    (λ w. w.values-is ∙ new_changed C c.args.card.now c.loop-s.s v e w.if-v-lt-ROW.true)
-    (λ w. w.values-is ∙ new_kept C c.args.card.now c.loop-s.s v e w.if-v-lt-ROW.false) c.if-v-lt-ROW.branch-raw in
-    (search rules, rw (q, c.loop-s.invariant.1) (filled_next slot_limit c.loop-s.s (new_value row C c.args.card.now) (search rules)))
+    let q : c.match-changed_value.values ≡ new_value row C c.args.card.now c.loop-s.s = elim c.match-changed_value.branch [
+      | in-Some w ↦ w.values-is ∙ new_changed C c.args.card.now c.loop-s.s w.in-Some.v w.in-Some.ensures.1 w.in-Some.ensures.0
+      | in-None w ↦ w.values-is ∙ new_kept C c.args.card.now c.loop-s.s row w.in-None.ensures (omega arith)
+    ] in
+    rw (q, c.loop-s.invariant) (filled_next slot_limit c.loop-s.s (new_value row C c.args.card.now) (search rules))
 
 pub returns : goal.returns
 unfolding new_places new_card
 returns c =
     let e : c.loop-s.s ≡ c.args.width = omega arith in
-    rw e at c.loop-s.invariant.1
+    rw e at c.loop-s.invariant

@@ -5,7 +5,6 @@ use mathlib.Core.Logic.{⊎_elim}
 use Prim.Native.Nat.{ℕ, ◌+◌, ◌≤◌, ◌<◌, max}
 use native.Mathlib.Omega.{arith}
 use lib.ListN.{get_or}
-use borrow.Author.Rules.{rules}
 use Rattle.model.specs.Strata.{is_becomes, is_plain, is_under_not}
 use Rattle.model.proofs.Pairs.{when_plain, when_under_not, when_neither}
 use Rattle.table.specs.Link.{rule_of, literal_of}
@@ -43,48 +42,48 @@ at_most_one false = omega arith
 
 -- The literal at hand is used.
 used : (c : In-literals) →
-    c.literals.j < get_or c.args.row.now 1 0
-used c = omega (arith, c.tested-m.ensures)
+    c.literals.j < get_or c.args.row.now.numbers 1 0
+used c = omega (arith, c.tested-m.ensures.0)
 
 -- The place of the trigger's pair.
-trigger-placed : (c : After-place-at) → c.place-at.result ≡ place_of (pair_in (get_or c.args.row.now 0 0))
-trigger-placed c = rw c.trigger.ensures at c.place-at.ensures.0
+trigger-placed : (c : After-place-at) → c.place-at.result ≡ place_of (pair_in (get_or c.args.row.now.numbers 0 0))
+trigger-placed c = rw c.trigger.ensures.0 at c.place-at.ensures.0
 
 -- A literal that is a `*=` asks the number at its pair, under NOT one more.
 next-by : (c : Joined-is_becomes) →
     is_becomes (literal_of (literal_in c.literal-x.result)) ≡ true → (n : Bool) → (literal_in c.literal-x.result).negated ≡ n
-    → max c.literals.h (max (get_or c.args.high.now c.place-p.result 0 + cond n 1 0) (ask-from c.args.high.now c.args.row.now (c.literals.j + 1))) ≡ asked_at c.args.high.now (rule_of (rule_in c.args.row.now))
+    → max c.literals.h (max (get_or c.args.high.now c.place-p.result 0 + cond n 1 0) (ask-from c.args.high.now c.args.row.now.numbers (c.literals.j + 1))) ≡ asked_at c.args.high.now (rule_of (rule_in c.args.row.now.numbers))
 unfolding highest_at
 next-by c b true n =
     let l = c in
     let a = c in
     let s = c in
     let w = when_under_not (literal_of (literal_in l.literal-x.result)) b n in
-    let p = row_picked_over s.args.row.now s.requires.0 is_plain a.literals.j l.literal-x.result ((let it : let a = c in let s = c in a.literals.j < get_or s.args.row.now 1 0 = omega (arith, c.tested-m.ensures) in it)) l.literal-x.ensures w.0 in
-    let q = row_picked_next s.args.row.now s.requires.0 is_under_not a.literals.j l.literal-x.result ((let it : let a = c in let s = c in a.literals.j < get_or s.args.row.now 1 0 = omega (arith, c.tested-m.ensures) in it)) l.literal-x.ensures w.1 in
-    highest-under-not a.literals.h _ _ _ _ (rw (← c.place-p.ensures.0) at (rw (p, q) at a.literals.invariant.1.1))
+    let p = row_picked_over s.args.row.now.numbers s.args.row.now.fits is_plain a.literals.j l.literal-x.result ((let it : let a = c in let s = c in a.literals.j < get_or s.args.row.now.numbers 1 0 = omega (arith, c.tested-m.ensures.0) in it)) l.literal-x.ensures.0 w.0 in
+    let q = row_picked_next s.args.row.now.numbers s.args.row.now.fits is_under_not a.literals.j l.literal-x.result ((let it : let a = c in let s = c in a.literals.j < get_or s.args.row.now.numbers 1 0 = omega (arith, c.tested-m.ensures.0) in it)) l.literal-x.ensures.0 w.1 in
+    highest-under-not a.literals.h _ _ _ _ (rw (← c.place-p.ensures.0) at (rw (p, q) at a.literals.invariant.1))
 next-by c b false n =
     let l = c in
     let a = c in
     let s = c in
     let w = when_plain (literal_of (literal_in l.literal-x.result)) b n in
-    let p = row_picked_next s.args.row.now s.requires.0 is_plain a.literals.j l.literal-x.result ((let it : let a = c in let s = c in a.literals.j < get_or s.args.row.now 1 0 = omega (arith, c.tested-m.ensures) in it)) l.literal-x.ensures w.0 in
-    let q = row_picked_over s.args.row.now s.requires.0 is_under_not a.literals.j l.literal-x.result ((let it : let a = c in let s = c in a.literals.j < get_or s.args.row.now 1 0 = omega (arith, c.tested-m.ensures) in it)) l.literal-x.ensures w.1 in
-    highest-plain a.literals.h _ _ _ _ (rw (← c.place-p.ensures.0) at (rw (p, q) at a.literals.invariant.1.1))
+    let p = row_picked_next s.args.row.now.numbers s.args.row.now.fits is_plain a.literals.j l.literal-x.result ((let it : let a = c in let s = c in a.literals.j < get_or s.args.row.now.numbers 1 0 = omega (arith, c.tested-m.ensures.0) in it)) l.literal-x.ensures.0 w.0 in
+    let q = row_picked_over s.args.row.now.numbers s.args.row.now.fits is_under_not a.literals.j l.literal-x.result ((let it : let a = c in let s = c in a.literals.j < get_or s.args.row.now.numbers 1 0 = omega (arith, c.tested-m.ensures.0) in it)) l.literal-x.ensures.0 w.1 in
+    highest-plain a.literals.h _ _ _ _ (rw (← c.place-p.ensures.0) at (rw (p, q) at a.literals.invariant.1))
 
 -- Another asks nothing.
 next_none : (c : Joined-is_becomes) →
     is_becomes (literal_of (literal_in c.literal-x.result)) ≡ false
-    → max c.literals.h (max 0 (ask-from c.args.high.now c.args.row.now (c.literals.j + 1))) ≡ asked_at c.args.high.now (rule_of (rule_in c.args.row.now))
+    → max c.literals.h (max 0 (ask-from c.args.high.now c.args.row.now.numbers (c.literals.j + 1))) ≡ asked_at c.args.high.now (rule_of (rule_in c.args.row.now.numbers))
 next_none c b =
     let w = when_neither (literal_of (literal_in c.literal-x.result)) b in
-    let p = row_picked_over c.args.row.now c.requires.0 is_plain c.literals.j c.literal-x.result ((let it : c.literals.j < get_or c.args.row.now 1 0 = omega (arith, c.tested-m.ensures) in it)) c.literal-x.ensures w.0 in
-    let q = row_picked_over c.args.row.now c.requires.0 is_under_not c.literals.j c.literal-x.result ((let it : c.literals.j < get_or c.args.row.now 1 0 = omega (arith, c.tested-m.ensures) in it)) c.literal-x.ensures w.1 in
-    highest-none c.literals.h _ _ (rw (p, q) at c.literals.invariant.1.1)
+    let p = row_picked_over c.args.row.now.numbers c.args.row.now.fits is_plain c.literals.j c.literal-x.result ((let it : c.literals.j < get_or c.args.row.now.numbers 1 0 = omega (arith, c.tested-m.ensures.0) in it)) c.literal-x.ensures.0 w.0 in
+    let q = row_picked_over c.args.row.now.numbers c.args.row.now.fits is_under_not c.literals.j c.literal-x.result ((let it : c.literals.j < get_or c.args.row.now.numbers 1 0 = omega (arith, c.tested-m.ensures.0) in it)) c.literal-x.ensures.0 w.1 in
+    highest-none c.literals.h _ _ (rw (p, q) at c.literals.invariant.1)
 
 -- Each way it asks what the code has then.
 next : (c : Joined-is_becomes) →
-    max c.literals.h (max c.if-is_becomes.y (ask-from c.args.high.now c.args.row.now (c.literals.j + 1))) ≡ asked_at c.args.high.now (rule_of (rule_in c.args.row.now))
+    max c.literals.h (max c.if-is_becomes.y (ask-from c.args.high.now c.args.row.now.numbers (c.literals.j + 1))) ≡ asked_at c.args.high.now (rule_of (rule_in c.args.row.now.numbers))
 next c =
     ⊎_elim
     (λ w. let y : c.if-is_becomes.y ≡ get_or c.args.high.now c.place-p.result 0 + cond (literal_in c.literal-x.result).negated 1 0 = omega (arith, w, c.above.ensures) in rw y (next-by c (sym c.is_becomes.ensures ∙ w.if-is_becomes.true) _ refl))
@@ -94,27 +93,26 @@ next c =
 pub literals-init : goal.literals-init
 unfolding asked_at highest_at
 literals-init c =
-    let h : c.if-w-lt1.h ≡ max 1 (get_or c.args.high.now c.place-at.result 0) = ⊎_elim (λ w. omega (arith, w)) (λ w. omega (arith, w)) c.if-w-lt1.branch-raw in
-    (search rules, (omega (arith, h), rw (needed_start (rule_in c.args.row.now), barred_start (rule_in c.args.row.now)) (highest-first c.if-w-lt1.h _ _ _ (rw (trigger-placed (goal.at.literals-init c).After-place-at) at h))))
+    let h : c.max-h.result ≡ max 1 (get_or c.args.high.now c.place-at.result 0) = omega (arith, c.max-h.ensures) in
+    (omega (arith, h), rw (needed_start (rule_in c.args.row.now.numbers), barred_start (rule_in c.args.row.now.numbers)) (highest-first c.max-h.result _ _ _ (rw (trigger-placed (goal.at.literals-init c).After-place-at) at h)))
 
 pub literal-x-requires : goal.literal-x-requires
-literal-x-requires c = omega (arith, used (goal.at.literal-x-requires c).In-literals, c.requires.0.few_literals)
+literal-x-requires c = omega (arith, used (goal.at.literal-x-requires c).In-literals, c.args.row.now.fits.few_literals)
 
 pub above-requires : goal.above-requires
-above-requires c = omega (arith, number_fits c.args.row.now c.requires.0 c.literals.j c.literal-x.result (used (goal.at.above-requires c).In-literals) c.literal-x.ensures)
+above-requires c = omega (arith, number_fits c.args.row.now.numbers c.args.row.now.fits c.literals.j c.literal-x.result (used (goal.at.above-requires c).In-literals) c.literal-x.ensures.0)
 
 pub overflow_add-z : goal.overflow_add-z
-overflow_add-z c = omega (arith, c.requires.1.below c.place-p.result, at_most_one (literal_in c.literal-x.result).negated, c.above.ensures)
-
-pub literals-preserved-then-h-y : goal.literals-preserved-then-h-y
-literals-preserved-then-h-y c = (search rules, (search rules, highest-new c.literals.h c.if-is_becomes.y _ _ c.if-h-y.true (next (goal.at.literals-preserved-then-h-y c).Joined-is_becomes)))
+overflow_add-z c = omega (arith, c.requires.below c.place-p.result, at_most_one (literal_in c.literal-x.result).negated, c.above.ensures)
 
 pub literals-preserved : goal.literals-preserved
-literals-preserved c = (search rules, (search rules, highest-old c.literals.h c.if-is_becomes.y _ _ c.if-h-y.false (next (goal.at.literals-preserved c).Joined-is_becomes)))
+literals-preserved c =
+    let e = next (goal.at.literals-preserved c).Joined-is_becomes in
+    (omega (arith, c.max-h-in-literals.ensures), omega (arith, c.max-h-in-literals.ensures, e))
 
 pub returns : goal.returns
 unfolding highest_at
 returns c =
-    let p = picked_end (rule_in c.args.row.now) is_plain c.literals.j (omega (arith, c.tested-m.ensures)) in
-    let q = picked_end (rule_in c.args.row.now) is_under_not c.literals.j (omega (arith, c.tested-m.ensures)) in
-    omega (arith, c.literals.invariant.1.0, rw (p, q) at c.literals.invariant.1.1)
+    let p = picked_end (rule_in c.args.row.now.numbers) is_plain c.literals.j (omega (arith, c.tested-m.ensures.0)) in
+    let q = picked_end (rule_in c.args.row.now.numbers) is_under_not c.literals.j (omega (arith, c.tested-m.ensures.0)) in
+    omega (arith, c.literals.invariant.0, rw (p, q) at c.literals.invariant.1)

@@ -1,49 +1,25 @@
 -- `testing::truth::truth_of` meets its contract.
 use mathlib.Core.Bool.{false}
-use mathlib.Core.Path.{◌≡◌, refl, sym}
+use mathlib.Core.Path.{◌≡◌, sym}
 use Prim.Native.Nat.{◌<◌}
 use Rattle.laws.specs.Limits.{slot_limit, row}
-use Rattle.table.specs.inner.Flat.{pair_places}
-use Rattle.testing.proofs.Filling.{copied_start, copied_next, begun_start}
-use Rattle.testing.proofs.Truths.{slot_next, slots_end}
+use Rattle.testing.proofs.Filling.{begun_start}
+use Rattle.testing.proofs.Truths.{copied_all, slot_next, slots_end}
 use native.Mathlib.Omega.{arith}
 use borrow.Author.Rules.{rules}
-use Rattle.testing.proofs.truth.truth_of.Goals.{After-wide-v}
+use Rattle.testing.proofs.truth.truth_of.Goals.{After-from}
 use Rattle.testing.proofs.truth.truth_of.Goals as goal
 
-value : (c : After-wide-v) → c.wide-v.result < row
-value c = rw c.wide-v.ensures (c.requires c.slots.s (search rules))
-
-pub pairs-init : goal.pairs-init
-pairs-init c = (search rules, copied_start false _)
-
-pub pairs-preserved : goal.pairs-preserved
-pairs-preserved c = (search rules, copied_next false _ c.pairs.truth c.pairs.p _ (search rules) refl c.pairs.invariant.1)
+value : (c : After-from) → c.from.result < row
+value c = rw c.from.ensures (c.requires c.slots.s (search rules))
 
 pub slots-init : goal.slots-init
-slots-init c =
-    let e : c.pairs.p ≡ pair_places = omega arith in
-    (search rules, begun_start false _ _ _ c.pairs.truth (rw e at c.pairs.invariant.1))
-
-pub overflow_mul-at : goal.overflow_mul-at
-overflow_mul-at c = let h = value (goal.at.overflow_mul-at c).After-wide-v in search rules
-
-pub overflow_add-at : goal.overflow_add-at
-overflow_add-at c = let h = value (goal.at.overflow_add-at c).After-wide-v in search rules
-
-pub bounds-truth-at : goal.bounds-truth-at
-bounds-truth-at c = let h = value (goal.at.bounds-truth-at c).After-wide-v in search rules
-
-pub overflow_add-truth-in-slots : goal.overflow_add-truth-in-slots
-overflow_add-truth-in-slots c = let h = value (goal.at.overflow_add-truth-in-slots c).After-wide-v in search rules
-
-pub bounds-truth-at-in-slots : goal.bounds-truth-at-in-slots
-bounds-truth-at-in-slots c = let h = value (goal.at.bounds-truth-at-in-slots c).After-wide-v in search rules
+slots-init c = rw c.enter_changes.ensures (begun_start false _ _ _ _ (copied_all c.args.changes.now c.told-changes))
 
 pub slots-preserved : goal.slots-preserved
-slots-preserved c = (search rules, slot_next c.args.card.now c.args.changes.now c.slots.truth c.slots.s c.wide-v.result (search rules) (sym c.wide-v.ensures) (value (goal.at.slots-preserved c).After-wide-v) c.slots.invariant.1)
+slots-preserved c = slot_next c.args.card.now c.args.changes.now c.slots.truth c.slots.s c.from.result (search rules) (sym c.from.ensures) (value (goal.at.slots-preserved c).After-from) c.slots.invariant
 
 pub returns : goal.returns
 returns c =
     let e : c.slots.s ≡ slot_limit = omega arith in
-    slots_end c.args.card.now c.args.changes.now c.slots.truth (rw e at c.slots.invariant.1)
+    slots_end c.args.card.now c.args.changes.now c.slots.truth (rw e at c.slots.invariant)

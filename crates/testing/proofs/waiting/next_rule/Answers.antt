@@ -1,21 +1,16 @@
 -- `testing::waiting::next_rule` meets its contract.
-use Rattle.testing.proofs.Lists.{turn_woken_last, turn_at_place}
-use native.Mathlib.Omega.{arith}
-use borrow.Author.Rules.{rules}
+use mathlib.Core.Path.{◌∙◌, ap}
+use Prim.Native.Nat.{ℕ}
+use Rattle.testing.specs.inner.Waiting.{turn_or, turn_of}
+use Rattle.testing.proofs.Lists.{turn_any}
+use Rattle.testing.proofs.waiting.next_rule.Goals.{then-left-eq0, else-left-eq0}
 use Rattle.testing.proofs.waiting.next_rule.Goals as goal
 
-pub returns-then-left-gt0 : goal.returns-then-left-gt0
-returns-then-left-gt0 c = rw c.wide.ensures (turn_woken_last c.args.positions.now c.args.k c.args.woken.now c.args.left c.if-left-gt0.true)
-
-pub offset_bounds-positions-k : goal.offset_bounds-positions-k
-offset_bounds-positions-k c = let h = c.requires.1 (omega (arith, c.if-left-gt0.false)) in search rules
-
-pub bounds-positions-k : goal.bounds-positions-k
-bounds-positions-k c = let h = c.requires.1 (omega (arith, c.if-left-gt0.false)) in search rules
-
-pub overflow_add-result : goal.overflow_add-result
-overflow_add-result c = let h = c.requires.1 (omega (arith, c.if-left-gt0.false)) in search rules
-
 pub returns : goal.returns
+unfolding turn_of
 returns c =
-    rw c.wide-2.ensures (turn_at_place c.args.positions.now c.args.k c.args.woken.now c.args.left (omega (arith, c.if-left-gt0.false)))
+    c.next_or.ensures
+    ∙ elim c.if-left-eq0.branch [
+      | then-left-eq0 w ↦ ap (λ (rule : ℕ). turn_or rule c.args.k c.args.woken.now c.args.left) (w.placed-is ∙ w.from-placed.ensures)
+      | else-left-eq0 w ↦ turn_any _ c.args.k c.args.woken.now _ c.args.left w.if-left-eq0.false
+    ]

@@ -1,5 +1,5 @@
 -- Each token but the end moves the position on within the text.
-use Rattle.std.proofs.Common.{◌≡◌, ℕ, ◌<◌, ◌≤◌, length, arith, refl, sym, subst}
+use Rattle.std.proofs.Common.{◌≡◌, ℕ, ◌<◌, ◌≤◌, length, arith, refl, rules, sym, subst}
 use Rattle.text.specs.Next.{Lies}
 use Rattle.text.specs.declared.Next.{Next}
 use Rattle.text.specs.declared.Token as code
@@ -11,14 +11,15 @@ use Rattle.token_cases.proofs.token_list.write_tokens.Goals as goal
 moves : (size from : ℕ) (t : code.Token) (next : ℕ) → (t ≡ v.End → ⊥) → Lies size from t next → (from < next) × (next ≤ size)
 moves size from v.End next k h = absurd (k refl)
 moves size from (v.Word w) next k h = h
-moves size from (v.Name at len) next k h = (omega (arith, h.0, h.1, h.3), h.4)
+moves size from (v.Name n) next k h = (omega (arith, h.0, h.1, h.3), h.4)
 moves size from v.Long next k h = h
 moves size from v.Bad next k h = h
 
-pub loop-next-smaller : goal.loop-next-smaller
-loop-next-smaller g c =
-    let l = c.loop-next in
-    let s = c.args.text.now in
-    let lies = subst (λ (n : Next). Lies (length s) l.at n.token n.at) (sym l.invariant) (next_lies s l.at) in
-    let m = moves (length s) l.at l.next.token l.next.at c.in_default.not-End lies in
-    omega (arith, m.0, m.1)
+pub loop-reader-smaller : goal.loop-reader-smaller
+loop-reader-smaller g c =
+    let r = c.loop-reader.reader in
+    let s = r.text.now in
+    let t : c.peek-next.result.token ≡ v.End → ⊥ = search rules in
+    let lies = subst (λ (n : Next). Lies (length s) r.at n.token n.at) (sym c.peek-next.ensures) (next_lies s r.at) in
+    let m = moves (length s) r.at c.peek-next.result.token c.peek-next.result.at t lies in
+    rw (c.advance-reader.ensures, sym c.peek-next.ensures) (omega (arith, m.0, m.1))

@@ -1,10 +1,6 @@
--- The token and the position after it are those at the position, which moves on within the text.
-use Rattle.std.proofs.Common.{◌≡◌, ◌-◌, length}
-use Rattle.text.specs.Next.{next_at}
+-- Each token but the end moves the reader on within its text.
+use Rattle.std.proofs.Common.{◌-◌, length}
 use Rattle.token_cases.proofs.token_list.write_tokens.Given as goal
 
-abbrev pub invariant-loop-next : goal.invariant-loop-next
-invariant-loop-next g l = l.next ≡ next_at l.text l.at
-
-abbrev pub decreases-loop-next : goal.decreases-loop-next
-decreases-loop-next g l = length l.text - l.at
+abbrev pub decreases-loop-reader : goal.decreases-loop-reader
+decreases-loop-reader g l = length l.reader.text.now - l.reader.at

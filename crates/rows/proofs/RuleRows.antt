@@ -1,0 +1,101 @@
+-- Rows of the type: each fits, wherever it stands, and so does the table that they stand for.
+-- Assumes nothing.
+use mathlib.Core.Path.{◌≡◌, refl, sym, ap, ◌∙◌}
+use mathlib.Core.List.{List, [], ◌∷◌, map}
+use Prim.Native.Nat.{ℕ, zero, suc, ◌+◌, ◌≤◌, ◌<◌}
+use native.Mathlib.Nat.{le_of_suc-le-suc}
+use native.Mathlib.Omega.{arith}
+use lib.ListN.{length, get_or, set, take}
+use Rattle.std.proofs.lemmas.List.{length-map, get_or-map}
+use Rattle.laws.specs.Limits.{rule_limit}
+use Rattle.table.specs.declared.Rule.{Rule}
+use Rattle.table.specs.Zero.{zero_rule}
+use Rattle.table.specs.Link.{rule_of, rules_of, carried_strata}
+use Rattle.table.specs.inner.Fits.{TableFits}
+use Rattle.table.specs.inner.Shape.{Shaped}
+use Rattle.rows.specs.declared.RuleRow.{RuleRow}
+use Rattle.rows.specs.inner.Rows.{rule_in, table_in, RowFits, Row, RowsShaped, RowsFit, Entered}
+use Rattle.rows.specs.inner.RuleRows.{numbers_of, rows_table}
+use Rattle.rows.proofs.Laws.{entered_next, rule_row, rows_count, rows_table_shaped, rows_table_fits}
+
+-- The numbers of the row at a place.
+pub at_row : (rows : List RuleRow) (i : ℕ) (d : RuleRow) → i < length rows → get_or (numbers_of rows) i [] ≡ (get_or rows i d).numbers
+at_row rows i d l = get_or-map (λ (r : RuleRow). r.numbers) rows i d [] l
+
+-- How many there are.
+pub rows_length : (rows : List RuleRow) → length (numbers_of rows) ≡ length rows
+rows_length rows = length-map rows (λ (r : RuleRow). r.numbers)
+
+-- Each fits.
+pub each_fits : (rows : List RuleRow) (i : ℕ) → i < length rows → RowFits (get_or (numbers_of rows) i [])
+each_fits [] i l = absurd (omega arith)
+each_fits (r ∷ rows) zero l = r.fits
+each_fits (r ∷ rows) (suc i) l = each_fits rows i (omega arith)
+
+-- So the first n of them do, and all.
+pub rows_fit : (rows : List RuleRow) (n : ℕ) → n ≤ rule_limit → n ≤ length rows → RowsFit (numbers_of rows) n
+rows_fit rows n few h =
+    let m = rows_length rows in
+    record {
+      rows_shaped = record { each_row = λ i l. (each_fits rows i (omega (arith, m))).row_shaped };
+      few = few;
+      inside = omega (arith, m);
+      each_fits = λ i l. each_fits rows i (omega arith);
+    }
+
+pub all_rows_shaped : (rows : List RuleRow) → RowsShaped (numbers_of rows)
+all_rows_shaped rows = record { each_row = λ i l. (each_fits rows i (omega (arith, rows_length rows))).row_shaped }
+
+pub all_fit : (rows : List RuleRow) → length rows ≤ rule_limit → RowsFit (numbers_of rows) (length rows)
+all_fit rows few = rows_fit rows (length rows) few (omega arith)
+
+-- The table that they stand for has its places, and fits.
+pub all_shaped : (rows : List RuleRow) → length rows ≤ rule_limit → Shaped (rows_table rows)
+all_shaped rows few = rows_table_shaped (numbers_of rows) (length rows) (all_fit rows few)
+
+pub all_table_fits : (rows : List RuleRow) → length rows ≤ rule_limit → TableFits (rows_table rows)
+all_table_fits rows few = rows_table_fits (numbers_of rows) (length rows) (all_fit rows few)
+
+-- The rule at a place.
+pub rule_at : (rows : List RuleRow) (i : ℕ) (d : RuleRow) → i < length rows → get_or (rows_table rows).rules i zero_rule ≡ rule_in (get_or rows i d).numbers
+rule_at rows i d l = rule_row (numbers_of rows) (length rows) i ∙ ap rule_in (at_row rows i d l)
+
+-- The same where a loop or an index hands the row.
+pub item_numbers : (rows : List RuleRow) (i : ℕ) (row : RuleRow) → i < length rows → row ≡ get_or rows i row → get_or (numbers_of rows) i [] ≡ row.numbers
+item_numbers rows i row l e = at_row rows i row l ∙ ap (λ (r : RuleRow). r.numbers) (sym e)
+
+pub item_rule : (rows : List RuleRow) (i : ℕ) (row : RuleRow) → i < length rows → row ≡ get_or rows i row → get_or (rows_table rows).rules i zero_rule ≡ rule_in row.numbers
+item_rule rows i row l e = rule_at rows i row l ∙ ap (λ (r : RuleRow). rule_in r.numbers) (sym e)
+
+-- How many rules the table has.
+pub all_count : (rows : List RuleRow) → (rows_table rows).count ≡ length rows
+all_count rows = rows_count (numbers_of rows) (length rows)
+
+-- The numbers of the first of them, and of those of which one is written anew.
+pub numbers_take : (rows : List RuleRow) (n : ℕ) → numbers_of (take n rows) ≡ take n (numbers_of rows)
+numbers_take rows zero = refl
+numbers_take [] (suc n) = refl
+numbers_take (r ∷ rows) (suc n) = ap (λ us. r.numbers ∷ us) (numbers_take rows n)
+
+pub numbers_set : (rows : List RuleRow) (i : ℕ) (row : RuleRow) → numbers_of (set rows i row) ≡ set (numbers_of rows) i row.numbers
+numbers_set [] i row = refl
+numbers_set (r ∷ rows) zero row = refl
+numbers_set (r ∷ rows) (suc i) row = ap (λ us. r.numbers ∷ us) (numbers_set rows i row)
+
+-- One rule more is written into its row.
+pub entered_set : (rs : List Rule) (rows : List RuleRow) (i : ℕ) (row : RuleRow) → i < length rows → Row (get_or rs i zero_rule) row.numbers → Entered rs (numbers_of rows) i → Entered rs (numbers_of (set rows i row)) (i + 1)
+entered_set rs rows i row l r e = rw (numbers_set rows i row) (entered_next rs (numbers_of rows) i row.numbers (omega (arith, rows_length rows)) r e)
+
+-- The first n of them stand for the first n rules, with their strata.
+taken_rows : {A : Type 0} (g : Rule → A) (rows : List RuleRow) (n : ℕ) → n ≤ length rows → map g (take (length (take n rows)) (map rule_in (numbers_of (take n rows)))) ≡ map g (take n (map rule_in (numbers_of rows)))
+taken_rows g rows zero h = refl
+taken_rows g [] (suc n) h = absurd (omega arith)
+taken_rows g (r ∷ rows) (suc n) h = ap (λ us. g (rule_in r.numbers) ∷ us) (taken_rows g rows n (le_of_suc-le-suc h))
+
+pub taken_rules : (rows : List RuleRow) (n : ℕ) → n ≤ length rows → rules_of (rows_table (take n rows)) ≡ rules_of (table_in (numbers_of rows) n)
+unfolding rules_of table_in
+taken_rules rows n h = taken_rows rule_of rows n h
+
+pub taken_strata : (rows : List RuleRow) (n : ℕ) → n ≤ length rows → carried_strata (rows_table (take n rows)) ≡ carried_strata (table_in (numbers_of rows) n)
+unfolding carried_strata table_in
+taken_strata rows n h = taken_rows (λ r. r.stratum) rows n h

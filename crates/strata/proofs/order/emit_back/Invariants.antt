@@ -1,9 +1,0 @@
-use Prim.Native.Nat.{◌≤◌}
-use Rattle.strata.specs.inner.Visits.{Visits}
-use Rattle.strata.proofs.order.emit_back.Given as goal
-
-abbrev pub invariant-nodes : goal.invariant-nodes
-invariant-nodes l = (l.k ≤ l.opened) × Visits l.n l.t l.order
-
-abbrev pub decreases-nodes : goal.decreases-nodes
-decreases-nodes l = l.k
