@@ -111,9 +111,6 @@ names_more text spans count k h = rw (add-one count, take-suc-set spans count k 
 pub values_listed : {text spans : List ℕ} {count : ℕ} → ValuesLie text spans count → Listed text spans (spellings (span_names text spans count))
 values_listed {text} {spans} {count} L = spanned_listed text spans (span_names text spans count) L.spanned
 
-pub values_none : (text : List ℕ) → ValuesLie text (replicate value_limit 0) 0
-values_none text = record { few = omega arith; places = refl; spanned = spanned_none text value_limit }
-
 pub values_more : (text spans : List ℕ) (count k : ℕ) → ValuesLie text spans count → count < value_limit → 0 < k → SpanLies text k → ValuesLie text (set spans count k) (count + 1)
 values_more text spans count k L h z l =
     let p = L.places in

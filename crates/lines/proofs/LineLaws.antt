@@ -122,7 +122,3 @@ pub remainder_next : (text rest : List ℕ) (base next : ℕ) → Remainder text
 remainder_next text rest base next R =
     let h : length (drop next rest) ≤ length rest - next = simp length-drop (omega arith) in
     record { begins = take_all (length rest - next) (drop next rest) h ∙ ap (drop next) R.begins ∙ drop-drop next base text; short = R.short }
-
--- Its place is a number of the machine.
-pub remainder_place : (text rest : List ℕ) (base from next : ℕ) → Remainder text rest base → from < next → next ≤ length rest → base + next ≤ text_limit
-remainder_place text rest base from next R h l = omega (arith, ap length R.begins ∙ length-drop base text, R.short)

@@ -10,8 +10,6 @@ use Rattle.table.specs.Link.{stratum_at}
 use Rattle.names.specs.Names.{show_slot, show_value}
 use Rattle.reader.specs.Tables as reader
 use Rattle.reader.specs.Tables.{Accepted, Refused}
-use Rattle.refusals.specs.declared.Refusal.{Refusal}
-use Rattle.refusals.specs.Numbers.{refusal_number, refusal_second}
 use Rattle.rule_file.specs.Whole.{program_reading}
 use Rattle.laws.specs.Answers.{OrRefused, taken, refused}
 use Rattle.cards.specs.Forms.{card_bits, slip_bits, changes_in}

@@ -23,7 +23,7 @@ fn put_card(sheet: &mut Sheet, card: &[u8])
     sheet.put(b"\n");
 }
 
-// Puts the line of the tally: the editor, answered and refused.
+// Puts the line of the tally: the editor, answered and refused. Beside `put_rule`: one function for both would go over a list of words and numbers made first.
 #[tactic(auto, using(writing::proofs::Putting::room_first, writing::proofs::Putting::room_rest), unfolding(crate::specs::Printed::tally_text, laws::specs::Quoted::bytes, laws::specs::Quoted::bytes_from))]
 fn put_tally(sheet: &mut Sheet, editor: usize, tally: Tally)
     requires { sheet.old.at + length (tally_text editor tally) ≤ longest }

@@ -1,4 +1,4 @@
-// Numbers in decimal and bytes in hexadecimal.
+// Numbers in decimal and bytes in hexadecimal. They are put by hand, since each byte is proved and `std`'s formatting has no clause.
 ghost use Rattle.std.specs.Prelude.{◌+◌, ◌≤◌, ◌<◌, ◌≡◌, length};
 ghost use Rattle.writing.specs.inner.Puts.{longest, PutsOn};
 ghost use Rattle.listing.specs.Printed.{decimal, hex_digit, hex_digits, hexadecimal};

@@ -48,10 +48,6 @@ module _ (live : List ℕ) (positive : List Bool) where
     pub size : length negative ≡ pair_places
     pub right : (q : ℕ) → q < m → get_or negative q false ≡ is_negative q
 
-  -- None is looked at yet.
-  pub found_start : Found (replicate pair_places false) 0
-  found_start = record { size = length-replicate pair_places false; right = λ q h. absurd (let z = h in omega arith) }
-
   -- One value more of a slot.
   pub found_next : (negative : List Bool) (s v : ℕ) (b : Bool) → s * row + v < pair_places → b ≡ is_negative (s * row + v) → Found negative (s * row + v)
       → Found (set negative (s * row + v) b) (s * row + (v + 1))
@@ -66,11 +62,7 @@ module _ (live : List ℕ) (positive : List Bool) where
             (eq-or-lt_of_le (let y : q ≤ at = omega arith in y));
       }
 
-  -- The values of a slot are done,
-  pub found_slot : (negative : List Bool) (s v : ℕ) → row ≤ v → Found negative (s * row + v) → Found negative ((s + 1) * row)
-  found_slot negative s v h f = record { size = f.size; right = λ q l. f.right q (omega arith) }
-
-  -- and at last those of every slot.
+  -- At last the values of every slot are done.
   pub found_end : (negative : List Bool) (width s : ℕ) → width ≤ s → Found negative (s * row) → FirstNegative width live positive negative
   unfolding is_negative
   found_end negative width s h f = record {

@@ -14,23 +14,9 @@ module _ (counts : List ℕ) where
     pub earlier : (x w : ℕ) → x < s → w ≤ get_or counts x 0 → P x w
     pub here : (w : ℕ) → w < v → P s w
 
-  -- At the start it is said of none.
-  pub up_to_start : (P : ℕ → ℕ → Type 0) → UpTo P 0 0
-  up_to_start P = record { earlier = λ x w l b. absurd (let z = l in omega arith); here = λ w b. absurd (let z = b in omega arith) }
-
   -- One value more.
   pub up_to_value : (P : ℕ → ℕ → Type 0) (s v : ℕ) → P s v → UpTo P s v → UpTo P s (v + 1)
   up_to_value P s v p u = record {
     earlier = u.earlier;
     here = λ w b. ⊎_elim (λ (e : w ≡ v). subst (P s) (sym e) p) (λ (l : w < v). u.here w l) (eq-or-lt_of_le (let z : w ≤ v = omega arith in z));
-  }
-
-  -- The values of a slot are done.
-  pub up_to_slot : (P : ℕ → ℕ → Type 0) (s v : ℕ) → get_or counts s 0 < v → UpTo P s v → UpTo P (s + 1) 0
-  up_to_slot P s v h u = record {
-    earlier = λ x w l b. ⊎_elim
-        (λ (e : x ≡ s). subst (λ (y : ℕ). P y w) (sym e) (u.here w (let z : w ≤ get_or counts s 0 = rw e at b in omega arith)))
-        (λ (k : x < s). u.earlier x w k b)
-        (eq-or-lt_of_le (let z : x ≤ s = omega arith in z));
-    here = λ w b. absurd (let z = b in omega arith);
   }

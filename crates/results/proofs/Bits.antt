@@ -78,14 +78,6 @@ pub bit_past : (bs : List Bool) (i : ℕ) → length bs ≤ i → get_or bs i fa
 bit_past bs i h = get_or-eq_default bs false {n = i} h
 
 -- The one bits of what is left.
-pub ones_next : (s : List ℕ) (i : ℕ) → i < length s → ones_in (drop i s) ≡ ones (get_or s i 0) + ones_in (drop (i + 1) s)
-unfolding ones_in
-ones_next s i h = rw (add-one i, drop-cons s i 0 h)
-
-pub ones_end : (s : List ℕ) (i : ℕ) → length s ≤ i → ◌≡◌ {A = ℕ} (ones_in (drop i s)) 0
-unfolding ones_in
-ones_end s i h = rw drop_of_length-le
-
 ones_zero : ◌≡◌ {A = ℕ} (ones 0) 0
 ones_zero = let o = ones-le 0 0 (omega arith) in omega arith
 

@@ -171,12 +171,6 @@ test_number p b n slot value h e = (λ i. record { becomes = first i; negated = 
 pub at_last : (P : ℕ → Type 0) (i : ℕ) → ((k : ℕ) → k < i → P k) → P i → (k : ℕ) → k < i + 1 → P k
 at_last P i below top k h = ⊎_elim (λ (e : k ≡ i). subst P (sym e) top) (λ (l : k < i). below k l) (eq-or-lt_of_le (let z : k ≤ i = omega arith in z))
 
--- Rows of zeros have their places.
-pub zero_shaped : (k : ℕ) → RowsShaped (replicate k (replicate {A = ℕ} 16 0))
-zero_shaped k = record {
-  each_row = λ i h. rw (get_or-replicate k i (replicate {A = ℕ} 16 0) [] (rw (length-replicate k (replicate {A = ℕ} 16 0)) at h)) (record { size = refl; stratum_small = omega arith });
-}
-
 -- No rule is entered yet.
 pub entered_start : (rs : List Rule) (rows : List (List ℕ)) → RowsShaped rows → Entered rs rows 0
 entered_start rs rows s = record { shaped = s; each = λ i h. absurd (let z = h in omega arith) }
@@ -194,10 +188,6 @@ entered_next rs rows i row h r e = record {
       (λ k b. rw (get_or-set_other rows i k row [] (λ (q : k ≡ i). omega arith)) (e.each k b))
       (rw (get_or-set_same rows i row [] h) r);
 }
-
--- Rows that rules were written into fit.
-pub entered_fits : (rs : List Rule) (rows : List (List ℕ)) (n : ℕ) → n ≤ rule_limit → n ≤ length rows → Entered rs rows n → RowsFit rows n
-entered_fits rs rows n h k e = record { rows_shaped = e.shaped; few = h; inside = k; each_fits = λ i l. (e.each i l).fits }
 
 -- What a function makes of the first n of two lists is the same where it is at each place.
 same_at : {A B : Type 0} (f : A → B) (xs ys : List A) (d : A) (n : ℕ) → n ≤ length xs → n ≤ length ys → ((i : ℕ) → i < n → f (get_or xs i d) ≡ f (get_or ys i d)) → map f (take n xs) ≡ map f (take n ys)

@@ -71,12 +71,7 @@ item_rule rows i row l e = rule_at rows i row l ∙ ap (λ (r : RuleRow). rule_i
 pub all_count : (rows : List RuleRow) → (rows_table rows).count ≡ length rows
 all_count rows = rows_count (numbers_of rows) (length rows)
 
--- The numbers of the first of them, and of those of which one is written anew.
-pub numbers_take : (rows : List RuleRow) (n : ℕ) → numbers_of (take n rows) ≡ take n (numbers_of rows)
-numbers_take rows zero = refl
-numbers_take [] (suc n) = refl
-numbers_take (r ∷ rows) (suc n) = ap (λ us. r.numbers ∷ us) (numbers_take rows n)
-
+-- The numbers of rows of which one is written anew.
 pub numbers_set : (rows : List RuleRow) (i : ℕ) (row : RuleRow) → numbers_of (set rows i row) ≡ set (numbers_of rows) i row.numbers
 numbers_set [] i row = refl
 numbers_set (r ∷ rows) zero row = refl

@@ -47,16 +47,6 @@ pub item_numbers : (rows : List RuleRow) (i : ℕ) (row : RuleRow) → i < lengt
 item_numbers rows i row h e = at_row rows i row h ∙ ap (λ (r : RuleRow). r.numbers) (sym e)
 
 -- Arrays of as many places as m rules take are set aside for n.
-pub set_aside : (m n : ℕ) → n ≤ m → SetAside n (replicate (m * 9) 0) (replicate m false) (replicate m false) (replicate m 0)
-set_aside m n h = record {
-  nexts_room = rw (length-replicate {A = ℕ} (m * 9) 0) (omega arith);
-  none_chained = replicate_at (m * 9) 0;
-  dead_room = rw (length-replicate m false) h;
-  none_dead = replicate_at m false;
-  queued_room = rw (length-replicate m false) h;
-  woken_room = rw (length-replicate {A = ℕ} m 0) h;
-}
-
 module _ (rows : List (List ℕ)) (n : ℕ) (counts : List ℕ) (I : List Pair) (G : Given rows n counts I) where
   -- A declared pair has one of the slots, and NONE or one of its values.
   pub declared_value : (p : Pair) → T (among p (declared_pairs counts)) → (p.slot < length counts) × (p.value ≤ get_or counts p.slot 0)

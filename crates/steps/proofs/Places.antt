@@ -161,8 +161,3 @@ next_is w f g ts left u e = let z = expects_took w ts left u e in rw (z.0, z.1)
 pub next_not : {B : Type 0} (w : ℕ) (f g : List Token → B) (ts : List Token) (k : ℕ) → expects w ts ≡ stop k → if_next w f g ts ≡ g ts
 unfolding if_next
 next_not w f g ts k e = rw (expects_stop w ts k e)
-
--- What lies behind a later position lies behind an earlier one.
-pub step_earlier : (size from later : ℕ) (r : Result ℕ Fault) → from ≤ later → StepLies size later r → StepLies size from r
-step_earlier size from later (Ok next) h d = (omega (arith, d.0), d.1)
-step_earlier size from later (Err k) h d = tt

@@ -43,9 +43,6 @@ visits_start n order m = record { few = omega arith; entries = m; some = λ l. o
 
 module _ (n t : ℕ) (order : List ℕ) (g : Visits n t order) where
   -- One more visit.
-  pub visits_more : (i : ℕ) → i < n → t < visit_limit → Visits n (t + 1) (set order t i)
-  visits_more i h l = record { few = omega arith; entries = most_set (n - 1) t i order g.entries (omega arith); some = λ z. omega arith }
-
   pub visits_within : (k : ℕ) → k < t → get_or order k 0 < n
   visits_within k h = omega (arith, g.entries.each k, g.some (omega arith))
 
@@ -84,19 +81,4 @@ module _ (n : ℕ) (order heads stack opens : List ℕ) (tail opened top found :
     left_open = most_set (node_limit - 1) opened v opens g.left_open (omega arith);
     counted = omega (arith, g.counted);
     few = g.few;
-  }
-
-  -- A set is emitted.
-  pub search_emitted : (xs : List ℕ) (t k : ℕ) → Visits n t xs → k ≤ opened → Searching n xs heads stack opens t k top found
-  search_emitted xs t k v l = record { visits = v; chained = g.chained; waiting = g.waiting; left_open = g.left_open; counted = omega (arith, g.counted); few = g.few }
-
-  -- A node is found.
-  pub search_found : (w : ℕ) → w ≤ n + pair_places → found < node_limit → Searching n order heads (set stack top w) opens tail opened (top + 1) (found + 1)
-  search_found w h l = record {
-    visits = g.visits;
-    chained = g.chained;
-    waiting = most_set (n + pair_places) top w stack g.waiting h;
-    left_open = g.left_open;
-    counted = omega (arith, g.counted);
-    few = omega arith;
   }

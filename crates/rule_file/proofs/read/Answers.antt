@@ -47,9 +47,6 @@ use Rattle.grammar.specs.TableFor.{table_for}
 abbrev text_at : After-statement_next → List ℕ
 text_at c = c.args.text.now
 
-abbrev way_at : After-statement_next → Way
-way_at c = c.args.way
-
 abbrev limits-at : After-statement_next → Limits
 limits-at c = c.args.limits
 

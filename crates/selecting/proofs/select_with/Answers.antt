@@ -54,9 +54,6 @@ woken-length : (u : At-rules) → length u.rules.woken ≡ length u.args.woken.n
 woken-length u = u.rules.invariant.7 ∙ u.sweeps.invariant.3
 
 -- So the rule looked at has its row and its flags.
-rule-inside : (d : After-next_or-turn) → d.next_or-turn.result.rule < rule_limit
-rule-inside d = omega (arith, is-rule d, d.requires.0.few_rules)
-
 fired-inside : (d : After-next_or-turn) → d.next_or-turn.result.rule < length d.rules.fired
 fired-inside d = omega (arith, is-rule d, d.requires.0.fired_room, d.rules.invariant.2.fired_size, d.sweeps.invariant.0)
 

@@ -11,11 +11,6 @@ use Rattle.cards.proofs.fields.put_field.Goals as goal
 joined-lt : (c : After-shifted) → c.shifted.result + c.args.x < 2 ^ (c.args.at % 8 + c.args.width)
 joined-lt c = rw c.shifted.ensures (kept_lt (c.args.at % 8) c.args.width c.args.x c.number.result (omega arith) c.number.ensures.1 c.requires.2)
 
-joined_word : (c : After-shifted) → c.shifted.result + c.args.x < 65536
-joined_word c =
-    let e : c.args.at % 8 + c.args.width ≤ 16 = omega (arith, c.requires.1) in
-    omega (arith, joined-lt c, pow_mono e)
-
 -- The word is one of two bytes.
 word_lt : (c : After-shifted-word) → c.shifted-word.result < 65536
 word_lt c =

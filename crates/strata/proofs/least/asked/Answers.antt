@@ -30,12 +30,6 @@ highest-under-not h x a b e z = omega arith
 highest-none : (h a e : ℕ) → max h a ≡ e → max h (max 0 a) ≡ e
 highest-none h a e z = omega arith
 
-highest-new : (h y a e : ℕ) → h < y → max h (max y a) ≡ e → max y a ≡ e
-highest-new h y a e l z = omega arith
-
-highest-old : (h y a e : ℕ) → y ≤ h → max h (max y a) ≡ e → max h a ≡ e
-highest-old h y a e l z = omega arith
-
 at_most_one : (b : Bool) → cond b 1 0 ≤ 1
 at_most_one true = omega arith
 at_most_one false = omega arith
