@@ -12,7 +12,7 @@ ENTRY_POINTS = {
     'cursor': ['new', 'peek', 'advance', 'first', 'after'],
     'names': ['slot_name', 'value_name'],
     'soundness': ['is_well_formed', 'is_sound'],
-    'rule_file': ['read'],
+    'rule_file': ['read', 'read_into'],
     'printing': ['print'],
     'unpacking': ['unpack_card', 'unpack_slip'],
     'packing': ['pack_card', 'pack_slip'],

@@ -96,7 +96,7 @@ fn read_numbered(text: &[u8], way: Way) -> RlRead
         second: 0,
         table: table::empty_table(),
     };
-    if let Err(refusal) = rule_file::read(text, way, Limits::Library, &mut read.table) {
+    if let Err(refusal) = rule_file::read_into(text, way, Limits::Library, &mut read.table) {
         read.number = refusal.number();
         read.second = refusal.second();
     }

@@ -141,9 +141,8 @@ pub fn list(text: &[u8], card: &[u8], slip: &[u8], editor: &[u8], out: &mut [u8]
     if !is_editor(caller) {
         return list_refusal(Refusal::NoEditor, out);
     }
-    let mut t = table::empty_table();
-    match rule_file::read(text, Way::Strata, Limits::Program, &mut t) {
-        Ok(()) => list_response(text, t, caller, card, slip, out),
+    match rule_file::read(text, Way::Strata, Limits::Program) {
+        Ok(t) => list_response(text, t, caller, card, slip, out),
         Err(refusal) => list_refusal(refusal, out),
     }
 }

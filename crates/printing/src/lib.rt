@@ -47,6 +47,6 @@ pub fn print(text: &[u8], out: &mut [u8]) -> Result<usize, Refusal>
     ensures { (printing_said result ≡ printing_of (print_into text.now (length out.old))) × (out.new ≡ output_of (print_into text.now (length out.old)) out.old) }
 {
     let mut t = table::empty_table();
-    rule_file::read(text, Way::Strata, Limits::Library, &mut t)?;
+    rule_file::read_into(text, Way::Strata, Limits::Library, &mut t)?;
     print_table(text, t, out)
 }

@@ -1,7 +1,7 @@
 -- What the whole reading answers, by the response that a text is read for; with test 18: accepted exactly where the text is a file whose rules have strata, and then with its table and the least strata; 18 exactly where the text is a file without strata.
 -- Assumes nothing.
 use mathlib.Core.Path.{◌≡◌, refl, sym, ap, ◌∙◌}
-use mathlib.Core.Bool.{Bool, true, false}
+use mathlib.Core.Bool.{Bool, true, false, cond}
 use mathlib.Core.List.{List}
 use mathlib.Core.Logic.{◌↔◌, ⊎_elim}
 use Prim.Native.Nat.{ℕ, ◌≤◌, ◌<◌}
@@ -85,6 +85,9 @@ file_table_shaped text f e = file_shaped f (file_declared text f ((accepts_iff t
 pub file_table_places : (text : List ℕ) (f : File) → parse text ≡ accepted f → length (table_for f).rules ≡ rule_limit
 file_table_places text f e = file_places f (file_declared text f ((accepts_iff text f).0 e))
 
+pub outcomes_differ : (k n : ℕ) → Accepted ≡ Refused k n → ⊥
+outcomes_differ k n c = let z : ◌≡◌ {A = ℕ} 0 1 = cc in omega arith
+
 -- What the code answers: a file's table with the least strata, 18, its table as it is, or the grammar's refusal.
 module _ (w : Way) (l : Limits) (text : List ℕ) where
   pub whole_layered : (f : File) (u : Table) → w ≡ way.Strata → parse_by l text ≡ accepted f → circle_of weak f.rules ≡ 0 → u ≡ with_strata (table_for f)
@@ -109,6 +112,29 @@ module _ (w : Way) (l : Limits) (text : List ℕ) where
       go way.Strata = sym (ap answered_whole e)
       go way.Marks = sym (ap answered_without_18 e)
 
+  -- A refusal has the table without slots or rules.
+  pub refused_empty : (k n : ℕ) (t : Table) → record { outcome = Refused k n; table = t } ≡ read_within w l text → t ≡ empty_table
+  unfolding answered_whole layered unlayered answered_without_18
+  refused_empty k n t r = go w r
+    where
+      by_circle : (f : File) (b : Bool)
+          → record { outcome = Refused k n; table = t } ≡ cond {A = FileRead} b (record { outcome = Accepted; table = with_strata (table_for f) }) (record { outcome = Refused 18 (circle_of weak f.rules); table = empty_table })
+          → t ≡ empty_table
+      by_circle f true e = absurd (outcomes_differ k n (sym (ap (λ (a : FileRead). a.outcome) e)))
+      by_circle f false e = ap (λ (a : FileRead). a.table) e
+
+      by_strata : (p : Parsed) → record { outcome = Refused k n; table = t } ≡ answered_whole p → t ≡ empty_table
+      by_strata (accepted f) e = by_circle f (eqb (circle_of weak f.rules) 0) e
+      by_strata (refused j m) e = ap (λ (a : FileRead). a.table) e
+
+      by_marks : (p : Parsed) → record { outcome = Refused k n; table = t } ≡ answered_without_18 p → t ≡ empty_table
+      by_marks (accepted f) e = absurd (outcomes_differ k n (sym (ap (λ (a : FileRead). a.outcome) e)))
+      by_marks (refused j m) e = ap (λ (a : FileRead). a.table) e
+
+      go : (v : Way) → record { outcome = Refused k n; table = t } ≡ read_within v l text → t ≡ empty_table
+      go way.Strata e = by_strata (parse_by l text) e
+      go way.Marks e = by_marks (parse_by l text) e
+
 -- The library's limits are those of the answers by response alone.
 pub by_library : (w : Way) (text : List ℕ) → read_within w Library text ≡ read_by w text
 unfolding reading reading_without_18
@@ -118,9 +144,6 @@ by_library way.Marks text = refl
 -- The grammar's reading gives 10 to 17.
 pub refused_range : (text : List ℕ) (k n : ℕ) → parse text ≡ refused k n → (10 ≤ k) × (k ≤ 17)
 refused_range text k n e = ⊎_elim (λ w. (omega (arith, w.0), omega (arith, w.0))) (λ w. let r = fault_range k w.1.before w.1.after w.1.fault in (omega (arith, r.0), r.1)) (refusal_stands text k n e)
-
-pub outcomes_differ : (k n : ℕ) → Accepted ≡ Refused k n → ⊥
-outcomes_differ k n c = let z : ◌≡◌ {A = ℕ} 0 1 = cc in omega arith
 
 -- A text is accepted exactly where it is a file whose rules have strata.
 pub reading_accepted_iff : (text : List ℕ) → ((f : File) × IsFile text f × ((u : ℕ → ℕ) × Strata weak f.rules u)) ↔ ((reading text).outcome ≡ Accepted)

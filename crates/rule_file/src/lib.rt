@@ -3,7 +3,7 @@
 
 ghost use Rattle.std.specs.Prelude.{◌≡◌, Err};
 ghost use Rattle.table.specs.Empty.{empty_table};
-ghost use Rattle.rule_file.specs.Whole.{file_read, read_within};
+ghost use Rattle.rule_file.specs.Whole.{file_read, reading_said, read_within};
 
 use lines::{enter, slot_of};
 use reader::statements::{Statement, statement_next};
@@ -14,9 +14,18 @@ use steps::source::Source;
 use steps::step::Tokens;
 use table::{Limits, PAIRS, RULES, SLOTS, Table, Way};
 
-// The reading of any bytes of any length, by the library's limits or the program's: the statements one after the other, after each of which the remainder is handed on; at the end the strata, if asked.
-// It goes into the caller's table, so that none is copied; after a refusal that is the table without slots or rules.
-pub fn read(text: &[u8], way: Way, limits: Limits, t: &mut Table) -> Result<(), Refusal>
+// The reading of any bytes of any length, by the library's limits or the program's: the table, or the refusal.
+pub fn read(text: &[u8], way: Way, limits: Limits) -> Result<Table, Refusal>
+    ensures { reading_said result ≡ read_within way limits text.now }
+{
+    let mut t = table::empty_table();
+    read_into(text, way, limits, &mut t)?;
+    Ok(t)
+}
+
+// The same into a table that is lent to be filled, so that none is copied: the statements one after the other, after each of which the remainder is handed on; at the end the strata, if asked.
+// What the table held is of no reading; after a refusal it is the table without slots or rules.
+pub fn read_into(text: &[u8], way: Way, limits: Limits, t: &mut Table) -> Result<(), Refusal>
     ensures { file_read result t.new ≡ read_within way limits text.now }
 {
     *t = table::empty_table();

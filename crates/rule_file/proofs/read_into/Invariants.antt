@@ -6,7 +6,7 @@ use Rattle.reader.proofs.ReadLaws.{Halfway}
 use Rattle.rows.specs.inner.Rows.{Entered}
 use Rattle.rows.specs.inner.RuleRows.{numbers_of}
 use Rattle.strata.proofs.Layered.{Numbering}
-use Rattle.rule_file.proofs.read.Given as goal
+use Rattle.rule_file.proofs.read_into.Given as goal
 
 abbrev pub invariant-rows : goal.invariant-rows
 invariant-rows l = (l.count ≤ rule_limit) × (length l.rows ≡ rule_limit) × Entered l.t.rules (numbers_of l.rows) l.i
