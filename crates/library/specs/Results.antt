@@ -1,4 +1,4 @@
--- The results of the boundary: the answers of the entry points with document 01's numbers in place of the enums.
+-- The results of the boundary: the answers of the entry points, with document 01's numbers in place of their cases.
 use Rattle.std.specs.Prelude.{ℕ, length}
 use Rattle.reader.specs.Tables.{FileRead, reading_refusal, reading_second}
 use Rattle.printing.specs.Printing.{Printing, printing_refusal, printing_second, printing_length}

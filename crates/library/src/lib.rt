@@ -1,4 +1,4 @@
-// The entry points for programs in C and Rust: each hands on exactly what the function of the crate below says, with numbers where that has an enum; the responses find the caller's record in the lent table, or say 44, and put the record after in its place. The C interface names each function and each result, so that those of a card and of a slip, and of both ways, stand beside each other, and a refusal is two numbers.
+// The entry points for programs in C and Rust: each hands on exactly what the function of the crate below says, with numbers where that has a `Result`; the responses find the caller's record in the lent table, or say 44, and put the record after in its place. The C interface names each function and each result, so that those of a card and of a slip, and of both ways, stand beside each other, and a refusal is two numbers.
 #![tactic(auto)]
 
 pub mod places;

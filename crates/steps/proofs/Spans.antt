@@ -46,6 +46,23 @@ pub record Left (text spans letters : List ℕ) (names : List (List ℕ)) (i : �
 pub left_start : (text spans letters : List ℕ) (names : List (List ℕ)) → Listed text spans names → Left text spans letters names 0
 left_start text spans letters names l = record { rest = names; listed = l; same = sym (place_counted letters names) }
 
+-- Where no span is left, or the next is 0, the name has no place.
+none_left : (text letters : List ℕ) (i : ℕ) (rest : List (List ℕ)) → Listed text [] rest → counted i letters rest ≡ 0
+none_left text letters i [] l = refl
+none_left text letters i (n ∷ ns) l = absurd l
+
+pub left_end : (text spans letters : List ℕ) (names : List (List ℕ)) (i : ℕ) → Left text spans letters names i → length spans ≤ i → 0 ≡ place letters names
+left_end text spans letters names i L h =
+    sym (none_left text letters (suc i) L.rest (rw (drop_of_length-le spans h) at L.listed)) ∙ L.same
+
+none_here : (text letters : List ℕ) (i k : ℕ) (ks : List ℕ) (rest : List (List ℕ)) → k ≡ 0 → Listed text (k ∷ ks) rest → counted i letters rest ≡ 0
+none_here text letters i k ks [] e l = refl
+none_here text letters i k ks (n ∷ ns) e l = absurd (omega (arith, l.0))
+
+pub left_zero : (text spans letters : List ℕ) (names : List (List ℕ)) (i : ℕ) → Left text spans letters names i → i < length spans → get_or spans i 0 ≡ 0 → 0 ≡ place letters names
+left_zero text spans letters names i L h e =
+    sym (none_here text letters (suc i) (get_or spans i 0) (drop (suc i) spans) L.rest e (rw (drop-cons spans i 0 h) at L.listed)) ∙ L.same
+
 -- What is known of a span that is not 0: the name there is found, or the names go on.
 next_here : (text letters : List ℕ) (i k : ℕ) (ks : List ℕ) (rest : List (List ℕ)) (b : Bool) → (k ≡ 0 → ⊥) → Listed text (k ∷ ks) rest
     → (SpanLies text k → b ≡ same_letters letters (span_letters text k))
@@ -54,6 +71,13 @@ next_here text letters i k ks [] b z l f = absurd (z l)
 next_here text letters i k ks (n ∷ ns) b z l f =
     let e : same_letters letters n ≡ b = sym (f l.1 ∙ ap (same_letters letters) l.2) in
     (λ t. rw (e, t), λ t. (ns, l.3, rw (e, t)))
+
+-- Where the name stands there, that is its place; where another does, the names go on.
+pub left_found : (text spans letters : List ℕ) (names : List (List ℕ)) (i : ℕ) (b : Bool) → Left text spans letters names i → i < length spans → (get_or spans i 0 ≡ 0 → ⊥)
+    → (SpanLies text (get_or spans i 0) → b ≡ same_letters letters (span_letters text (get_or spans i 0))) → b ≡ true → i + 1 ≡ place letters names
+left_found text spans letters names i b L h z f t =
+    let n = next_here text letters (suc i) (get_or spans i 0) (drop (suc i) spans) L.rest b z (rw (drop-cons spans i 0 h) at L.listed) f in
+    add-one i ∙ sym (n.0 t) ∙ L.same
 
 pub left_next : (text spans letters : List ℕ) (names : List (List ℕ)) (i : ℕ) (b : Bool) → Left text spans letters names i → i < length spans → (get_or spans i 0 ≡ 0 → ⊥)
     → (SpanLies text (get_or spans i 0) → b ≡ same_letters letters (span_letters text (get_or spans i 0))) → b ≡ false → Left text spans letters names (i + 1)

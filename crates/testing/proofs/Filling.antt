@@ -42,6 +42,18 @@ module _ {A : Type 0} (none : A) (first : ℕ → A) where
     copied = λ q h. absurd (let z = h in omega arith);
   }
 
+  pub copied_next : (truth : List A) (p : ℕ) (x : A) → p < pair_places → x ≡ first p → Copied truth p → Copied (set truth (pair_places + p) x) (p + 1)
+  copied_next truth p x l f c =
+      let z = c.size in
+      record {
+        size = length-set truth _ _ ∙ z;
+        untouched = λ q h. get_or-set_other truth (pair_places + p) q _ none (λ e. omega arith) ∙ c.untouched q h;
+        copied = λ q h. ⊎_elim
+            (λ (e : q ≡ p). rw e (get_or-set_same truth (pair_places + p) x none (omega arith) ∙ f))
+            (λ (k : q < p). get_or-set_other truth (pair_places + p) (pair_places + q) _ none (λ e. omega arith) ∙ c.copied q k)
+            (eq-or-lt_of_le (let y : q ≤ p = omega arith in y));
+      }
+
   -- then to these.
   module _ (had turns : ℕ → A) where
     -- The values of the first s slots are entered.

@@ -44,6 +44,18 @@ pub woken_none : (n : ℕ) (woken : List ℕ) → n ≤ length woken → Woken n
 woken_none n woken l = record { room = l; few = omega arith; low = λ k h. absurd (let z = h in omega arith) }
 
 -- One rule more is woken.
+pub woken_more : (n left i : ℕ) (woken : List ℕ) → left < n → i < n → Woken n left woken → Woken n (left + 1) (set woken left i)
+woken_more n left i woken h l w =
+    let z = w.room in
+    record {
+      room = rw (length-set woken left i) z;
+      few = omega arith;
+      low = λ k b. ⊎_elim
+          (λ (e : k ≡ left). rw (e, get_or-set_same woken left i 0 (omega arith)) l)
+          (λ (c : k < left). rw (get_or-set_other woken left k i 0 (λ e. omega arith)) (w.low k c))
+          (eq-or-lt_of_le (let y : k ≤ left = omega arith in y));
+    }
+
 module _ (rule k : ℕ) (woken : List ℕ) where
   -- Where a rule is woken, any may be given.
   pub turn_any : (other left : ℕ) → (left ≡ 0 → ⊥) → turn_or rule k woken left ≡ turn_or other k woken left

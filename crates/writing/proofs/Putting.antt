@@ -1,11 +1,11 @@
 -- Bytes put into an output one part after the other.
 -- Assumes nothing.
-use Prim.Native.Nat.{ℕ, ◌+◌, ◌≤◌}
+use Prim.Native.Nat.{ℕ, suc, ◌+◌, ◌≤◌, ◌<◌}
 use native.Mathlib.Omega.{arith}
 use mathlib.Core.Path.{◌≡◌, refl, sym, ap, subst, ◌∙◌}
-use mathlib.Core.List.{List, [], ◌++◌, append_assoc}
-use lib.ListN.{length, take, drop, length-append, length-drop, take-append-drop}
-use lib.Seq.{length-take-le, take_at, drop_at, drop-drop}
+use mathlib.Core.List.{List, [], ◌∷◌, ◌++◌, append_assoc}
+use lib.ListN.{length, get_or, set, take, drop, length-append, length-drop, take-append-drop}
+use lib.Seq.{length-take-le, take_at, drop_at, drop-drop, drop-cons, set_at}
 use Rattle.writing.specs.inner.Puts.{longest, put_in, Puts, PutsOn}
 use Rattle.writing.specs.declared.sheet.Sheet.{Sheet}
 
@@ -52,6 +52,19 @@ put_on out at a b h =
     ∙ append_assoc (take at out) a (b ++ drop (at + length a + length b) out)
     ∙ ap (λ (y : List ℕ). take at out ++ y) (sym (append_assoc a b (drop (at + length a + length b) out)))
     ∙ sym (put_as out at (a ++ b) (take at out) (drop (at + length a + length b) out) refl (ap (λ (k : ℕ). drop k out) z))
+
+-- A byte put after a part.
+pub put_byte : (out : List ℕ) (at : ℕ) (a : List ℕ) (x : ℕ) → at + length a < length out → set (put_in out at a) (at + length a) x ≡ put_in out at (a ++ x ∷ [])
+put_byte out at a x h =
+    let l : length (take at out ++ a) ≡ at + length a = let k = length-append (take at out) a in let j = length-take-le at out (omega arith) in omega arith in
+    let z : at + length (a ++ x ∷ []) ≡ suc (at + length a) = let k = length-append a (x ∷ []) in omega arith in
+    ap (λ (o : List ℕ). set o (at + length a) x)
+    (put_as out at a (take at out) (get_or out (at + length a) 0 ∷ drop (suc (at + length a)) out) refl (drop-cons out (at + length a) 0 h)
+    ∙ sym (append_assoc (take at out) a (get_or out (at + length a) 0 ∷ drop (suc (at + length a)) out)))
+    ∙ set_at (take at out ++ a) (get_or out (at + length a) 0) (drop (suc (at + length a)) out) x (at + length a) l
+    ∙ append_assoc (take at out) a (x ∷ drop (suc (at + length a)) out)
+    ∙ ap (λ (y : List ℕ). take at out ++ y) (sym (append_assoc a (x ∷ []) (drop (suc (at + length a)) out)))
+    ∙ sym (put_as out at (a ++ x ∷ []) (take at out) (drop (suc (at + length a)) out) refl (ap (λ (k : ℕ). drop k out) z))
 
 -- No bytes put.
 pub puts_none : (s : Sheet) → PutsOn s [] s

@@ -20,7 +20,9 @@ impl Sheet<'_> {
     {
         let end = self.at + part.len();
         if end <= self.out.len() {
-            self.out[self.at..end].copy_from_slice(part);
+            for j in 0..part.len() {
+                self.out[self.at + j] = part[j];
+            }
         }
         self.at = end;
     }
