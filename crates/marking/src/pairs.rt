@@ -1,5 +1,5 @@
 // Marks of pairs: which are positive, which negative, what the tests come to then, and the rules woken by a mark.
-ghost use Rattle.std.specs.Prelude.{◌≡◌, true, false, T, ℕ, ◌*◌, ◌≤◌, ◌<◌, length, get_or, MatchOption};
+ghost use Rattle.std.specs.Prelude.{◌≡◌, true, false, T, ℕ, ◌*◌, ◌≤◌, ◌<◌, length, get_or, is_err, OnOk, MatchResult};
 ghost use Rattle.model.specs.Rules.{Pair, among};
 ghost use Rattle.laws.specs.Limits.{slot_limit, value_limit, rule_limit};
 ghost use Rattle.table.specs.Link.{assignments_of};
@@ -65,7 +65,7 @@ fn mark(
     top
 }
 
-// What a rule assigns becomes positive, and how many rules are woken then; nothing where a pair is negative when its turn comes.
+// What a rule assigns becomes positive, up to the first pair that is negative when its turn comes: how many rules are woken then, as an error where such a pair was met.
 pub fn assign(
     row: &RuleRow,
     n: usize,
@@ -76,19 +76,18 @@ pub fn assign(
     queued: &mut [bool],
     woken: &mut [u16],
     left: usize,
-) -> Option<usize>
+) -> Result<usize, usize>
     requires { ((p : Pair) → T (among p (assignments_of (rule_in row.now.numbers))) → get_or counts.now p.slot 0 ≤ value_limit) × (n ≤ rule_limit) × Chained (n * 9) heads.now nexts.now × Woken n left woken.old × (n ≤ length queued.old) }
-    ensures { MatchOption result ((clashes counts.now (assignments_of (rule_in row.now.numbers)) marks.old ≡ true) × ((top : ℕ) × Woken n top woken.new))
-        (λ top. (clashes counts.now (assignments_of (rule_in row.now.numbers)) marks.old ≡ false)
-        × (marks.new ≡ assigned counts.now (assignments_of (rule_in row.now.numbers)) marks.old)
-        × Woken n top woken.new) }
+    ensures clash { is_err result ≡ clashes counts.now (assignments_of (rule_in row.now.numbers)) marks.old }
+    ensures marks { OnOk result (marks.new ≡ assigned counts.now (assignments_of (rule_in row.now.numbers)) marks.old) }
+    ensures woken { MatchResult result (λ top. Woken n top woken.new) (λ top. Woken n top woken.new) }
 {
     let mut top = left;
     'assignments: for k in 0..row.assigned() {
         let number = row.assignment(k);
         let p = rows::place(number);
         if marks.negative[p] {
-            return None;
+            return Err(top);
         }
         if marks.positive[p] {
             continue 'assignments;
@@ -96,7 +95,7 @@ pub fn assign(
         let count = counts.get(p / ROW).map_or(0, |count| *count);
         top = mark(p, n, count, marks, heads, nexts, queued, woken, top);
     }
-    Some(top)
+    Ok(top)
 }
 
 // Of what a rule assigns, the pairs that no rule is left to assign are ruled out, unless they are positive.

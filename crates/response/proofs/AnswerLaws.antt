@@ -36,6 +36,7 @@ use Rattle.cards.proofs.Formed.{slip_length}
 use Rattle.cards.proofs.EntryTrips.{card_of_values, slip_of_changes}
 use Rattle.cards.proofs.Written.{card_bytes_length, slip_bytes_length}
 use Rattle.results.specs.Record.{ones_in}
+use Rattle.results.specs.inner.Record.{fired_bits, flag_record}
 use Rattle.results.specs.inner.Ending.{new_places}
 use Rattle.response.specs.Ending.{fired_record, answer_of}
 use Rattle.response.specs.Outcomes.{Answered}
@@ -119,9 +120,16 @@ module _ (D : Pairs) (width : ℕ) (few : width ≤ slot_limit) where
   listed_room = omega (arith, slip_count, slip_few D width, few)
 
 -- The record of the flags is that of the rules fired.
-record_same : (ns : List ℕ) (ran : List Bool) → ((i : ℕ) → i < length ran → get_or ran i false ≡ names ns (suc i)) → pack ran ≡ fired_record (length ran) ns
-unfolding fired_record
-record_same ns ran same = ap pack (is_tabulate (λ i. names ns (suc i)) (length ran) false ran refl same)
+record_same : (ns : List ℕ) (ran : List Bool) (count : ℕ) → ((i : ℕ) → i < count → get_or ran i false ≡ names ns (suc i)) → flag_record ran count ≡ fired_record count ns
+unfolding flag_record fired_bits fired_record
+record_same ns ran count same =
+    ap pack (is_tabulate (λ i. names ns (suc i)) count false (tabulate (λ i. get_or ran i false) count)
+    (tabulate_length (λ i. get_or ran i false) count) (λ i l. tabulate_at (λ i. get_or ran i false) count i false l ∙ same i l))
+
+-- So are the flags packed, where there is one for each rule.
+record_packed : (ns : List ℕ) (ran : List Bool) → ((i : ℕ) → i < length ran → get_or ran i false ≡ names ns (suc i)) → pack ran ≡ fired_record (length ran) ns
+unfolding flag_record fired_bits
+record_packed ns ran same = ap pack (is_tabulate (λ i. get_or ran i false) (length ran) false ran refl (λ i l. refl)) ∙ record_same ns ran (length ran) same
 
 -- The first flags, as many as there are rules, are those of the rules that ran.
 module _ (n : ℕ) (ran : List Bool) (enough : n ≤ length ran) where
@@ -173,7 +181,7 @@ module _ (width : ℕ) (card : Card) (bs ran : List Bool) (C : Pairs) (ns : List
       changes_size = ap (λ (k : ℕ). byte_count (slip_bits k)) size ∙ sym (slip_bytes_length (changes_slip width row C))
 
       record_is : pack ran ≡ fired_record (length ran) ns
-      record_is = record_same ns ran same_rules
+      record_is = record_packed ns ran same_rules
 
       fired_front : take (byte_count (length ran)) c' ≡ fired_record (length ran) ns
       fired_front =

@@ -27,7 +27,7 @@ use Rattle.marks.specs.inner.Declared.{Declared}
 use Rattle.marks.specs.Selection.{Move, marks_after, selection, order_fired}
 use Rattle.firing.proofs.Responses.{slip_flags}
 use Rattle.selecting.specs.inner.Selected.{CardIs, SlipIs, Selected}
-use Rattle.selecting.proofs.Given.{Given, declared_value, assigns_declared}
+use Rattle.selecting.proofs.Given.{Given, own_counts, declared_value, assigns_declared}
 use Rattle.response.specs.Ending.{Answer, answer_of, unless_refused, answer_by_marks}
 use Rattle.response.specs.inner.InOrder.{InOrder}
 use Rattle.response.proofs.InOrder.{values_same, slip_placed, flags_length, rules_counted}
@@ -63,8 +63,8 @@ module _ (rows : List RuleRow) (counts : List ℕ) (card : Card) (slip : Slip) (
   pub assigned_below : (i : ℕ) (p : Pair) → i < length rows → T (among p (assignments_of (rule_in (get_or (numbers_of rows) i [])))) → p.slot < length counts
   assigned_below i p h t =
       let I = changes_of slip in
-      let G : Given (numbers_of rows) (length rows) counts I = record { rows_fit = all_fit rows O.kept.few_rules; narrow = O.kept.few_slots; few_values = O.kept.few_values; all_declared = all_declared } in
-      (declared_value (numbers_of rows) (length rows) counts I G p (assigns_declared (numbers_of rows) (length rows) counts I G i p h t)).0
+      let G : Given (numbers_of rows) (length rows) counts (length counts) counts I = record { rows_fit = all_fit rows O.kept.few_rules; counted = own_counts counts; narrow = O.kept.few_slots; few_values = O.kept.few_values; all_declared = all_declared } in
+      (declared_value (numbers_of rows) (length rows) counts (length counts) counts I G p (assigns_declared (numbers_of rows) (length rows) counts (length counts) counts I G i p h t)).0
 
   -- What it comes to.
   abbrev chosen : List Move

@@ -68,29 +68,29 @@ update_none Z p = record { same_positive = refl; same_negative = refl }
 update_first : (Z Z' : Marks) (q : Pair) (qs : List Pair) (p : Pair) → SameAt Z' (update Z (q ∷ [])) p → SameAt (update Z' qs) (update Z (q ∷ qs)) p
 update_first Z Z' q qs p e = same_at_trans _ (update (update Z (q ∷ [])) qs) _ p (update_same Z' (update Z (q ∷ [])) qs p e) (update_more Z (q ∷ []) qs p)
 
-module _ (rows : List (List ℕ)) (n : ℕ) (counts : List ℕ) (I : List Pair) (G : Given rows n counts I) (S : List ℕ) where
+module _ (rows : List (List ℕ)) (n : ℕ) (ks : List ℕ) (width : ℕ) (counts : List ℕ) (I : List Pair) (G : Given rows n ks width counts I) (S : List ℕ) where
   -- A declared pair that is not negative is assigned.
-  assigned_one_right : (q : Pair) (k : Known) → Tidy (declared_pairs counts) S k → T (among q (declared_pairs counts)) → (¬ T (set_of k.negative q))
-      → Tidy (declared_pairs counts) S (assigned_one counts q k)
-      × ((p : Pair) → T (among p (declared_pairs counts)) → SameAt (marks_of (assigned_one counts q k)) (update (marks_of k) (q ∷ [])) p)
+  assigned_one_right : (q : Pair) (k : Known) → Tidy (declared_pairs ks) S k → T (among q (declared_pairs ks)) → (¬ T (set_of k.negative q))
+      → Tidy (declared_pairs ks) S (assigned_one counts q k)
+      × ((p : Pair) → T (among p (declared_pairs ks)) → SameAt (marks_of (assigned_one counts q k)) (update (marks_of k) (q ∷ [])) p)
   unfolding assigned_one made_positive
   assigned_one_right q k X l m = go (get_or k.positive (place_of q) false) refl
     where
       ps : List Pair
-      ps = declared_pairs counts
+      ps = declared_pairs ks
 
       h : Placed q.slot q.value
-      h = declared_placed rows n counts I G q l
+      h = declared_placed rows n ks width counts I G q l
 
       c : ℕ
       c = get_or counts q.slot 0
 
-      inner : q.slot < length counts
-      inner = (declared_value rows n counts I G q l).0
+      inner : q.slot < width
+      inner = (declared_value rows n ks width counts I G q l).0
 
       none : (p : Pair) → Rival q (suc c) p → ¬ T (set_of k.positive p)
       none p r t =
-          let o : T (among p ps) = value_declared rows n counts I G p (omega (arith, r.0, inner)) (rw r.0 (omega (arith, r.2))) in
+          let o : T (among p ps) = value_declared rows n ks width counts I G p (omega (arith, r.0, inner)) (rw r.0 (omega (arith, r.2))) in
           m (X.rivalled p q o l t (sym r.0) (λ z. r.1 (sym z)))
 
       go : (b : Bool) → get_or k.positive (place_of q) false ≡ b
@@ -103,42 +103,42 @@ module _ (rows : List (List ℕ)) (n : ℕ) (counts : List ℕ) (I : List Pair) 
           let O = marked_outs S q c k h u X.whole none in
           let i : place_of q < length k.positive = omega (arith, X.whole.positive_size, placed_inside q h) in
           let s : (p : Pair) → T (among p ps) → SameAt (marks_of (marked (place_of q) c k)) (update (marks_of k) (q ∷ [])) p = λ p o.
-          let v = declared_value rows n counts I G p o in marked_marks S q c k h u X.whole none p (λ z. rw z at v.1) in (
+          let v = declared_value rows n ks width counts I G p o in marked_marks S q c k h u X.whole none p (λ z. rw z at v.1) in (
             tidy_more ps S k (marked (place_of q) c k) q X l m O.whole
                 (λ p t. ⊎_elim (λ x. rw (same_eq p q x) l) (λ x. X.inside p x) (or_e _ _ (rw (O.positive_same, set_more k.positive q p h.in_row i) at t))) s,
             s,
           )
 
   -- What a rule assigns, none of it negative when its turn comes: the marks are updated.
-  pub assigned_right : (qs : List Pair) (k : Known) → Tidy (declared_pairs counts) S k → ((q : Pair) → T (among q qs) → T (among q (declared_pairs counts))) → clashes counts qs k ≡ false
-      → Tidy (declared_pairs counts) S (assigned counts qs k)
-      × ((p : Pair) → T (among p (declared_pairs counts)) → SameAt (marks_of (assigned counts qs k)) (update (marks_of k) qs) p)
+  pub assigned_right : (qs : List Pair) (k : Known) → Tidy (declared_pairs ks) S k → ((q : Pair) → T (among q qs) → T (among q (declared_pairs ks))) → clashes counts qs k ≡ false
+      → Tidy (declared_pairs ks) S (assigned counts qs k)
+      × ((p : Pair) → T (among p (declared_pairs ks)) → SameAt (marks_of (assigned counts qs k)) (update (marks_of k) qs) p)
   unfolding assigned clashes among
   assigned_right [] k X d e = (X, λ p o. update_none (marks_of k) p)
   assigned_right (q ∷ qs) k X d e =
       let l = d q (or_l _ _ (same_refl q)) in
       let k' = assigned_one counts q k in
-      let A = assigned_one_right q k X l (λ t. subst T e (or_l _ _ (rw (set_in k.negative q (declared_placed rows n counts I G q l).in_row) at t))) in
+      let A = assigned_one_right q k X l (λ t. subst T e (or_l _ _ (rw (set_in k.negative q (declared_placed rows n ks width counts I G q l).in_row) at t))) in
       let B = assigned_right qs k' A.0 (λ p t. d p (or_r _ _ t)) (is_false (clashes counts qs k') (λ t. subst T e (or_r _ _ t))) in
       (B.0, λ p o. same_at_trans _ (update (marks_of k') qs) _ p (B.1 p o) (update_first (marks_of k) (marks_of k') q qs p (A.1 p o)))
 
   -- One of it is: by the update a declared pair is both.
-  pub clash_both : (qs : List Pair) (k : Known) → Tidy (declared_pairs counts) S k → ((q : Pair) → T (among q qs) → T (among q (declared_pairs counts))) → clashes counts qs k ≡ true
-      → (p : Pair) × T (among p (declared_pairs counts)) × T ((update (marks_of k) qs).positive p) × T ((update (marks_of k) qs).negative p)
+  pub clash_both : (qs : List Pair) (k : Known) → Tidy (declared_pairs ks) S k → ((q : Pair) → T (among q qs) → T (among q (declared_pairs ks))) → clashes counts qs k ≡ true
+      → (p : Pair) × T (among p (declared_pairs ks)) × T ((update (marks_of k) qs).positive p) × T ((update (marks_of k) qs).negative p)
   unfolding clashes among update
   clash_both [] k X d e = absurd (subst T (sym e) tt)
   clash_both (q ∷ qs) k X d e = go (λ k' Y c. clash_both qs k' Y (λ p t. d p (or_r _ _ t)) c) (get_or k.negative (place_of q) false) refl e
     where
-      l : T (among q (declared_pairs counts))
+      l : T (among q (declared_pairs ks))
       l = d q (or_l _ _ (same_refl q))
 
       is : set_of k.negative q ≡ get_or k.negative (place_of q) false
-      is = set_in k.negative q (declared_placed rows n counts I G q l).in_row
+      is = set_in k.negative q (declared_placed rows n ks width counts I G q l).in_row
 
-      go : ((k' : Known) → Tidy (declared_pairs counts) S k' → clashes counts qs k' ≡ true
-          → (p : Pair) × T (among p (declared_pairs counts)) × T ((update (marks_of k') qs).positive p) × T ((update (marks_of k') qs).negative p))
+      go : ((k' : Known) → Tidy (declared_pairs ks) S k' → clashes counts qs k' ≡ true
+          → (p : Pair) × T (among p (declared_pairs ks)) × T ((update (marks_of k') qs).positive p) × T ((update (marks_of k') qs).negative p))
           → (b : Bool) → get_or k.negative (place_of q) false ≡ b → (b ∨ᵇ clashes counts qs (assigned_one counts q k)) ≡ true
-          → (p : Pair) × T (among p (declared_pairs counts)) × T ((update (marks_of k) (q ∷ qs)).positive p) × T ((update (marks_of k) (q ∷ qs)).negative p)
+          → (p : Pair) × T (among p (declared_pairs ks)) × T ((update (marks_of k) (q ∷ qs)).positive p) × T ((update (marks_of k) (q ∷ qs)).negative p)
       go rest true z c = (q, l, or_l _ _ (or_l _ _ (same_refl q)), or_r _ _ (from_true _ (is ∙ z)))
       go rest false z c =
           let A = assigned_one_right q k X l (λ t. subst T (is ∙ z) t) in

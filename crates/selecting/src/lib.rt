@@ -78,10 +78,12 @@ fn select_with(
                 Truth3::True => {
                     moved = true;
                     fired[i] = true;
-                    left = assign(
+                    let Ok(top) = assign(
                         row, n, counts, &mut marks, &heads, nexts, queued, woken, left,
-                    )
-                    .ok_or(Refusal::Clash)?;
+                    ) else {
+                        return Err(Refusal::Clash);
+                    };
+                    left = top;
                 }
                 Truth3::False => {
                     moved = true;

@@ -1,8 +1,5 @@
 -- `selecting::select_with` meets its contract: what is known of a rule that is looked at, of one that is not done, of one judged; then the goals.
-use mathlib.Core.Path.{◌≡◌, refl, sym, ap, subst, ◌∙◌}
-use Rattle.std.specs.Prelude.{Option, Some, None, Result, Ok, Err, IsErr, MatchOption, ok_or}
-use Rattle.refusals.specs.declared.Refusal.{Refusal}
-use Rattle.refusals.specs.declared.Refusal.TheVariants.{Clash}
+use mathlib.Core.Path.{◌≡◌, refl, sym, ◌∙◌}
 use mathlib.Core.Bool.{false, true≢false, false≢true}
 use mathlib.Core.List.{List, []}
 use Prim.Native.Nat.{ℕ, suc, ◌+◌, ◌≤◌, ◌<◌}
@@ -27,8 +24,7 @@ use Rattle.selecting.proofs.MarkLaws.{truths_card}
 use Rattle.judging.specs.inner.Times.{times}
 use Rattle.selecting.proofs.Live.{assigned_at, live_start, live_next, live_small, live_enough, live_released}
 use Rattle.selecting.proofs.Sweeping.{Seen}
-use Rattle.selecting.proofs.Given.{Given, rule_at_row, item_numbers}
-use Rattle.laws.specs.Limits.{rule_limit}
+use Rattle.selecting.proofs.Given.{Given, own_counts, rule_at_row, item_numbers}
 use Rattle.model.specs.Orders.{rule_at}
 use Rattle.testing.specs.inner.Waiting.{Woken}
 use Rattle.truths.specs.declared.Truth3.TheVariants.{Unknown}
@@ -65,8 +61,8 @@ queued_room d = omega (arith, d.requires.1.queued_room, d.rules.invariant.6, d.s
 
 -- What the promise of `select_with` gives for the files it is asked of.
 given : (s : Start) (I : List Pair) → Declared (declared_pairs s.args.counts.now) (rules_of (rows_table s.args.rows.now)) I
-    → Given (numbers_of s.args.rows.now) (length s.args.rows.now) s.args.counts.now I
-given s I D = record { rows_fit = all_fit s.args.rows.now s.requires.0.few_rules; narrow = s.requires.0.few_slots; few_values = s.requires.0.few_values; all_declared = D }
+    → Given (numbers_of s.args.rows.now) (length s.args.rows.now) s.args.counts.now (length s.args.counts.now) s.args.counts.now I
+given s I D = record { rows_fit = all_fit s.args.rows.now s.requires.0.few_rules; counted = own_counts s.args.counts.now; narrow = s.requires.0.few_slots; few_values = s.requires.0.few_values; all_declared = D }
 
 -- Those woken before stay, the place stays within the rules.
 still-woken : (d : After-next_or-turn) → Woken (length d.args.rows.now) d.next_or-turn.result.left d.rules.woken
@@ -104,23 +100,6 @@ comes_to : (c : After-rule_truth) (S : List ℕ) → Truths S c.rules.marks →
     c.rule_truth.result ≡ truth_rule S (marks_of c.rules.marks) (rule_at (rules_of (rows_table c.args.rows.now)) (suc c.next_or-turn.result.rule))
 comes_to c S t = rw (rule_at_row (numbers_of c.args.rows.now) (length c.args.rows.now) c.next_or-turn.result.rule (is-rule (goal.at.After-rule_truth c).After-next_or-turn), here c) (c.rule_truth.ensures S c.rules.marks t refl)
 
--- What an option made a result says of a clause on it.
-taken : (o : Option ℕ) (r : Refusal) (x : ℕ) (A : Type 0) (B : ℕ → Type 0) → ok_or o r ≡ Ok x → MatchOption o A B → B x
-taken None r x A B e m = absurd (false≢true (subst IsErr e refl))
-taken (Some y) r x A B e m = subst B (ap (λ (z : Result ℕ Refusal). ok_value z) e) m
-  where
-    ok_value : Result ℕ Refusal → ℕ
-    ok_value (Ok z) = z
-    ok_value (Err f) = 0
-
-refused : (o : Option ℕ) (r f : Refusal) (A : Type 0) (B : ℕ → Type 0) → ok_or o r ≡ Err f → MatchOption o A B → A × (r ≡ f)
-refused None r f A B e m = (m, ap (λ (z : Result ℕ Refusal). err_value z) e)
-  where
-    err_value : Result ℕ Refusal → Refusal
-    err_value (Ok z) = r
-    err_value (Err g) = g
-refused (Some y) r f A B e m = absurd (false≢true (subst IsErr (sym e) refl))
-
 pub enter-init : goal.enter-init
 enter-init c = (length-replicate {A = ℕ} 512 0, live_start _ _ _ refl, chained_start _ c.requires.1.none_chained, refl)
 
@@ -142,7 +121,7 @@ sweeps-init c =
       refl,
       refl,
       record { chained = rw z at c.enter.invariant.2; live_size = c.enter.invariant.0; counted = l },
-      λ S I G d x o. standing.start _ _ _ S I G _ _ _ _ _ _ c.requires.1.none_dead c.requires.0.none_fired x o c.first_negative-negative.ensures (truths_card S _ _ d c.truth_of-truth.ensures) l c.requires.0.pair_flags,
+      λ S I G d x o. standing.start _ _ _ _ _ S I G _ _ _ _ _ _ c.requires.1.none_dead c.requires.0.none_fired x o c.first_negative-negative.ensures (truths_card S _ _ d c.truth_of-truth.ensures) l c.requires.0.pair_flags,
       λ m. absurd (true≢false m),
     )
 
@@ -212,39 +191,36 @@ assign-requires c =
     λ p a. d.requires.0.assigned_below d.next_or-turn.result.rule p (is-rule d) (rw (here (goal.at.assign-requires c).After-rule_truth) a) in
     (λ p a. d.requires.0.few_values p.slot (below p a), d.requires.0.few_rules, d.rules.invariant.3.chained, still-woken d, rw length-set (queued_room d))
 
-pub returns-in_err-left-in-True-clause-selected : goal.returns-in_err-left-in-True-clause-selected
-returns-in_err-left-in-True-clause-selected c S I x y o D =
-    let at = goal.at.returns-in_err-left-in-True-clause-selected c in
+pub returns-in_default-clause-selected : goal.returns-in_default-clause-selected
+returns-in_default-clause-selected c S I x y o D =
+    let at = goal.at.returns-in_default-clause-selected c in
     let q = at.After-next_or-turn in
     let G = given at.Start I D in
     let w = q.rules.invariant.4 S I G (c.sweeps.invariant.5 S I G x y o) in
     let n = comes_to at.After-rule_truth S w.truths in
-    let m = refused _ _ _ _ _ (sym c.ok_or.ensures.value ∙ c.in_err-left-in-True.was) c.assign.ensures in
-    let r : c.from_residual.result ≡ Err Clash = search rules in
-    rw r (record {
-      number = sym (standing.clash _ _ _ S I G q.rules.marks _ q.rules.dead q.rules.fired q.next_or-turn.result.rule w (is-rule q) (not-fired at.Else-dead-i) (sym n ∙ c.in-True.is) (rw (here at.After-rule_truth) m.0.0));
+    record {
+      number = sym (standing.clash _ _ _ _ _ S I G q.rules.marks _ q.rules.dead q.rules.fired q.next_or-turn.result.rule w (is-rule q) (not-fired at.Else-dead-i) (sym n ∙ c.in-True.is) (rw (here at.After-rule_truth) (sym c.in_default.ensures.clash)));
       same_positive = λ z. absurd (let e : ◌≡◌ {A = ℕ} 41 0 = z in omega arith);
       same_fired = λ z. absurd (let e : ◌≡◌ {A = ℕ} 41 0 = z in omega arith);
-    })
+    }
 
 pub rules-smaller-in-True : goal.rules-smaller-in-True
 rules-smaller-in-True c =
     let o = (goal.at.rules-smaller-in-True c).Else-dead-i in
     let d = (goal.at.rules-smaller-in-True c).After-next_or-turn in
-    turn_fire d.rules.woken d.rules.fired d.rules.dead _ d.rules.k d.rules.left d.next_or-turn.result d.next_or-turn.ensures d.rules-test.true _ d.next_or-turn.result.rule (taken _ _ _ _ _ (sym c.ok_or.ensures.value ∙ c.in_ok-left-in-True.was) c.assign.ensures).2.few d.requires.0.few_rules (fired-inside d) (not-fired o)
+    turn_fire d.rules.woken d.rules.fired d.rules.dead _ d.rules.k d.rules.left d.next_or-turn.result d.next_or-turn.ensures d.rules-test.true _ d.next_or-turn.result.rule c.in-Ok.ensures.woken.few d.requires.0.few_rules (fired-inside d) (not-fired o)
 
 pub rules-preserved-in-True : goal.rules-preserved-in-True
 rules-preserved-in-True c =
     let o = (goal.at.rules-preserved-in-True c).Else-dead-i in
     let d = (goal.at.rules-preserved-in-True c).After-next_or-turn in
     let h = d.rules.invariant.3 in
-    let m = taken _ _ _ _ _ (sym c.ok_or.ensures.value ∙ c.in_ok-left-in-True.was) c.assign.ensures in
-    let e = m.1 in (
+    let e = c.in-Ok.ensures.marks in (
       place_inside d,
-      m.2,
+      c.in-Ok.ensures.woken,
       kept_fire _ _ d.rules.fired d.rules.dead d.rules.moved d.next_or-turn.result.rule d.rules.invariant.2 (fired-inside d) (not-fired o),
       record { chained = h.chained; live_size = h.live_size; counted = h.counted },
-      λ S I G st. let w = d.rules.invariant.4 S I G st in let n = comes_to (goal.at.rules-preserved-in-True c).After-rule_truth S w.truths in rw (e, ← (here (goal.at.rules-preserved-in-True c).After-rule_truth)) (standing.fire _ _ _ S I G d.rules.marks _ d.rules.dead d.rules.fired d.next_or-turn.result.rule w (is-rule d) (not-fired o) (sym n ∙ c.in-True.is) (rw (here (goal.at.rules-preserved-in-True c).After-rule_truth) m.0) (fired-inside d)),
+      λ S I G st. let w = d.rules.invariant.4 S I G st in let n = comes_to (goal.at.rules-preserved-in-True c).After-rule_truth S w.truths in rw (e, ← (here (goal.at.rules-preserved-in-True c).After-rule_truth)) (standing.fire _ _ _ _ _ S I G d.rules.marks _ d.rules.dead d.rules.fired d.next_or-turn.result.rule w (is-rule d) (not-fired o) (sym n ∙ c.in-True.is) (rw (here (goal.at.rules-preserved-in-True c).After-rule_truth) (sym c.in-Ok.ensures.clash)) (fired-inside d)),
       λ m. absurd (true≢false m),
       c.queued-1.given ∙ length-set d.rules.queued d.next_or-turn.result.rule false ∙ d.rules.invariant.6,
       c.woken-1.given ∙ d.rules.invariant.7,
@@ -286,7 +262,7 @@ rules-preserved-in-False c =
         live_size = c.release.ensures.0;
         counted = live_released _ d.rules.dead _ d.next_or-turn.result.rule _ _ h.counted (is-rule d) (dead-inside d) (not_dead o) r;
       },
-      λ S I G st. let g = d.rules.invariant.4 S I G st in rw (e, ← (here (goal.at.rules-preserved-in-False c).After-rule_truth)) (standing.kill _ _ _ S I G d.rules.marks _ _ d.rules.dead d.rules.fired d.next_or-turn.result.rule g (is-rule d) (not_dead o) (sym (comes_to (goal.at.rules-preserved-in-False c).After-rule_truth S g.truths) ∙ c.in-False.is) r (dead-inside d)),
+      λ S I G st. let g = d.rules.invariant.4 S I G st in rw (e, ← (here (goal.at.rules-preserved-in-False c).After-rule_truth)) (standing.kill _ _ _ _ _ S I G d.rules.marks _ _ d.rules.dead d.rules.fired d.next_or-turn.result.rule g (is-rule d) (not_dead o) (sym (comes_to (goal.at.rules-preserved-in-False c).After-rule_truth S g.truths) ∙ c.in-False.is) r (dead-inside d)),
       λ m. absurd (true≢false m),
       c.queued-in-False-1.given ∙ length-set d.rules.queued d.next_or-turn.result.rule false ∙ d.rules.invariant.6,
       c.woken-in-False-1.given ∙ d.rules.invariant.7,
@@ -302,13 +278,13 @@ rules-preserved c =
 
 -- The end of the sweeps: nothing moved in the last.
 ended : (k : After-all_known) →
-    (S : List ℕ) (I : List Pair) → Given (numbers_of k.args.rows.now) (length k.args.rows.now) k.args.counts.now I → CardIs S k.args.card.now → SlipIs I k.args.positive.now → OneValue I
+    (S : List ℕ) (I : List Pair) → Given (numbers_of k.args.rows.now) (length k.args.rows.now) k.args.counts.now (length k.args.counts.now) k.args.counts.now I → CardIs S k.args.card.now → SlipIs I k.args.positive.now → OneValue I
     → (AllMarked k.args.counts.now k.sweeps.marks.positive k.sweeps.marks.negative → Selected (declared_pairs k.args.counts.now) (rules_of (table_in (numbers_of k.args.rows.now) (length k.args.rows.now))) S I 0 k.sweeps.marks.positive k.sweeps.fired)
     × (NotMarked k.args.counts.now k.sweeps.marks.positive k.sweeps.marks.negative → Selected (declared_pairs k.args.counts.now) (rules_of (table_in (numbers_of k.args.rows.now) (length k.args.rows.now))) S I 42 k.args.positive.now k.sweeps.fired)
 unfolding Seen
 ended k S I G x y o =
     let w = k.sweeps.invariant.5 S I G x y o in
-    let e = standing.end _ _ _ S I G k.sweeps.marks _ k.sweeps.dead k.sweeps.fired w
+    let e = standing.end _ _ _ _ _ S I G k.sweeps.marks _ k.sweeps.dead k.sweeps.fired w
     (λ i h f e. rw (rule_at_row (numbers_of k.args.rows.now) (length k.args.rows.now) i h) (k.sweeps.invariant.6 k.sweeps-test.false i h f e S w.truths)) in
     (e.0, e.1 k.args.positive.now)
 

@@ -23,7 +23,7 @@ invariant-enter l = (length l.live ≡ pair_places) × Live (numbers_of l.rows) 
 abbrev pub invariant-rules : goal.invariant-rules
 invariant-rules l =
     (l.k ≤ length l.rows) × Woken (length l.rows) l.left l.woken × Kept l.initial.fired l.initial.dead l.fired l.dead l.moved × Held (numbers_of l.rows) (length l.rows) l.heads l.nexts l.live l.dead
-    × ((S : List ℕ) (I : List Pair) → Given (numbers_of l.rows) (length l.rows) l.counts I → Standing (numbers_of l.rows) (length l.rows) l.counts S I l.initial.marks l.initial.live l.initial.dead l.initial.fired → Standing (numbers_of l.rows) (length l.rows) l.counts S I l.marks l.live l.dead l.fired)
+    × ((S : List ℕ) (I : List Pair) → Given (numbers_of l.rows) (length l.rows) l.counts (length l.counts) l.counts I → Standing (numbers_of l.rows) (length l.rows) l.counts S I l.initial.marks l.initial.live l.initial.dead l.initial.fired → Standing (numbers_of l.rows) (length l.rows) l.counts S I l.marks l.live l.dead l.fired)
     × (l.moved ≡ false → Seen (numbers_of l.rows) l.marks l.fired l.dead l.k) × (length l.queued ≡ length l.initial.queued) × (length l.woken ≡ length l.initial.woken)
 
 abbrev pub decreases-rules : goal.decreases-rules
@@ -33,7 +33,7 @@ decreases-rules l =
 abbrev pub invariant-sweeps : goal.invariant-sweeps
 invariant-sweeps l =
     (length l.fired ≡ length l.initial.fired) × (length l.dead ≡ length l.initial.dead) × (length l.queued ≡ length l.initial.queued) × (length l.woken ≡ length l.initial.woken) × Held (numbers_of l.rows) (length l.rows) l.heads l.nexts l.live l.dead
-    × ((S : List ℕ) (I : List Pair) → Given (numbers_of l.rows) (length l.rows) l.counts I → CardIs S l.card → SlipIs I l.positive → OneValue I → Standing (numbers_of l.rows) (length l.rows) l.counts S I l.marks l.live l.dead l.fired)
+    × ((S : List ℕ) (I : List Pair) → Given (numbers_of l.rows) (length l.rows) l.counts (length l.counts) l.counts I → CardIs S l.card → SlipIs I l.positive → OneValue I → Standing (numbers_of l.rows) (length l.rows) l.counts S I l.marks l.live l.dead l.fired)
     × (l.moved ≡ false → Seen (numbers_of l.rows) l.marks l.fired l.dead (length l.rows))
 
 abbrev pub decreases-sweeps : goal.decreases-sweeps

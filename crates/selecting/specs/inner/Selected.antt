@@ -34,6 +34,11 @@ pub record SetAside (n : ℕ) (nexts : List ℕ) (dead queued : List Bool) (woke
   pub queued_room : n ≤ length queued
   pub woken_room : n ≤ length woken
 
+-- An array has how many values each of the slots has.
+pub record Counts (ks : List ℕ) (width : ℕ) (counts : List ℕ) : Type 0 where
+  pub slots : length ks ≡ width
+  pub each : (s : ℕ) → s < width → get_or ks s 0 ≡ get_or counts s 0
+
 -- An array has the card's values.
 unfoldable pub CardIs : List ℕ → List ℕ → Type 0
 CardIs S card = (s : ℕ) → get_or S s 0 ≡ get_or card s 0

@@ -1,4 +1,5 @@
 -- `marking::pairs::assign` meets its contract.
+use mathlib.Core.Bool.{false}
 use mathlib.Core.Path.{◌≡◌, refl, sym, ◌∙◌, ap, ap₂, subst}
 use mathlib.Core.List.{List, [], ◌∷◌}
 use Prim.Native.Nat.{ℕ, ◌+◌, ◌/◌}
@@ -7,11 +8,13 @@ use lib.ListN.{get_or}
 use borrow.Author.Rules.{rules}
 use Rattle.laws.specs.Limits.{row}
 use Rattle.model.specs.Rules.{Pair}
+use Rattle.table.specs.declared.Rule.{Rule}
 use Rattle.table.specs.Link.{assignments_of}
 use Rattle.table.proofs.Walks.{assigned_from, assigned_end}
 use Rattle.rows.specs.inner.Rows.{rule_in, pair_in}
 use Rattle.rows.proofs.Laws.{row_assigned_next}
-use Rattle.marking.specs.inner.Marked.{marked}
+use Rattle.judging.specs.declared.truth.Known.{Known}
+use Rattle.marking.specs.inner.Marked.{marked, assigned, clashes}
 use Rattle.marking.proofs.Marked.{Few, few_first, few_rest, Assigning, assigning_start, assigning_over, assigning_more, assigning_clash, assigning_end}
 use Rattle.marking.proofs.pairs.assign.Goals.{After-place-p, After-map_or-count}
 use Rattle.marking.proofs.pairs.assign.Goals as goal
@@ -39,12 +42,17 @@ count-is c =
     let e : c.map_or-count.result ≡ get_or c.args.counts.now (c.place-p.result / row) 0 = search rules in
     e ∙ ap (λ (y : ℕ). get_or c.args.counts.now y 0) (same-slot (goal.at.After-map_or-count c).After-place-p)
 
+-- What is assigned where no pair is left.
+assigned_all : (counts : List ℕ) (r : Rule) (k : ℕ) (i j : Known) → assigned_from r k ≡ [] → Assigning counts (assignments_of r) i (assigned_from r k) j
+    → (false ≡ clashes counts (assignments_of r) i) × (j ≡ assigned counts (assignments_of r) i)
+assigned_all counts r k i j none a = assigning_end counts (assignments_of r) i j (subst (λ (ps : List Pair). Assigning counts (assignments_of r) i ps j) none a)
+
 pub assignments-init : goal.assignments-init
 unfolding assigned_from Few
 assignments-init c = (c.requires.0, assigning_start _ _ _, c.requires.3, refl, refl)
 
-pub returns-then-marks-p : goal.returns-then-marks-p
-returns-then-marks-p c = (sym (assigning_clash _ _ _ _ _ _ (rw c.place-p.ensures.0 at c.if-marks-p.true) (first (goal.at.returns-then-marks-p c).After-place-p).1), (c.assignments.top, c.assignments.invariant.2))
+pub returns-then-marks-p-clause-clash : goal.returns-then-marks-p-clause-clash
+returns-then-marks-p-clause-clash c = assigning_clash _ _ _ _ _ _ (rw c.place-p.ensures.0 at c.if-marks-p.true) (first (goal.at.returns-then-marks-p-clause-clash c).After-place-p).1
 
 pub assignments-preserved-then-marks-p-2 : goal.assignments-preserved-then-marks-p-2
 assignments-preserved-then-marks-p-2 c = (few_rest _ _ _ (first (goal.at.assignments-preserved-then-marks-p-2 c).After-place-p).0, assigning_over _ _ _ _ _ _ (rw c.place-p.ensures.0 at c.if-marks-p.false) (rw c.place-p.ensures.0 at c.if-marks-p-2.true) (first (goal.at.assignments-preserved-then-marks-p-2 c).After-place-p).1, c.assignments.invariant.2, c.assignments.invariant.3, c.assignments.invariant.4)
@@ -64,11 +72,12 @@ assignments-preserved c =
     let more = assigning_more counts (assignments_of r) k p rest j (rw c.place-p.ensures.0 at c.if-marks-p.false) (rw c.place-p.ensures.0 at c.if-marks-p-2.false) (first (goal.at.assignments-preserved c).After-place-p).1 in
     (few_rest _ _ _ (first (goal.at.assignments-preserved c).After-place-p).0, subst (Assigning counts (assignments_of r) k rest) (sym made) more, c.mark-top.ensures.1, search rules, search rules)
 
-pub returns : goal.returns
-returns c =
+pub returns-clause-clash : goal.returns-clause-clash
+returns-clause-clash c =
     let r = rule_in c.args.row.now.numbers in
-    let k = c.args.marks.now in
-    let j = c.assignments.marks in
-    let none : assigned_from r c.assignments.k ≡ [] = assigned_end r c.assignments.k (search rules) in
-    let e = assigning_end c.args.counts.now (assignments_of r) k j (subst (λ (ps : List Pair). Assigning c.args.counts.now (assignments_of r) k ps j) none c.assignments.invariant.1) in
-    (sym e.0, e.1, c.assignments.invariant.2)
+    (assigned_all c.args.counts.now r c.assignments.k c.args.marks.now c.assignments.marks (assigned_end r c.assignments.k (search rules)) c.assignments.invariant.1).0
+
+pub returns-clause-marks : goal.returns-clause-marks
+returns-clause-marks c =
+    let r = rule_in c.args.row.now.numbers in
+    (assigned_all c.args.counts.now r c.assignments.k c.args.marks.now c.assignments.marks (assigned_end r c.assignments.k (search rules)) c.assignments.invariant.1).1
