@@ -16,14 +16,14 @@ outcome-is text e = sym (ap (λ (r : FileRead). r.outcome) e)
 
 pub print_table-requires : goal.print_table-requires
 unfolding reading
-print_table-requires c = (outcome-is c.args.text.now c.in_ok-read.ensures, ap (λ (r : FileRead). r.table) c.in_ok-read.ensures)
+print_table-requires c = (outcome-is c.args.text.now c.in_ok-read_into.ensures, ap (λ (r : FileRead). r.table) c.in_ok-read_into.ensures)
 
 pub returns : goal.returns
 unfolding reading
-returns c = rw (then_fitted c.args.text.now (length c.args.out.now) (outcome-is c.args.text.now c.in_ok-read.ensures)) c.print_table.ensures
+returns c = rw (then_fitted c.args.text.now (length c.args.out.now) (outcome-is c.args.text.now c.in_ok-read_into.ensures)) c.print_table.ensures
 
-pub returns-in_err-read : goal.returns-in_err-read
+pub returns-in_err-read_into : goal.returns-in_err-read_into
 unfolding reading
-returns-in_err-read c =
-    let z : c.from_residual.result ≡ Err c.in_err-read.field-0.0 = search rules in
-    rw z (answer_refused _ _ _ c.args.out.now (refused_first c.args.text.now (length c.args.out.now) _ _ (outcome-is c.args.text.now c.in_err-read.ensures)))
+returns-in_err-read_into c =
+    let z : c.from_residual.result ≡ Err c.in_err-read_into.field-0.0 = search rules in
+    rw z (answer_refused _ _ _ c.args.out.now (refused_first c.args.text.now (length c.args.out.now) _ _ (outcome-is c.args.text.now c.in_err-read_into.ensures)))
