@@ -28,9 +28,9 @@ pub fn skip_nots(tokens: Tokens, start: usize) -> Nots
     let mut negated = false;
     loop {
         let next = tokens.token(at);
-        if next.token != Token::Word(Word::Not) {
+        let Token::Word(Word::Not) = next.token else {
             return Nots { next, negated };
-        }
+        };
         at = next.at;
         negated = !negated;
     }

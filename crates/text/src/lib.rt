@@ -144,14 +144,14 @@ pub fn reserved_word(name: &[u8]) -> Option<Word>
     ensures { found_number result ≡ place name.now reserved }
 {
     match name {
-        [b'S', b'L', b'O', b'T'] => Some(Word::Slot),
-        [b'W', b'H', b'E', b'N'] => Some(Word::When),
-        [b'I', b'F'] => Some(Word::If),
-        [b'T', b'H', b'E', b'N'] => Some(Word::Then),
-        [b'A', b'N', b'D'] => Some(Word::And),
-        [b'N', b'O', b'T'] => Some(Word::Not),
-        [b'T', b'R', b'U', b'E'] => Some(Word::True),
-        [b'N', b'O', b'N', b'E'] => Some(Word::None),
+        b"SLOT" => Some(Word::Slot),
+        b"WHEN" => Some(Word::When),
+        b"IF" => Some(Word::If),
+        b"THEN" => Some(Word::Then),
+        b"AND" => Some(Word::And),
+        b"NOT" => Some(Word::Not),
+        b"TRUE" => Some(Word::True),
+        b"NONE" => Some(Word::None),
         _ => None,
     }
 }
