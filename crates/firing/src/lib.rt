@@ -92,7 +92,7 @@ fn fire_within(
             if fired[i] || usize::from(row.stratum()) != stratum {
                 continue 'rules;
             }
-            let trigger = row.trigger();
+            let trigger = row.awaited();
             if !is_true(trigger, &truth) {
                 wait(first, trigger, i, &mut heads, nexts);
                 continue 'rules;

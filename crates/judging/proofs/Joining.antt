@@ -10,7 +10,7 @@ use Rattle.table.specs.declared.Rule.{Rule}
 use Rattle.table.specs.Zero.{zero_literal}
 use Rattle.table.specs.Link.{literal_of, rule_of}
 use Rattle.table.proofs.Walks.{literals_from, literals_start, literals_next, literals_end}
-use Rattle.rows.specs.inner.Rows.{literal_in, rule_in, RowFits}
+use Rattle.rows.specs.inner.Rows.{literal_in, rule_in, RowBounded}
 use Rattle.rows.proofs.Laws.{literal_is, row_rule_shaped}
 use Rattle.truths.specs.declared.Truth3.{Truth3}
 use Rattle.truths.specs.declared.Truth3.TheVariants.{True, False}
@@ -19,7 +19,7 @@ use Rattle.marks.specs.Marks.{Marks, truth_turns, truth_literal, truth_condition
 use Rattle.truths.proofs.Laws.{and_false, and_comm}
 
 -- The next literal of a row by its number.
-row_literals_next : (row : List ℕ) → RowFits row → (j x : ℕ) → j < (rule_in row).tested → x ≡ get_or row (4 + j) 0 → literals_from (rule_in row) j ≡ literal_of (literal_in x) ∷ literals_from (rule_in row) (j + 1)
+row_literals_next : (row : List ℕ) → RowBounded row → (j x : ℕ) → j < (rule_in row).tested → x ≡ get_or row (4 + j) 0 → literals_from (rule_in row) j ≡ literal_of (literal_in x) ∷ literals_from (rule_in row) (j + 1)
 row_literals_next row fits j x h e =
     let l : get_or (rule_in row).literals j zero_literal ≡ literal_in x = literal_is row j (omega (arith, h, fits.few_literals)) ∙ ap literal_in (sym e) in
     literals_next (rule_in row) (row_rule_shaped row fits.row_shaped) j h fits.few_literals ∙ ap (λ k. literal_of k ∷ literals_from (rule_in row) (j + 1)) l
@@ -31,7 +31,7 @@ module _ (S : List ℕ) (Z : Marks) where
   condition_none r j h = rw (literals_end r j h)
 
   -- The literal at a place is joined to those after it.
-  pub condition_next : (row : List ℕ) → RowFits row → (j after x : ℕ) → after ≡ j + 1 → j < (rule_in row).tested → x ≡ get_or row (4 + j) 0
+  pub condition_next : (row : List ℕ) → RowBounded row → (j after x : ℕ) → after ≡ j + 1 → j < (rule_in row).tested → x ≡ get_or row (4 + j) 0
       → truth_literal S Z (literal_of (literal_in x)) AND₃ truth_condition S Z (literals_from (rule_in row) after) ≡ truth_condition S Z (literals_from (rule_in row) j)
   unfolding truth_condition
   condition_next row fits j after x i h e = rw (i, row_literals_next row fits j x h e)

@@ -111,7 +111,7 @@ module _ (S : List ℕ) (Z : Marks) where
       let place : x % (2 * pair_places) % pair_places ≡ x % pair_places = omega arith in
       rw (becomes, place)
 
-  -- The number of a trigger is that of a `*=`.
+  -- The test that a trigger waits for is a `*=`.
   pub trigger_test : (x : ℕ) → x / pair_places ≡ 1 → truth_test S Z (literal_of (literal_in x)) ≡ truth_turns S Z (pair_in x)
   trigger_test x e = test_turns (literal_of (literal_in x)) (let h : x / pair_places % 2 ≡ 1 = omega arith in eq-eqb (x / pair_places % 2) 1 h)
 

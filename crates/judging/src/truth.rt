@@ -72,7 +72,7 @@ fn literal_truth(number: u16, truth: &[Truth3; WITHOUT_NOT]) -> Truth3
 pub fn rule_truth(row: &RuleRow, truth: &[Truth3; WITHOUT_NOT]) -> Truth3
     ensures { (S : List ℕ) (k : Known) → Truths S k → truth.now ≡ k.truth → result ≡ truth_rule S (marks_of k) (rule_of (rule_in row.now.numbers)) }
 {
-    let number = row.trigger();
+    let number = row.awaited();
     let trigger = test_truth(number, truth);
     if let False = trigger {
         return False;

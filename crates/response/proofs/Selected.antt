@@ -18,7 +18,7 @@ use Rattle.table.proofs.Flat.{pairs_of_set}
 use Rattle.rows.specs.declared.RuleRow.{RuleRow}
 use Rattle.rows.specs.inner.Rows.{rule_in}
 use Rattle.rows.specs.inner.RuleRows.{numbers_of, rows_table}
-use Rattle.rows.proofs.RuleRows.{all_fit}
+use Rattle.rows.proofs.RuleRows.{all_bounded}
 use Rattle.cards.specs.declared.Card.{Card}
 use Rattle.cards.specs.declared.Slip.{Slip}
 use Rattle.cards.specs.Cards.{card_values, changes_of}
@@ -63,7 +63,7 @@ module _ (rows : List RuleRow) (counts : List ℕ) (card : Card) (slip : Slip) (
   pub assigned_below : (i : ℕ) (p : Pair) → i < length rows → T (among p (assignments_of (rule_in (get_or (numbers_of rows) i [])))) → p.slot < length counts
   assigned_below i p h t =
       let I = changes_of slip in
-      let G : Given (numbers_of rows) (length rows) counts (length counts) counts I = record { rows_fit = all_fit rows O.kept.few_rules; counted = own_counts counts; narrow = O.kept.few_slots; few_values = O.kept.few_values; all_declared = all_declared } in
+      let G : Given (numbers_of rows) (length rows) counts (length counts) counts I = record { rows_bounded = all_bounded rows O.kept.few_rules; counted = own_counts counts; narrow = O.kept.few_slots; few_values = O.kept.few_values; all_declared = all_declared } in
       (declared_value (numbers_of rows) (length rows) counts (length counts) counts I G p (assigns_declared (numbers_of rows) (length rows) counts (length counts) counts I G i p h t)).0
 
   -- What it comes to.

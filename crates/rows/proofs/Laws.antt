@@ -25,7 +25,7 @@ use Rattle.table.specs.inner.Flat.{Placed, pair_places}
 use Rattle.table.specs.inner.Fits.{RuleFits, TableFits}
 use Rattle.table.specs.inner.Shape.{RuleShaped, Shaped}
 use Rattle.table.proofs.Walks.{picked_from, assigned_from, picked_next, picked_over, assigned_next}
-use Rattle.rows.specs.inner.Rows.{tests, pair_in, literal_in, assignment_in, rule_in, table_in, RowShaped, RowFits, Row, RowsShaped, RowsFit, Entered}
+use Rattle.rows.specs.inner.Rows.{tests, pair_in, literal_in, assignment_in, rule_in, table_in, RowShaped, RowFits, RowBounded, Row, RowsShaped, RowsFit, RowsBounded, Entered}
 
 -- The literal at a place.
 pub literal_is : (row : List ℕ) (j : ℕ) → j < literal_limit → get_or (rule_in row).literals j zero_literal ≡ literal_in (get_or row (4 + j) 0)
@@ -53,8 +53,18 @@ row_rule_shaped row s =
       stratum_small = s.stratum_small;
     }
 
--- The rule of a row that fits, fits.
-pub row_rule_fits : (row : List ℕ) → RowFits row → RuleFits (rule_in row)
+-- A row that fits keeps its bounds.
+pub fits_bounded : (row : List ℕ) → RowFits row → RowBounded row
+fits_bounded row f = record {
+  row_shaped = f.row_shaped;
+  few_literals = f.few_literals;
+  few_assignments = f.few_assignments;
+  trigger_test = omega (arith, f.trigger_becomes);
+  each_test = f.each_test;
+}
+
+-- The rule of a row that keeps its bounds, fits.
+pub row_rule_fits : (row : List ℕ) → RowBounded row → RuleFits (rule_in row)
 row_rule_fits row f = record {
   trigger = pair_placed (get_or row 0 0);
   literals_fit = f.few_literals;
@@ -74,7 +84,7 @@ unfolding table_in
 rows_count rows n = refl
 
 -- The table that rows stand for has its places.
-pub rows_table_shaped : (rows : List (List ℕ)) (n : ℕ) → RowsFit rows n → Shaped (table_in rows n)
+pub rows_table_shaped : (rows : List (List ℕ)) (n : ℕ) → RowsBounded rows n → Shaped (table_in rows n)
 unfolding table_in
 rows_table_shaped rows n f = record {
   slot_places = length-replicate slot_limit unused_slot;
@@ -84,9 +94,9 @@ rows_table_shaped rows n f = record {
 }
 
 -- And fits.
-pub rows_table_fits : (rows : List (List ℕ)) (n : ℕ) → RowsFit rows n → TableFits (table_in rows n)
+pub rows_table_fits : (rows : List (List ℕ)) (n : ℕ) → RowsBounded rows n → TableFits (table_in rows n)
 unfolding table_in
-rows_table_fits rows n f = record { rules_fit = f.few; each_fits = λ i h. rw (get_or-map rule_in rows i []) (row_rule_fits (get_or rows i []) (f.each_fits i h)) }
+rows_table_fits rows n f = record { rules_fit = f.few; each_fits = λ i h. rw (get_or-map rule_in rows i []) (row_rule_fits (get_or rows i []) (f.each_bounded i h)) }
 
 -- A plain `*=` has its number between those of `|=` and those under NOT.
 pub plain_number : (x : ℕ) → x < tests → is_plain (literal_of (literal_in x)) ≡ eqb (x / pair_places) 1
@@ -188,6 +198,10 @@ entered_next rs rows i row h r e = record {
       (λ k b. rw (get_or-set_other rows i k row [] (λ (q : k ≡ i). omega arith)) (e.each k b))
       (rw (get_or-set_same rows i row [] h) r);
 }
+
+-- Rows that rules were written into fit.
+pub entered_fit : (rs : List Rule) (rows : List (List ℕ)) (n : ℕ) → n ≤ rule_limit → n ≤ length rows → Entered rs rows n → RowsFit rows n
+entered_fit rs rows n few inside e = record { rows_shaped = e.shaped; few = few; inside = inside; each_fits = λ i h. (e.each i h).fits }
 
 -- What a function makes of the first n of two lists is the same where it is at each place.
 same_at : {A B : Type 0} (f : A → B) (xs ys : List A) (d : A) (n : ℕ) → n ≤ length xs → n ≤ length ys → ((i : ℕ) → i < n → f (get_or xs i d) ≡ f (get_or ys i d)) → map f (take n xs) ≡ map f (take n ys)
@@ -304,22 +318,22 @@ written_end r row f sh w =
     }
 
 -- Going through the literals and the assignments of a row: the next of them by its number.
-pub number_fits : (row : List ℕ) → RowFits row → (j x : ℕ) → j < (rule_in row).tested → x ≡ get_or row (4 + j) 0 → x < tests
+pub number_fits : (row : List ℕ) → RowBounded row → (j x : ℕ) → j < (rule_in row).tested → x ≡ get_or row (4 + j) 0 → x < tests
 number_fits row f j x h e = rw e (f.each_test j h)
 
-pub row_picked_next : (row : List ℕ) → RowFits row → (f : model.Literal → Bool) (j x : ℕ) → j < (rule_in row).tested → x ≡ get_or row (4 + j) 0 → f (literal_of (literal_in x)) ≡ true
+pub row_picked_next : (row : List ℕ) → RowBounded row → (f : model.Literal → Bool) (j x : ℕ) → j < (rule_in row).tested → x ≡ get_or row (4 + j) 0 → f (literal_of (literal_in x)) ≡ true
     → picked_from (rule_in row) f j ≡ pair_in x ∷ picked_from (rule_in row) f (j + 1)
 row_picked_next row fits f j x h e t =
     let l : get_or (rule_in row).literals j zero_literal ≡ literal_in x = literal_is row j (omega (arith, h, fits.few_literals)) ∙ ap literal_in (sym e) in
     picked_next (rule_in row) (row_rule_shaped row fits.row_shaped) f j h fits.few_literals (rw l t) ∙ ap (λ k. pair k.slot k.value ∷ picked_from (rule_in row) f (j + 1)) l
 
-pub row_picked_over : (row : List ℕ) → RowFits row → (f : model.Literal → Bool) (j x : ℕ) → j < (rule_in row).tested → x ≡ get_or row (4 + j) 0 → f (literal_of (literal_in x)) ≡ false
+pub row_picked_over : (row : List ℕ) → RowBounded row → (f : model.Literal → Bool) (j x : ℕ) → j < (rule_in row).tested → x ≡ get_or row (4 + j) 0 → f (literal_of (literal_in x)) ≡ false
     → picked_from (rule_in row) f j ≡ picked_from (rule_in row) f (j + 1)
 row_picked_over row fits f j x h e t =
     let l : get_or (rule_in row).literals j zero_literal ≡ literal_in x = literal_is row j (omega (arith, h, fits.few_literals)) ∙ ap literal_in (sym e) in
     picked_over (rule_in row) (row_rule_shaped row fits.row_shaped) f j h fits.few_literals (rw l t)
 
-pub row_assigned_next : (row : List ℕ) → RowFits row → (k x : ℕ) → k < (rule_in row).assigned → x ≡ get_or row (12 + k) 0 → assigned_from (rule_in row) k ≡ pair_in x ∷ assigned_from (rule_in row) (k + 1)
+pub row_assigned_next : (row : List ℕ) → RowBounded row → (k x : ℕ) → k < (rule_in row).assigned → x ≡ get_or row (12 + k) 0 → assigned_from (rule_in row) k ≡ pair_in x ∷ assigned_from (rule_in row) (k + 1)
 row_assigned_next row fits k x h e =
     let l : get_or (rule_in row).assignments k zero_assignment ≡ assignment_in x = assignment_is row k (omega (arith, h, fits.few_assignments)) ∙ ap assignment_in (sym e) in
     assigned_next (rule_in row) (row_rule_shaped row fits.row_shaped) k h fits.few_assignments ∙ ap (λ a. pair a.slot a.value ∷ assigned_from (rule_in row) (k + 1)) l

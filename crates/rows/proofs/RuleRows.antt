@@ -1,11 +1,11 @@
--- Rows of the type: each fits, wherever it stands, and so does the table that they stand for.
+-- Rows of the type: each keeps its bounds, wherever it stands, and the table that they stand for fits.
 -- Assumes nothing.
 use mathlib.Core.Path.{◌≡◌, refl, sym, ap, ◌∙◌}
 use mathlib.Core.List.{List, [], ◌∷◌, map}
 use Prim.Native.Nat.{ℕ, zero, suc, ◌+◌, ◌≤◌, ◌<◌}
 use native.Mathlib.Nat.{le_of_suc-le-suc}
 use native.Mathlib.Omega.{arith}
-use lib.ListN.{length, get_or, set, take}
+use lib.ListN.{length, get_or, set, take, replicate}
 use Rattle.std.proofs.lemmas.List.{length-map, get_or-map}
 use Rattle.laws.specs.Limits.{rule_limit}
 use Rattle.table.specs.declared.Rule.{Rule}
@@ -14,7 +14,7 @@ use Rattle.table.specs.Link.{rule_of, rules_of, carried_strata}
 use Rattle.table.specs.inner.Fits.{TableFits}
 use Rattle.table.specs.inner.Shape.{Shaped}
 use Rattle.rows.specs.declared.RuleRow.{RuleRow}
-use Rattle.rows.specs.inner.Rows.{rule_in, table_in, RowFits, Row, RowsShaped, RowsFit, Entered}
+use Rattle.rows.specs.inner.Rows.{rule_in, table_in, RowBounded, Row, RowsShaped, RowsBounded, Entered}
 use Rattle.rows.specs.inner.RuleRows.{numbers_of, rows_table}
 use Rattle.rows.proofs.Laws.{entered_next, rule_row, rows_count, rows_table_shaped, rows_table_fits}
 
@@ -26,35 +26,35 @@ at_row rows i d l = get_or-map (λ (r : RuleRow). r.numbers) rows i d [] l
 pub rows_length : (rows : List RuleRow) → length (numbers_of rows) ≡ length rows
 rows_length rows = length-map rows (λ (r : RuleRow). r.numbers)
 
--- Each fits.
-pub each_fits : (rows : List RuleRow) (i : ℕ) → i < length rows → RowFits (get_or (numbers_of rows) i [])
-each_fits [] i l = absurd (omega arith)
-each_fits (r ∷ rows) zero l = r.fits
-each_fits (r ∷ rows) (suc i) l = each_fits rows i (omega arith)
+-- Each keeps its bounds.
+pub each_bounded : (rows : List RuleRow) (i : ℕ) → i < length rows → RowBounded (get_or (numbers_of rows) i [])
+each_bounded [] i l = absurd (omega arith)
+each_bounded (r ∷ rows) zero l = r.fits
+each_bounded (r ∷ rows) (suc i) l = each_bounded rows i (omega arith)
 
 -- So the first n of them do, and all.
-pub rows_fit : (rows : List RuleRow) (n : ℕ) → n ≤ rule_limit → n ≤ length rows → RowsFit (numbers_of rows) n
-rows_fit rows n few h =
+pub rows_bounded : (rows : List RuleRow) (n : ℕ) → n ≤ rule_limit → n ≤ length rows → RowsBounded (numbers_of rows) n
+rows_bounded rows n few h =
     let m = rows_length rows in
     record {
-      rows_shaped = record { each_row = λ i l. (each_fits rows i (omega (arith, m))).row_shaped };
+      rows_shaped = record { each_row = λ i l. (each_bounded rows i (omega (arith, m))).row_shaped };
       few = few;
       inside = omega (arith, m);
-      each_fits = λ i l. each_fits rows i (omega arith);
+      each_bounded = λ i l. each_bounded rows i (omega arith);
     }
 
 pub all_rows_shaped : (rows : List RuleRow) → RowsShaped (numbers_of rows)
-all_rows_shaped rows = record { each_row = λ i l. (each_fits rows i (omega (arith, rows_length rows))).row_shaped }
+all_rows_shaped rows = record { each_row = λ i l. (each_bounded rows i (omega (arith, rows_length rows))).row_shaped }
 
-pub all_fit : (rows : List RuleRow) → length rows ≤ rule_limit → RowsFit (numbers_of rows) (length rows)
-all_fit rows few = rows_fit rows (length rows) few (omega arith)
+pub all_bounded : (rows : List RuleRow) → length rows ≤ rule_limit → RowsBounded (numbers_of rows) (length rows)
+all_bounded rows few = rows_bounded rows (length rows) few (omega arith)
 
 -- The table that they stand for has its places, and fits.
 pub all_shaped : (rows : List RuleRow) → length rows ≤ rule_limit → Shaped (rows_table rows)
-all_shaped rows few = rows_table_shaped (numbers_of rows) (length rows) (all_fit rows few)
+all_shaped rows few = rows_table_shaped (numbers_of rows) (length rows) (all_bounded rows few)
 
 pub all_table_fits : (rows : List RuleRow) → length rows ≤ rule_limit → TableFits (rows_table rows)
-all_table_fits rows few = rows_table_fits (numbers_of rows) (length rows) (all_fit rows few)
+all_table_fits rows few = rows_table_fits (numbers_of rows) (length rows) (all_bounded rows few)
 
 -- The rule at a place.
 pub rule_at : (rows : List RuleRow) (i : ℕ) (d : RuleRow) → i < length rows → get_or (rows_table rows).rules i zero_rule ≡ rule_in (get_or rows i d).numbers
@@ -76,6 +76,11 @@ pub numbers_set : (rows : List RuleRow) (i : ℕ) (row : RuleRow) → numbers_of
 numbers_set [] i row = refl
 numbers_set (r ∷ rows) zero row = refl
 numbers_set (r ∷ rows) (suc i) row = ap (λ us. r.numbers ∷ us) (numbers_set rows i row)
+
+-- Those of one row, so many times.
+pub numbers_replicate : (n : ℕ) (row : RuleRow) → numbers_of (replicate n row) ≡ replicate n row.numbers
+numbers_replicate zero row = refl
+numbers_replicate (suc n) row = ap (λ us. row.numbers ∷ us) (numbers_replicate n row)
 
 -- One rule more is written into its row.
 pub entered_set : (rs : List Rule) (rows : List RuleRow) (i : ℕ) (row : RuleRow) → i < length rows → Row (get_or rs i zero_rule) row.numbers → Entered rs (numbers_of rows) i → Entered rs (numbers_of (set rows i row)) (i + 1)

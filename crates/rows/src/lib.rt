@@ -1,14 +1,14 @@
 // Rules as rows of numbers: what the work below the entry points is lent in place of the table.
 #![tactic(auto)]
 
-ghost use Rattle.std.specs.Prelude.{◌≡◌, cond, ◌+◌, ◌≤◌, ◌<◌, ℕ, [], map, get_or};
+ghost use Rattle.std.specs.Prelude.{◌≡◌, cond, ◌+◌, ◌/◌, ◌≤◌, ◌<◌, ℕ, [], map, get_or, replicate};
 ghost use Rattle.laws.specs.Limits.{literal_limit, assignment_limit};
 ghost use Rattle.model.specs.Result.{pair};
 ghost use Rattle.model.specs.Strata.{is_becomes, is_plain, is_under_not};
 ghost use Rattle.table.specs.Link.{literal_of};
 ghost use Rattle.table.specs.inner.Flat.{Placed, pair_places, place_of};
 ghost use Rattle.table.specs.inner.Fits.{RuleFits};
-ghost use Rattle.rows.specs.inner.Rows.{tests, literal_in, pair_in, rule_in, Row, RowFits, UnusedRow};
+ghost use Rattle.rows.specs.inner.Rows.{tests, literal_in, pair_in, rule_in, zero_row, Row, RowBounded, UnusedRow};
 
 use table::{ASSIGNMENTS, LITERALS, Literal, Rule};
 
@@ -47,11 +47,11 @@ fn literal_number(l: Literal) -> u16
     p + b + n
 }
 
-// A rule as a row of numbers: what a rule was written into, or the row of the empty rule. It takes 32 bytes, a rule by its parts 46, and the work goes over rows again and again.
+// A rule as a row of numbers: what a rule was written into, or any row whose numbers keep the same bounds, as zeros do. It takes 32 bytes, a rule by its parts 46, and the work goes over rows again and again.
 #[derive(Clone, Copy)]
 pub struct RuleRow {
     pub numbers: [u16; NUMBERS],
-    pub ghost fits: { RowFits numbers },
+    pub ghost fits: { RowBounded numbers },
 }
 
 impl RuleRow {
@@ -106,6 +106,13 @@ impl RuleRow {
         self.numbers[0]
     }
 
+    // The number of the test that its rule waits for: the `*=` of its trigger's pair, also where the trigger's number lacks what it has more for `*=`.
+    pub fn awaited(&self) -> u16
+        ensures { (pair_in result ≡ pair_in (get_or self.now.numbers 0 0)) × (result / pair_places ≡ 1) }
+    {
+        BECOMES + self.numbers[0] % BECOMES
+    }
+
     // The number of the test at a literal's place.
     pub fn literal(&self, j: usize) -> u16
         requires { j < literal_limit }
@@ -123,18 +130,19 @@ impl RuleRow {
     }
 }
 
-// The row of a rule that tests and assigns nothing.
+// The row of zeros: that of a rule that tests and assigns nothing.
 pub fn empty_row() -> RuleRow
-    ensures { UnusedRow result.numbers }
+    ensures unused { UnusedRow result.numbers }
+    ensures zeros { result.numbers ≡ zero_row }
 {
-    let mut numbers: [u16; NUMBERS] = [0; NUMBERS];
-    numbers[0] = BECOMES;
+    let numbers: [u16; NUMBERS] = [0; NUMBERS];
     RuleRow { numbers }
 }
 
-// Room for the rows of so many rules.
+// Room for the rows of so many rules, in which nothing is written yet.
 pub fn room<const N: usize>() -> [RuleRow; N]
-    ensures { (i : ℕ) → i < N → UnusedRow (get_or (map (λ r. r.numbers) result) i []) }
+    ensures unused { (i : ℕ) → i < N → UnusedRow (get_or (map (λ r. r.numbers) result) i []) }
+    ensures zeros { map (λ r. r.numbers) result ≡ replicate N zero_row }
 {
     [empty_row(); N]
 }

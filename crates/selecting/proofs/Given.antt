@@ -14,7 +14,7 @@ use Rattle.table.specs.Link.{rule_of, rules_of}
 use Rattle.table.specs.inner.Flat.{Placed}
 use Rattle.table.proofs.Link.{rule_at_is}
 use Rattle.table.proofs.Fits.{count_of}
-use Rattle.rows.specs.inner.Rows.{rule_in, table_in, RowsFit}
+use Rattle.rows.specs.inner.Rows.{rule_in, table_in, RowsBounded}
 use Rattle.rows.specs.declared.RuleRow.{RuleRow}
 use Rattle.rows.specs.inner.RuleRows.{numbers_of}
 use Rattle.rows.proofs.RuleRows.{at_row}
@@ -29,9 +29,9 @@ use Rattle.selecting.proofs.Live.{assigned_at}
 abbrev pub rules_in : List (List ℕ) → ℕ → List Rule
 rules_in rows n = rules_of (table_in rows n)
 
--- Rows that fit, at most 32 slots with at most 15 values each, and rules and a slip of declared pairs.
+-- Rows that keep their bounds, at most 32 slots with at most 15 values each, and rules and a slip of declared pairs.
 pub record Given (rows : List (List ℕ)) (n : ℕ) (ks : List ℕ) (width : ℕ) (counts : List ℕ) (I : List Pair) : Type 0 where
-  pub rows_fit : RowsFit rows n
+  pub rows_bounded : RowsBounded rows n
   pub counted : Counts ks width counts
   pub narrow : width ≤ slot_limit
   pub few_values : (s : ℕ) → s < width → get_or counts s 0 ≤ value_limit
@@ -67,7 +67,7 @@ module _ (rows : List (List ℕ)) (n : ℕ) (ks : List ℕ) (width : ℕ) (count
 
   -- There are n rules.
   rule_count : length (rules_in rows n) ≡ n
-  rule_count = count_of (table_in rows n) (rows_table_fits rows n G.rows_fit) (rows_table_shaped rows n G.rows_fit) ∙ rows_count rows n
+  rule_count = count_of (table_in rows n) (rows_table_fits rows n G.rows_bounded) (rows_table_shaped rows n G.rows_bounded) ∙ rows_count rows n
 
   -- Row i has a number of a rule.
   pub row_number : (i : ℕ) → i < n → Numbered (length (rules_in rows n)) (suc i)

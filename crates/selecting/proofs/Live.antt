@@ -21,7 +21,7 @@ use Rattle.model.proofs.Pairs.{same_refl, same_eq}
 use Rattle.table.specs.Link.{assignments_of}
 use Rattle.table.specs.inner.Flat.{pair_places, place_of}
 use Rattle.table.proofs.Flat.{same_place}
-use Rattle.rows.specs.inner.Rows.{rule_in, RowsFit}
+use Rattle.rows.specs.inner.Rows.{rule_in, RowsBounded}
 use Rattle.judging.specs.inner.Times.{times}
 use Rattle.selecting.specs.inner.Live.{live_below, Live}
 
@@ -125,11 +125,11 @@ module _ (rows : List (List ℕ)) where
   live_next dead n live live' e L k q b = rw (add-one n, e) (omega (arith, L q b, k q b))
 
   -- No pair is assigned more often than rules have assignments.
-  live_top : (n : ℕ) → RowsFit rows n → (dead : List Bool) (q m : ℕ) → m ≤ n → live_below rows dead q m ≤ m * assignment_limit
+  live_top : (n : ℕ) → RowsBounded rows n → (dead : List Bool) (q m : ℕ) → m ≤ n → live_below rows dead q m ≤ m * assignment_limit
   unfolding live_below
   live_top n F dead q zero h = omega arith
   live_top n F dead q (suc m) h =
-      let few = (F.each_fits m (omega arith)).few_assignments in
+      let few = (F.each_bounded m (omega arith)).few_assignments in
       let l : length (assigned_at rows m) ≤ assignment_limit = simp (length-map, length-take) (omega arith) in
       omega (arith, live_top n F dead q m (omega arith), go (get_or dead m false) (times q (assigned_at rows m)) (omega (arith, l, times_top q (assigned_at rows m))))
     where
@@ -138,7 +138,7 @@ module _ (rows : List (List ℕ)) where
       go false x h = h
 
   -- So the counts stay small.
-  pub live_small : (n : ℕ) → RowsFit rows n → (dead : List Bool) (m : ℕ) (live : List ℕ) → m ≤ n → Live rows dead m live → length live ≡ pair_places → (q : ℕ) → get_or live q 0 < 65000
+  pub live_small : (n : ℕ) → RowsBounded rows n → (dead : List Bool) (m : ℕ) (live : List ℕ) → m ≤ n → Live rows dead m live → length live ≡ pair_places → (q : ℕ) → get_or live q 0 < 65000
   unfolding Live
   live_small n F dead m live h L l q = ⊎_elim
       (λ (b : pair_places ≤ q). rw (get_or-eq_default live 0 {n = q} (omega arith)) (omega arith))

@@ -20,7 +20,7 @@ use Rattle.table.specs.declared.Way.TheVariants.{Strata, Marks}
 use Rattle.table.specs.Link.{rules_of, carried_strata, stratum_at}
 use Rattle.table.proofs.Link.{strata_length, stratum_is}
 use Rattle.table.specs.declared.Rule.{Rule}
-use Rattle.rows.specs.inner.Rows.{table_in, RowsFit}
+use Rattle.rows.specs.inner.Rows.{table_in, RowsBounded}
 use Rattle.rows.specs.declared.RuleRow.{RuleRow}
 use Rattle.rows.specs.inner.RuleRows.{rows_table}
 use Rattle.rows.proofs.Laws.{rule_row, rows_count, rows_table_shaped}
@@ -94,7 +94,7 @@ pub kept_right : (way : Way) (t : Table) (e : Entry) (counts : List ℕ) (rows :
 kept_right way t e counts rows w = rw w.count_is (admitted_right way t counts rows w.admitted)
 
 -- Rows carry stratum 0 throughout exactly where each does.
-module _ (rows : List (List ℕ)) (n : ℕ) (f : RowsFit rows n) where
+module _ (rows : List (List ℕ)) (n : ℕ) (f : RowsBounded rows n) where
   stratum_here : (i : ℕ) → i < n → get_or (carried_strata (table_in rows n)) i 0 ≡ get_or (get_or rows i []) 3 0
   stratum_here i h = stratum_is (table_in rows n) i (omega (arith, h, rows_count rows n)) ∙ ap (λ (r : Rule). r.stratum) (rule_row rows n i)
 

@@ -39,7 +39,7 @@ fn test_at(row: &RuleRow, j: usize) -> u16
     requires { j ≤ literal_limit }
 {
     if j == 0 {
-        row.trigger()
+        row.awaited()
     } else {
         row.literal(j - 1)
     }

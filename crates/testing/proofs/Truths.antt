@@ -91,7 +91,7 @@ truth_test S bs truth x t = go (eqb (x / pair_places % 2) 1) refl
         let z : x % (2 * pair_places) ≡ x % pair_places = omega arith in
         rw z (t.had (x % pair_places) (omega arith) ∙ sym (test_was S (set_of bs) (literal_of (literal_in x)) e))
 
--- The number of a trigger is that of a plain `*=`.
+-- The test that a trigger waits for is a plain `*=`.
 pub trigger_holds : (S : List ℕ) (C : Pairs) (x : ℕ) → x / pair_places ≡ 1 → holds S C (literal_of (literal_in x)) ≡ became S C (pair_in x)
 trigger_holds S C x e =
     sym (holds_plain S C (literal_of (literal_in x)) (test S C (literal_of (literal_in x))) (ne_eqb (x / (2 * pair_places)) 1 (λ z. omega arith)) refl)

@@ -160,8 +160,8 @@ unfired c = c.if-fired-i.false
 trigger-came : (c : After-is_true) → c.is_true.result ≡ became c.args.card.now (set_of c.rules.changes) (rule_of (rule_in c.index-rows-i.result.numbers)).trigger
 trigger-came c =
     c.is_true.ensures c.args.card.now c.rules.changes c.rules.invariant.2
-    ∙ ap (λ (x : ℕ). holds c.args.card.now (set_of c.rules.changes) (literal_of (literal_in x))) c.trigger-trigger.ensures.0
-    ∙ trigger_holds c.args.card.now (set_of c.rules.changes) (get_or c.index-rows-i.result.numbers 0 0) c.index-rows-i.result.fits.trigger_becomes
+    ∙ trigger_holds c.args.card.now (set_of c.rules.changes) c.awaited-trigger.result c.awaited-trigger.ensures.1
+    ∙ ap (became c.args.card.now (set_of c.rules.changes)) c.awaited-trigger.ensures.0
 
 -- The literal at hand.
 literal-low : (c : In-literals) → c.literals.j < (rule_in c.index-rows-i.result.numbers).tested
@@ -235,7 +235,7 @@ bounds-rows-i c = is-rule (goal.at.bounds-rows-i c).After-next_rule-turn
 pub wait-requires : goal.wait-requires
 wait-requires c =
     let w = wait-inside (goal.at.wait-requires c).After-next_rule-turn c.rules.nexts c.rules.invariant.6 in
-    (c.trigger-trigger.ensures.1, w.0, w.1)
+    (omega (arith, c.awaited-trigger.ensures.1), w.0, w.1)
 
 pub rules-smaller-then-not-is_true : goal.rules-smaller-then-not-is_true
 rules-smaller-then-not-is_true c = less (goal.at.rules-smaller-then-not-is_true c).After-next_rule-turn

@@ -1,17 +1,23 @@
 -- `rows::room` meets its contract.
-use mathlib.Core.Path.{◌≡◌, sym, ap, subst, ◌∙◌}
-use mathlib.Core.List.{List}
+use mathlib.Core.Path.{◌≡◌, refl, sym, ap, subst, ◌∙◌}
+use mathlib.Core.List.{List, []}
 use Prim.Native.Nat.{ℕ}
-use lib.ListN.{replicate, length-replicate}
-use native.Mathlib.Omega.{arith}
+use lib.ListN.{get_or, replicate}
+use borrow.Author.Rules.{rules}
 use Rattle.std.proofs.lemmas.List.{get_or-replicate}
-use Rattle.rows.specs.inner.Rows.{UnusedRow}
+use Rattle.rows.specs.inner.Rows.{zero_row, UnusedRow}
+use Rattle.rows.specs.inner.RuleRows.{numbers_of}
 use Rattle.rows.specs.declared.RuleRow.{RuleRow}
-use Rattle.rows.proofs.RuleRows.{at_row}
+use Rattle.rows.proofs.RuleRows.{numbers_replicate}
 use Rattle.rows.proofs.room.Goals as goal
 
-pub returns : goal.returns
-returns g c i h =
-    let row = c.empty_row.result in
-    let l = length-replicate g.row.N row in
-    subst UnusedRow (sym (at_row (replicate g.row.N row) i row (omega (arith, l, h)) ∙ ap (λ (r : RuleRow). r.numbers) (get_or-replicate g.row.N i row row h))) c.empty_row.ensures
+-- All rows are of zeros.
+zeros : (n : ℕ) (row : RuleRow) → row.numbers ≡ zero_row → numbers_of (replicate n row) ≡ replicate n zero_row
+zeros n row e = numbers_replicate n row ∙ ap (replicate n) e
+
+pub returns-clause-zeros : goal.returns-clause-zeros
+returns-clause-zeros g c = zeros g.row.N _ (search rules)
+
+pub returns-clause-unused : goal.returns-clause-unused
+returns-clause-unused g c i h =
+    subst (λ (rows : List (List ℕ)). UnusedRow (get_or rows i [])) (sym (returns-clause-zeros g c)) (rw (get_or-replicate g.row.N i zero_row [] h) (refl, refl, refl))

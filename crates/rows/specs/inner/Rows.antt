@@ -61,6 +61,18 @@ pub record RowFits (row : List ℕ) : Type 0 where
   pub trigger_becomes : get_or row 0 0 / pair_places ≡ 1
   pub each_test : (j : ℕ) → j < get_or row 1 0 → get_or row (4 + j) 0 < tests
 
+-- A row whose numbers keep the bounds of a rule's, as zeros do too: it uses literals and assignments within the limits, and its trigger and its literals are tests.
+pub record RowBounded (row : List ℕ) : Type 0 where
+  pub row_shaped : RowShaped row
+  pub few_literals : get_or row 1 0 ≤ literal_limit
+  pub few_assignments : get_or row 2 0 ≤ assignment_limit
+  pub trigger_test : get_or row 0 0 < tests
+  pub each_test : (j : ℕ) → j < get_or row 1 0 → get_or row (4 + j) 0 < tests
+
+-- The row of zeros.
+abbrev pub zero_row : List ℕ
+zero_row = replicate 16 0
+
 -- A row of a rule that tests and assigns nothing and carries no stratum.
 abbrev pub UnusedRow : List ℕ → Type 0
 UnusedRow row = ((rule_in row).tested ≡ 0) × ((rule_in row).assigned ≡ 0) × ((rule_in row).stratum ≡ 0)
@@ -81,6 +93,13 @@ pub record RowsFit (rows : List (List ℕ)) (n : ℕ) : Type 0 where
   pub few : n ≤ rule_limit
   pub inside : n ≤ length rows
   pub each_fits : (i : ℕ) → i < n → RowFits (get_or rows i [])
+
+-- The first n of them keep those bounds, no more than a table can have rules.
+pub record RowsBounded (rows : List (List ℕ)) (n : ℕ) : Type 0 where
+  pub rows_shaped : RowsShaped rows
+  pub few : n ≤ rule_limit
+  pub inside : n ≤ length rows
+  pub each_bounded : (i : ℕ) → i < n → RowBounded (get_or rows i [])
 
 -- The first n of them have the first n of these rules.
 pub record Entered (rs : List Rule) (rows : List (List ℕ)) (n : ℕ) : Type 0 where

@@ -13,7 +13,7 @@ use Rattle.table.specs.Link.{rules_of, rule_of, assignments_of}
 use Rattle.table.specs.inner.Flat.{pair_places}
 use Rattle.rows.specs.inner.Rows.{table_in, rule_in}
 use Rattle.rows.specs.inner.RuleRows.{numbers_of, rows_table}
-use Rattle.rows.proofs.RuleRows.{all_fit}
+use Rattle.rows.proofs.RuleRows.{all_bounded}
 use Rattle.marks.specs.Marks.{declared_pairs, truth_rule}
 use Rattle.judging.specs.inner.Known.{marks_of, Truths}
 use Rattle.marking.specs.inner.Marked.{AllMarked, NotMarked}
@@ -62,7 +62,7 @@ queued_room d = omega (arith, d.requires.1.queued_room, d.rules.invariant.6, d.s
 -- What the promise of `select_with` gives for the files it is asked of.
 given : (s : Start) (I : List Pair) → Declared (declared_pairs s.args.counts.now) (rules_of (rows_table s.args.rows.now)) I
     → Given (numbers_of s.args.rows.now) (length s.args.rows.now) s.args.counts.now (length s.args.counts.now) s.args.counts.now I
-given s I D = record { rows_fit = all_fit s.args.rows.now s.requires.0.few_rules; counted = own_counts s.args.counts.now; narrow = s.requires.0.few_slots; few_values = s.requires.0.few_values; all_declared = D }
+given s I D = record { rows_bounded = all_bounded s.args.rows.now s.requires.0.few_rules; counted = own_counts s.args.counts.now; narrow = s.requires.0.few_slots; few_values = s.requires.0.few_values; all_declared = D }
 
 -- Those woken before stay, the place stays within the rules.
 still-woken : (d : After-next_or-turn) → Woken (length d.args.rows.now) d.next_or-turn.result.left d.rules.woken
@@ -104,7 +104,7 @@ pub enter-init : goal.enter-init
 enter-init c = (length-replicate {A = ℕ} 512 0, live_start _ _ _ refl, chained_start _ c.requires.1.none_chained, refl)
 
 pub count_assigned-requires : goal.count_assigned-requires
-count_assigned-requires c = (c.enter.invariant.0, live_small (numbers_of c.args.rows.now) (length c.args.rows.now) (all_fit c.args.rows.now c.requires.0.few_rules) _ c.enter.e c.enter.live (search rules) c.enter.invariant.1 c.enter.invariant.0)
+count_assigned-requires c = (c.enter.invariant.0, live_small (numbers_of c.args.rows.now) (length c.args.rows.now) (all_bounded c.args.rows.now c.requires.0.few_rules) _ c.enter.e c.enter.live (search rules) c.enter.invariant.1 c.enter.invariant.0)
 
 pub enter-preserved : goal.enter-preserved
 enter-preserved c =

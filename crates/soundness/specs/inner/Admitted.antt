@@ -7,13 +7,15 @@ use Rattle.table.specs.inner.Shape.{Shaped}
 use Rattle.table.specs.Link.{rules_of, carried_strata}
 use Rattle.soundness.specs.declared.Entry.{Entry}
 use Rattle.rows.specs.declared.RuleRow.{RuleRow}
-use Rattle.rows.specs.inner.RuleRows.{rows_table}
+use Rattle.rows.specs.inner.Rows.{RowsFit}
+use Rattle.rows.specs.inner.RuleRows.{numbers_of, rows_table}
 
 -- The counts are those of the slots, and the rows have the rules, with the strata that they carry.
 pub record Admitted (t : Table) (counts : List ℕ) (rows : List RuleRow) : Type 0 where
   pub same_count : (i : ℕ) → i < t.width → get_or counts i 0 ≡ (get_or t.slots i zero_slot).count
   pub few : t.count ≤ rule_limit
   pub inside : t.count ≤ length rows
+  pub rows_fit : RowsFit (numbers_of rows) t.count
   pub same_rules : rules_of (rows_table (take t.count rows)) ≡ rules_of t
   pub same_strata : carried_strata (rows_table (take t.count rows)) ≡ carried_strata t
 

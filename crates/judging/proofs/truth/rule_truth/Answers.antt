@@ -1,8 +1,7 @@
 -- `judging::truth::rule_truth` meets its contract.
-use mathlib.Core.Path.{◌≡◌, sym, ◌∙◌}
+use mathlib.Core.Path.{◌≡◌, sym, ap, ◌∙◌}
 use mathlib.Core.List.{List}
 use Prim.Native.Nat.{ℕ, ◌+◌, ◌-◌, ◌<◌}
-use lib.ListN.{get_or}
 use Rattle.table.proofs.Walks.{literals_from}
 use Rattle.rows.specs.inner.Rows.{rule_in}
 use Rattle.marks.specs.Marks.{truth_turns, truth_condition}
@@ -19,8 +18,9 @@ use Rattle.judging.proofs.truth.rule_truth.Goals as goal
 trigger-is : (c : After-test_truth-trigger) (S : List ℕ) (k : Known) → Truths S k → c.args.truth.now ≡ k.truth
     → c.test_truth-trigger.result ≡ truth_turns S (marks_of k) (rule_of (rule_in c.args.row.now.numbers)).trigger
 trigger-is c S k t e =
-    let x = rw c.trigger-number.ensures.0 at (c.test_truth-trigger.ensures S k t e) in
-    x ∙ trigger_test S (marks_of k) (get_or c.args.row.now.numbers 0 0) c.args.row.now.fits.trigger_becomes
+    c.test_truth-trigger.ensures S k t e
+    ∙ trigger_test S (marks_of k) c.awaited-number.result c.awaited-number.ensures.1
+    ∙ ap (truth_turns S (marks_of k)) c.awaited-number.ensures.0
 
 -- The place at hand is that of a literal.
 used : (c : In-literals) → c.literals.j - 1 < (rule_in c.args.row.now.numbers).tested

@@ -5,7 +5,7 @@ use native.Mathlib.Omega.{arith}
 use Prim.Native.Nat.{ℕ}
 use lib.ListN.{replicate}
 use Rattle.rows.specs.inner.Rows.{Row}
-use Rattle.rows.proofs.Laws.{written_start, written_literal, written_assignment, written_end}
+use Rattle.rows.proofs.Laws.{fits_bounded, written_start, written_literal, written_assignment, written_end}
 use Rattle.table.proofs.Shape.{rule_shaped}
 use Rattle.rows.proofs.RuleRow.of.Goals.{After-assignments}
 use Rattle.rows.proofs.RuleRow.of.Goals as goal
@@ -43,7 +43,7 @@ whole c =
     written_end c.args.r c.assignments.row c.requires (rule_shaped c.args.r _ c.well_formed.0) (rw e at c.assignments.invariant)
 
 pub invariant_of-result : goal.invariant_of-result
-invariant_of-result c = record { fits = (whole (goal.at.invariant_of-result c).After-assignments).fits }
+invariant_of-result c = record { fits = fits_bounded c.assignments.row (whole (goal.at.invariant_of-result c).After-assignments).fits }
 
 pub returns : goal.returns
 returns c = whole (goal.at.returns c).After-assignments
