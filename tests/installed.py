@@ -161,6 +161,11 @@ class Files(unittest.TestCase):
         self.assertIn('GNU_RELRO', heads)
         self.assertNotIn('TEXTREL', run('readelf', '-d', path))
 
+    def test_archive(self):
+        """librl.a needs no more from outside than docs/REFERENCE.md says."""
+        listed = run('nm', '-u', os.path.join(PREFIX, 'lib/librl.a')).splitlines()
+        self.assertEqual(sorted({line.split()[-1] for line in listed if ' U ' in line}), ['memcpy', 'memset'])
+
     def test_refusals(self):
         """The numbers of the enum, and those with words in Rust, are those of docs/REFERENCE.md."""
         section = text(TOP, 'docs/REFERENCE.md').split('\n## Refusals by who can cause them\n')[1].split('\n## ')[0]

@@ -20,6 +20,7 @@ impl Sheet<'_> {
     {
         let end = self.at + part.len();
         if end <= self.out.len() {
+            // Byte for byte: `copy_from_slice` of a length that is not known has the archive for C ask for one more function from outside.
             for j in 0..part.len() {
                 self.out[self.at + j] = part[j];
             }
