@@ -87,20 +87,29 @@ pub struct RlResponse {
     pub fired: usize,
 }
 
-// A reading by numbers: the table is read where it is handed out, so that none is copied.
-fn read_numbered(text: &[u8], way: Way) -> RlRead
-    ensures { result ≡ reading_numbers (read_within way Library text.now) }
-{
-    let mut read = RlRead {
+// What a reading is before it: accepted, with the table without slots or rules.
+fn empty_reading() -> RlRead {
+    RlRead {
         number: 0,
         second: 0,
         table: table::empty_table(),
-    };
-    if let Err(refusal) = rule_file::read_into(text, way, Limits::Library, &mut read.table) {
-        read.number = refusal.number();
-        read.second = refusal.second();
     }
-    read
+}
+
+// A reading by numbers, into what is handed out, so that its table is copied no more than once.
+fn read_numbered(text: &[u8], way: Way, read: &mut RlRead)
+    ensures { read.new ≡ reading_numbers (read_within way Library text.now) }
+{
+    match rule_file::read_into(text, way, Limits::Library, &mut read.table) {
+        Ok(()) => {
+            read.number = 0;
+            read.second = 0;
+        }
+        Err(refusal) => {
+            read.number = refusal.number();
+            read.second = refusal.second();
+        }
+    }
 }
 
 // Reads a rule text: 10 to 18.
@@ -108,7 +117,9 @@ fn read_numbered(text: &[u8], way: Way) -> RlRead
 pub extern "C" fn rl_read(text: &[u8]) -> RlRead
     ensures { result ≡ reading_numbers (reading text.now) }
 {
-    read_numbered(text, Way::Strata)
+    let mut read = empty_reading();
+    read_numbered(text, Way::Strata, &mut read);
+    read
 }
 
 // Reads a rule text without test 18, for the response by marks: 10 to 17; the table has stratum 0 throughout.
@@ -116,7 +127,9 @@ pub extern "C" fn rl_read(text: &[u8]) -> RlRead
 pub extern "C" fn rl_read_unlayered(text: &[u8]) -> RlRead
     ensures { result ≡ reading_numbers (reading_without_18 text.now) }
 {
-    read_numbered(text, Way::Marks)
+    let mut read = empty_reading();
+    read_numbered(text, Way::Marks, &mut read);
+    read
 }
 
 // A print by numbers.
