@@ -22,9 +22,9 @@ use Rattle.printing.proofs.print_table.Goals as goal
 
 -- The table as the reading gives it.
 shape : (s : Start) → Shaped (reading s.args.text.now).table
-shape s = rw s.requires.1 at (shaped s.args.t.now _ s.well_formed.1.0)
+shape s = rw s.requires.1 at (shaped s.args.t _ s.well_formed.1.0)
 
-slots-tabled : (s : Start) → Tabled s.args.text.now (file s.args.text.now s.requires.0).slots s.args.t.now
+slots-tabled : (s : Start) → Tabled s.args.text.now (file s.args.text.now s.requires.0).slots s.args.t
 slots-tabled s = rw s.requires.1 (tabled s.args.text.now s.requires.0)
 
 pub enter_slots-requires : goal.enter_slots-requires
@@ -44,8 +44,8 @@ is_print text o t {ss} {vs} e I = rw e (print_spelled text o ss vs I ∙ sym (pr
 size : (c : After-nowhere-2-1) → length (print_of (parse c.args.text.now)) ≡ c.put_file-size.result
 size c =
     let text = c.args.text.now in
-    let I = c.enter_slots.ensures (file text c.requires.0).slots ((let it : Tabled c.args.text.now (file c.args.text.now c.requires.0).slots c.args.t.now = rw c.requires.1 (tabled c.args.text.now c.requires.0) in it)) in
-    let z = ap length (is_print text c.requires.0 c.args.t.now c.requires.1 I) in
+    let I = c.enter_slots.ensures (file text c.requires.0).slots ((let it : Tabled c.args.text.now (file c.args.text.now c.requires.0).slots c.args.t = rw c.requires.1 (tabled c.args.text.now c.requires.0) in it)) in
+    let z = ap length (is_print text c.requires.0 c.args.t c.requires.1 I) in
     omega (arith, z, c.put_file-size.ensures.ends)
 
 pub returns-then-size-gt-TEXT_LIMIT : goal.returns-then-size-gt-TEXT_LIMIT
@@ -67,7 +67,7 @@ returns c =
     let text = c.args.text.now in
     let out = c.args.out.now in
     let I = c.enter_slots.ensures (file text c.requires.0).slots (slots-tabled (goal.at.returns c).Start) in
-    let is = is_print text c.requires.0 c.args.t.now c.requires.1 I in
+    let is = is_print text c.requires.0 c.args.t c.requires.1 I in
     let l = size (goal.at.returns c).After-nowhere-2-1 in
     let z = ap length is in
     answer_taken _ (print_of (parse text)) out _ c.put_file-end.result (fitted_all (print_of (parse text)) (length out) (omega (arith, l)) (omega (arith, l)))
