@@ -31,7 +31,7 @@ impl Sheet<'_> {
 
     // Puts the name of a slot, a mark, and a value of it.
     #[tactic(auto, using(crate::proofs::Putting::room_first, crate::proofs::Putting::room_rest), unfolding(crate::specs::inner::Spelled::spelled_pair))]
-    fn put_pair(&mut self, spelling: Spelling, mark: &[u8], slot: u8, value: u8)
+    pub fn put_pair(&mut self, spelling: Spelling, mark: &[u8], slot: u8, value: u8)
         requires { Placed slot value × (self.old.at + length (paired spelling mark.now (pair slot value)) ≤ longest) }
         ensures { PutsOn self.old (paired spelling.entry mark.now (pair slot value)) self.new }
     {
