@@ -1,5 +1,5 @@
 // Assignments: a slot's name, `:=`, a value; one of them, or a list in braces.
-ghost use Rattle.std.specs.Prelude.{◌≡◌, Ok, List, [], ℕ, ◌+◌, ◌*◌, ◌<◌, length, take, drop};
+ghost use Rattle.std.specs.Prelude.{◌≡◌, List, [], ℕ, ◌+◌, ◌*◌, ◌<◌, length, take, drop};
 ghost use Rattle.text.specs.Tokens.{Token};
 ghost use Rattle.model.specs.Rules.{Pair, assigns};
 ghost use Rattle.laws.specs.Limits.{assignment_limit, slot_limit, value_limit, row};
@@ -38,10 +38,14 @@ fn is_assigned(list: &Assignments, slot: usize) -> bool
 }
 
 // A name that was read must be that of a declared slot that the assignments so far do not assign.
-fn target_of(s: Source, list: &Assignments, named: Read<Span>) -> Result<Read<usize>, Fault>
-    requires { (at : ℕ) × NamedLies (length s.tokens.rest.now) at (Ok named) }
-    ensures { ((base : ℕ) (ts : List Token) (slots : List Slot) → a_name ts ≡ named_part s.entry.tokens.rest.now base (Ok named) → Listed s.entry.text.now s.entry.slotspans.now (spellings (slot_names slots))
-        → read_target slots (pairs_in list.now) ts ≡ number_part s.entry.tokens.rest.now base result) × ((at : ℕ) → NamedLies (length s.entry.tokens.rest.now) at (Ok named) → SlotLies (length s.entry.tokens.rest.now) at result) }
+fn target_of(
+    s: Source,
+    list: &Assignments,
+    named: Result<Read<Span>, Fault>,
+) -> Result<Read<usize>, Fault>
+    requires { (at : ℕ) × NamedLies (length s.tokens.rest.now) at named }
+    ensures { ((base : ℕ) (ts : List Token) (slots : List Slot) → a_name ts ≡ named_part s.entry.tokens.rest.now base named → Listed s.entry.text.now s.entry.slotspans.now (spellings (slot_names slots))
+        → read_target slots (pairs_in list.now) ts ≡ number_part s.entry.tokens.rest.now base result) × ((at : ℕ) → NamedLies (length s.entry.tokens.rest.now) at named → SlotLies (length s.entry.tokens.rest.now) at result) }
 {
     let slot = s.slot_of(named)?;
     if is_assigned(list, slot.value) {
@@ -72,11 +76,11 @@ fn assignment_value(s: Source, slot: usize, at: usize) -> Result<Read<Assignment
 fn assignment_of(
     s: Source,
     list: &Assignments,
-    named: Read<Span>,
+    named: Result<Read<Span>, Fault>,
 ) -> Result<Read<Assignment>, Fault>
-    requires { (at : ℕ) × NamedLies (length s.tokens.rest.now) at (Ok named) }
-    ensures { ((base : ℕ) (ts : List Token) (slots : List Slot) → a_name ts ≡ named_part s.entry.tokens.rest.now base (Ok named) → Looked s.entry.text.now slots s.entry.slotspans.now s.entry.valuespans.now
-        → read_assignment slots (pairs_in list.now) ts ≡ assignment_part s.entry.tokens.rest.now base result) × ((at : ℕ) → NamedLies (length s.entry.tokens.rest.now) at (Ok named) → AssignmentLies (length s.entry.tokens.rest.now) at result) }
+    requires { (at : ℕ) × NamedLies (length s.tokens.rest.now) at named }
+    ensures { ((base : ℕ) (ts : List Token) (slots : List Slot) → a_name ts ≡ named_part s.entry.tokens.rest.now base named → Looked s.entry.text.now slots s.entry.slotspans.now s.entry.valuespans.now
+        → read_assignment slots (pairs_in list.now) ts ≡ assignment_part s.entry.tokens.rest.now base result) × ((at : ℕ) → NamedLies (length s.entry.tokens.rest.now) at named → AssignmentLies (length s.entry.tokens.rest.now) at result) }
 {
     let slot = target_of(s, list, named)?;
     assignment_value(s, slot.value, slot.next)
@@ -87,7 +91,7 @@ fn assignment_next(s: Source, list: &Assignments, at: usize) -> Result<Read<Assi
     ensures { ((base : ℕ) (slots : List Slot) → Looked s.entry.text.now slots s.entry.slotspans.now s.entry.valuespans.now
         → read_assignment slots (pairs_in list.now) (tokens_past s.entry.tokens.rest.now base at) ≡ assignment_part s.entry.tokens.rest.now base result) × AssignmentLies (length s.entry.tokens.rest.now) at result }
 {
-    let named = s.tokens.name(at)?;
+    let named = s.tokens.name(at);
     assignment_of(s, list, named)
 }
 
@@ -121,10 +125,13 @@ fn assignments_next(s: Source, start: usize) -> Result<Read<Assignments>, Fault>
 }
 
 // One assignment alone, whose slot's name was read.
-fn single_assignment(s: Source, named: Read<Span>) -> Result<Read<Assignments>, Fault>
-    requires { (at : ℕ) × NamedLies (length s.tokens.rest.now) at (Ok named) }
-    ensures { ((base : ℕ) (ts : List Token) (slots : List Slot) → a_name ts ≡ named_part s.entry.tokens.rest.now base (Ok named) → Looked s.entry.text.now slots s.entry.slotspans.now s.entry.valuespans.now
-        → single_assignment slots ts ≡ assignments_part s.entry.tokens.rest.now base result) × ((at : ℕ) → NamedLies (length s.entry.tokens.rest.now) at (Ok named) → AssignmentsLies (length s.entry.tokens.rest.now) at result) }
+fn single_assignment(
+    s: Source,
+    named: Result<Read<Span>, Fault>,
+) -> Result<Read<Assignments>, Fault>
+    requires { (at : ℕ) × NamedLies (length s.tokens.rest.now) at named }
+    ensures { ((base : ℕ) (ts : List Token) (slots : List Slot) → a_name ts ≡ named_part s.entry.tokens.rest.now base named → Looked s.entry.text.now slots s.entry.slotspans.now s.entry.valuespans.now
+        → single_assignment slots ts ≡ assignments_part s.entry.tokens.rest.now base result) × ((at : ℕ) → NamedLies (length s.entry.tokens.rest.now) at named → AssignmentsLies (length s.entry.tokens.rest.now) at result) }
 {
     let mut list = no_assignments();
     let read = assignment_of(s, &list, named)?;
@@ -144,6 +151,6 @@ pub fn assign_next(s: Source, at: usize) -> Result<Read<Assignments>, Fault>
     if let Ok(inside) = word_of(next, Word::Open) {
         return assignments_next(s, inside);
     }
-    let named = name_of(next)?;
+    let named = name_of(next);
     single_assignment(s, named)
 }

@@ -1,5 +1,5 @@
 // Literals: NOTs, a slot's name, `*=` or `|=`, a value.
-ghost use Rattle.std.specs.Prelude.{◌≡◌, Ok, false, List, ℕ, ◌+◌, ◌*◌, ◌<◌, length, take, drop};
+ghost use Rattle.std.specs.Prelude.{◌≡◌, false, List, ℕ, ◌+◌, ◌*◌, ◌<◌, length, take, drop};
 ghost use Rattle.laws.specs.Limits.{slot_limit, value_limit, row};
 ghost use Rattle.text.specs.Tokens as tokens;
 ghost use Rattle.grammar.specs.Files.{Slot, spellings, values_of};
@@ -62,10 +62,14 @@ fn literal_value(
 }
 
 // A literal without its NOTs.
-fn plain_literal(s: Source, named: Read<Span>, negated: bool) -> Result<Read<Literal>, Fault>
-    requires { (at : ℕ) × NamedLies (length s.tokens.rest.now) at (Ok named) }
-    ensures { ((base : ℕ) (ts : List tokens.Token) (slots : List Slot) → a_name ts ≡ named_part s.entry.tokens.rest.now base (Ok named) → Looked s.entry.text.now slots s.entry.slotspans.now s.entry.valuespans.now
-        → plain_literal slots negated ts ≡ literal_part s.entry.tokens.rest.now base result) × ((at : ℕ) → NamedLies (length s.entry.tokens.rest.now) at (Ok named) → LiteralLies (length s.entry.tokens.rest.now) at result) }
+fn plain_literal(
+    s: Source,
+    named: Result<Read<Span>, Fault>,
+    negated: bool,
+) -> Result<Read<Literal>, Fault>
+    requires { (at : ℕ) × NamedLies (length s.tokens.rest.now) at named }
+    ensures { ((base : ℕ) (ts : List tokens.Token) (slots : List Slot) → a_name ts ≡ named_part s.entry.tokens.rest.now base named → Looked s.entry.text.now slots s.entry.slotspans.now s.entry.valuespans.now
+        → plain_literal slots negated ts ≡ literal_part s.entry.tokens.rest.now base result) × ((at : ℕ) → NamedLies (length s.entry.tokens.rest.now) at named → LiteralLies (length s.entry.tokens.rest.now) at result) }
 {
     let slot = s.slot_of(named)?;
     match s.tokens.fork(slot.next, Word::Becomes, Word::Has)? {
@@ -80,6 +84,6 @@ pub fn literal_next(s: Source, at: usize) -> Result<Read<Literal>, Fault>
         → read_literal (tokens_past s.entry.tokens.rest.now base at) slots false ≡ literal_part s.entry.tokens.rest.now base result) × LiteralLies (length s.entry.tokens.rest.now) at result }
 {
     let nots = skip_nots(s.tokens, at);
-    let named = name_of(nots.next)?;
+    let named = name_of(nots.next);
     plain_literal(s, named, nots.negated)
 }

@@ -27,7 +27,7 @@ fn pair_next(s: Source, at: usize) -> Result<Read<Trigger>, Fault>
     ensures { ((base : ℕ) (slots : List Slot) → Looked s.entry.text.now slots s.entry.slotspans.now s.entry.valuespans.now
         → trigger_pair slots (tokens_past s.entry.tokens.rest.now base at) ≡ pair_part s.entry.tokens.rest.now base result) × PairLies (length s.entry.tokens.rest.now) at result }
 {
-    let named = s.tokens.name(at)?;
+    let named = s.tokens.name(at);
     let slot = s.slot_of(named)?;
     let next = s.tokens.word(slot.next, Word::Becomes)?;
     let found = s.value_next(slot.value, next)?;

@@ -1,5 +1,5 @@
 // Names looked up: the stretches of the text where slots and values were declared, each as one number with the name's key.
-ghost use Rattle.std.specs.Prelude.{◌≡◌, Ok, IfSome, List, ℕ, ◌+◌, ◌<◌, length};
+ghost use Rattle.std.specs.Prelude.{◌≡◌, IfSome, List, ℕ, ◌+◌, ◌<◌, length};
 ghost use Rattle.text.specs.Tokens.{Name, Token, same_letters, place};
 ghost use Rattle.grammar.specs.Files.{spellings};
 ghost use Rattle.grammar.specs.Reading.{a_name, read_place};
@@ -54,22 +54,23 @@ pub fn find(text: &[u8], spans: &[usize], name: &[u8]) -> Option<usize>
     None
 }
 
-// A name that was read must be one of those at the spans; its place among them, from 0.
+// A name that was read must be one of those at the spans; its place among them, from 0. A refusal in its place comes back.
 pub fn place_of(
     text: &[u8],
     rest: &[u8],
     spans: &[usize],
-    named: Read<Span>,
+    named: Result<Read<Span>, Fault>,
 ) -> Result<Read<usize>, Fault>
-    requires { (at : ℕ) × NamedLies (length rest.now) at (Ok named) }
-    ensures { ((base : ℕ) (ts : List Token) (names : List Name) → a_name ts ≡ named_part rest.now base (Ok named) → Listed text.now spans.now (spellings names)
-        → read_place names ts ≡ place_part rest.now base result) × ((at : ℕ) → NamedLies (length rest.now) at (Ok named) → NumberLies (length spans.now) (length rest.now) at result) }
+    requires { (at : ℕ) × NamedLies (length rest.now) at named }
+    ensures { ((base : ℕ) (ts : List Token) (names : List Name) → a_name ts ≡ named_part rest.now base named → Listed text.now spans.now (spellings names)
+        → read_place names ts ≡ place_part rest.now base result) × ((at : ℕ) → NamedLies (length rest.now) at named → NumberLies (length spans.now) (length rest.now) at result) }
 {
-    let span = named.value;
+    let read = named?;
+    let span = read.value;
     match find(text, spans, &rest[span.start..span.start + span.size]) {
         Some(value) => Ok(Read {
             value,
-            next: named.next,
+            next: read.next,
         }),
         None => Err(Fault::Undeclared),
     }

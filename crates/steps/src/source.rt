@@ -1,5 +1,5 @@
 // What the reading of a rule goes over, and the names that it looks up.
-ghost use Rattle.std.specs.Prelude.{◌≡◌, Ok, List, ℕ, ◌+◌, ◌*◌, ◌<◌, length, take, drop};
+ghost use Rattle.std.specs.Prelude.{◌≡◌, List, ℕ, ◌+◌, ◌*◌, ◌<◌, length, take, drop};
 ghost use Rattle.laws.specs.Limits.{slot_limit, value_limit, row};
 ghost use Rattle.text.specs.Tokens.{Token};
 ghost use Rattle.grammar.specs.Files.{Slot, spellings, slot_names, values_of};
@@ -22,11 +22,11 @@ pub struct Source<'a> {
 }
 
 impl<'a> Source<'a> {
-    // A name that was read must be a declared slot's; the slot's number, from 0.
-    pub fn slot_of(self, named: Read<Span>) -> Result<Read<usize>, Fault>
-        requires { (at : ℕ) × NamedLies (length self.tokens.rest.now) at (Ok named) }
-        ensures { ((base : ℕ) (ts : List Token) (slots : List Slot) → a_name ts ≡ named_part self.entry.tokens.rest.now base (Ok named) → Listed self.entry.text.now self.entry.slotspans.now (spellings (slot_names slots))
-            → read_slot slots ts ≡ number_part self.entry.tokens.rest.now base result) × ((at : ℕ) → NamedLies (length self.entry.tokens.rest.now) at (Ok named) → SlotLies (length self.entry.tokens.rest.now) at result) }
+    // A name that was read must be a declared slot's; the slot's number, from 0. A refusal in its place comes back.
+    pub fn slot_of(self, named: Result<Read<Span>, Fault>) -> Result<Read<usize>, Fault>
+        requires { (at : ℕ) × NamedLies (length self.tokens.rest.now) at named }
+        ensures { ((base : ℕ) (ts : List Token) (slots : List Slot) → a_name ts ≡ named_part self.entry.tokens.rest.now base named → Listed self.entry.text.now self.entry.slotspans.now (spellings (slot_names slots))
+            → read_slot slots ts ≡ number_part self.entry.tokens.rest.now base result) × ((at : ℕ) → NamedLies (length self.entry.tokens.rest.now) at named → SlotLies (length self.entry.tokens.rest.now) at result) }
     {
         let spans = self.slotspans;
         place_of(self.text, self.tokens.rest, spans, named)
@@ -45,7 +45,7 @@ impl<'a> Source<'a> {
                 next: next.at,
             });
         }
-        let named = name_of(next)?;
+        let named = name_of(next);
         let first = slot * ROW + 1;
         let spans = self.valuespans;
         let part = &spans[first..first + VALUES];

@@ -1,8 +1,6 @@
 -- `clauses::assignments::assign_next` meets its contract.
 use native.Mathlib.Omega.{arith}
-use mathlib.Core.Path.{◌≡◌, ◌∙◌}
-use borrow.Author.Rules.{rules}
-use Rattle.std.specs.Prelude.{Err}
+use mathlib.Core.Path.{◌∙◌}
 use Rattle.clauses.proofs.AssignmentLaws as assignments
 use Rattle.clauses.proofs.assignments.assign_next.Goals as goal
 
@@ -12,16 +10,9 @@ returns-in-Ok c =
     let r = c.assignments_next.ensures in
     (λ base slots L. assignments.assign_list slots _ _ tt (w.0 base) ∙ r.0 base slots L, assignments.list_earlier _ _ _ c.assignments_next.result (omega (arith, w.1.0)) r.1)
 
-pub returns-in_err-named : goal.returns-in_err-named
-returns-in_err-named c =
-    let r = c.args.s.tokens.rest.now in
-    let n = c.token-next.ensures in
-    let z : c.from_residual.result ≡ Err c.in_err-named.field-0.0 = search rules in
-    rw z (λ base slots L. assignments.assign_unnamed slots _ _ _ ((c.in_default.ensures r c.args.at n).0 base) ((c.in_err-named.ensures r c.args.at n).0 base), tt)
-
 pub returns : goal.returns
 returns c =
     let r = c.args.s.tokens.rest.now in
     let t = c.token-next.ensures in
-    let n = c.in_ok-named.ensures r c.args.at t in
+    let n = c.name_of-named.ensures r c.args.at t in
     (λ base slots L. assignments.assign_one slots _ _ ((c.in_default.ensures r c.args.at t).0 base) ∙ c.single_assignment.ensures.0 base _ slots (n.0 base) L, c.single_assignment.ensures.1 c.args.at n.1)

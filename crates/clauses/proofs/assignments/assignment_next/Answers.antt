@@ -1,11 +1,7 @@
 -- `clauses::assignments::assignment_next` meets its contract.
-use mathlib.Core.Path.{◌≡◌}
-use borrow.Author.Rules.{rules}
-use Rattle.std.specs.Prelude.{Err}
-use Rattle.clauses.proofs.AssignmentLaws as assignments
 use Rattle.clauses.proofs.assignments.assignment_next.Goals as goal
 
-pub returns-in_err-named : goal.returns-in_err-named
-returns-in_err-named c =
-    let z : c.from_residual.result ≡ Err c.in_err-named.field-0.0 = search rules in
-    rw z (λ base slots L. assignments.assignment_unnamed slots _ _ _ (c.in_err-named.ensures.0 base), tt)
+pub returns : goal.returns
+returns c =
+    let n = c.name-named.ensures in
+    (λ base slots L. c.assignment_of.ensures.0 base _ slots (n.0 base) L, c.assignment_of.ensures.1 c.args.at n.1)

@@ -6,6 +6,9 @@ use Rattle.std.specs.Prelude.{Err}
 use Rattle.clauses.proofs.AssignmentLaws as assignments
 use Rattle.clauses.proofs.assignments.assignment_of.Goals as goal
 
+pub assignment_value-requires : goal.assignment_value-requires
+assignment_value-requires c = let p = c.requires in let l = c.in_ok-slot.ensures.1 p.0 p.1 in omega (arith, l.0)
+
 pub returns-in_err-slot : goal.returns-in_err-slot
 returns-in_err-slot c =
     let z : c.from_residual.result ≡ Err c.in_err-slot.field-0.0 = search rules in

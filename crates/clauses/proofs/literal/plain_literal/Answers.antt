@@ -9,6 +9,12 @@ use Rattle.std.specs.Prelude.{Ok, Err}
 use Rattle.clauses.proofs.LiteralLaws as literals
 use Rattle.clauses.proofs.literal.plain_literal.Goals as goal
 
+pub literal_value-requires : goal.literal_value-requires
+literal_value-requires c = let p = c.requires in let l = c.in_ok-slot.ensures.1 p.0 p.1 in omega (arith, l.0)
+
+pub literal_value-requires-in-Second : goal.literal_value-requires-in-Second
+literal_value-requires-in-Second c = let p = c.requires in let l = c.in_ok-slot.ensures.1 p.0 p.1 in omega (arith, l.0)
+
 pub returns-in_err-slot : goal.returns-in_err-slot
 returns-in_err-slot c =
     let z : c.from_residual.result ≡ Err c.in_err-slot.field-0.0 = search rules in

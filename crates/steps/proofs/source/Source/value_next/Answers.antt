@@ -32,30 +32,24 @@ returns-then-eq c =
     let l = places.lies x.self.tokens.rest.now x.at _ _ n t in
     (λ base slots h. ap (read_value slots x.slot) (places.stands x.self.tokens.rest.now base x.at _ _ n t) ∙ spans.none_taken slots x.slot _, (omega arith, l.0, l.1))
 
-pub returns-in_err-named : goal.returns-in_err-named
-returns-in_err-named c =
+pub overflow_add-result : goal.overflow_add-result
+overflow_add-result c =
     let x = c.args in
-    let n = c.token-next.ensures in
-    let t : c.token-next.result.token ≡ v.Word w.None → ⊥ = search rules in
-    let z : c.from_residual.result ≡ Err c.in_err-named.field-0.0 = search rules in
-    rw z (
-      λ base slots l. let here = places.stands x.self.tokens.rest.now base x.at _ _ n refl in
-          ap (read_value slots x.slot) here ∙ spans.value_by_name slots x.slot x.self.tokens.rest.now base _ _ t
-          ∙ ap (read_place (values_of slots x.slot)) (sym here) ∙ spans.place_none _ _ _ ((c.in_err-named.ensures x.self.tokens.rest.now x.at n).0 base),
-      tt,
-    )
+    let d = c.in_ok-found.ensures.1 x.at (c.name_of-named.ensures x.self.tokens.rest.now x.at c.token-next.ensures).1 in
+    let q = part_length x.self.valuespans.now x.slot in
+    record { fits = omega (arith, d.0) }
 
 pub returns-in_err-found : goal.returns-in_err-found
 returns-in_err-found c =
     let x = c.args in
     let n = c.token-next.ensures in
     let t : c.token-next.result.token ≡ v.Word w.None → ⊥ = search rules in
-    let z : c.from_residual-in_err-found.result ≡ Err c.in_err-found.field-0.0 = search rules in
+    let z : c.from_residual.result ≡ Err c.in_err-found.field-0.0 = search rules in
     let p = part-is x.self.valuespans.now x.slot in
     rw z (
       λ base slots l. let here = places.stands x.self.tokens.rest.now base x.at _ _ n refl in
           ap (read_value slots x.slot) here ∙ spans.value_by_name slots x.slot x.self.tokens.rest.now base _ _ t
-          ∙ ap (read_place (values_of slots x.slot)) (sym here) ∙ c.in_err-found.ensures.0 base _ (values_of slots x.slot) ((c.in_ok-named.ensures x.self.tokens.rest.now x.at n).0 base) (rw p l),
+          ∙ ap (read_place (values_of slots x.slot)) (sym here) ∙ c.in_err-found.ensures.0 base _ (values_of slots x.slot) ((c.name_of-named.ensures x.self.tokens.rest.now x.at n).0 base) (rw p l),
       tt,
     )
 
@@ -65,7 +59,7 @@ returns c =
     let n = c.token-next.ensures in
     let t : c.token-next.result.token ≡ v.Word w.None → ⊥ = search rules in
     let p = part-is x.self.valuespans.now x.slot in
-    let e = c.in_ok-named.ensures x.self.tokens.rest.now x.at n in
+    let e = c.name_of-named.ensures x.self.tokens.rest.now x.at n in
     let d = c.in_ok-found.ensures.1 x.at e.1 in
     let q = part_length x.self.valuespans.now x.slot in (
       λ base slots l. let here = places.stands x.self.tokens.rest.now base x.at _ _ n refl in
