@@ -69,16 +69,18 @@ pub fn read_into(text: &[u8], way: Way, limits: Limits, t: &mut Table) -> Result
                 return Ok(());
             }
             Ok(Statement::Slot(read)) => {
-                let line = read.value;
-                let values = line.values;
                 enter(
                     &mut slotspans,
                     &mut valuespans,
                     width,
-                    line.name,
-                    values.places,
+                    read.value.name,
+                    read.value.values.places,
                 );
-                t.slots[width] = slot_of(line.name, values.places, values.count);
+                t.slots[width] = slot_of(
+                    read.value.name,
+                    read.value.values.places,
+                    read.value.values.count,
+                );
                 t.width += 1;
                 rest = &rest[read.next..];
                 base += read.next;
