@@ -237,16 +237,16 @@ typedef struct {
     size_t fired;
 } RlResponse;
 
-/* Reads a rule text into a table with the least strata, or refuses it with 10 to 18; 18 is for rules in a circle of tests by `*=` that passes through a NOT, with the lowest rule on such a circle. Stack: 455,960 bytes. */
+/* Reads a rule text into a table with the least strata, or refuses it with 10 to 18; 18 is for rules in a circle of tests by `*=` that passes through a NOT, with the lowest rule on such a circle. Stack: 359,704 bytes. */
 RlRead rl_read(const uint8_t *text, size_t text_length);
 
-/* Reads a rule text without test 18, for the response by marks: into a table with stratum 0 throughout, whether strata exist or not, or refuses it with 10 to 17. Such a table is for `rl_respond_by_marks` and the names; unless it has no rules, `rl_is_sound` says no, and `rl_respond`, packing and unpacking say 31. Its cards and slips are packed and unpacked by a table of the same slots without rules: a copy of it with `count` 0, or what `rl_read` gives for the text's slot lines alone. Stack: 421,320 bytes. */
+/* Reads a rule text without test 18, for the response by marks: into a table with stratum 0 throughout, whether strata exist or not, or refuses it with 10 to 17. Such a table is for `rl_respond_by_marks` and the names; unless it has no rules, `rl_is_sound` says no, and `rl_respond`, packing and unpacking say 31. Its cards and slips are packed and unpacked by a table of the same slots without rules: a copy of it with `count` 0, or what `rl_read` gives for the text's slot lines alone. Stack: 325,064 bytes. */
 RlRead rl_read_unlayered(const uint8_t *text, size_t text_length);
 
 /* Prints a rule text in the house style into the output, or refuses it with 10 to 18, 34 (the print would pass 262,144 bytes), 33 (the output is shorter than the print); bytes beyond the print, and all after a refusal, stay as they are. Stack: 460,808 bytes. */
 RlPrinted rl_print(const uint8_t *text, size_t text_length, uint8_t *out, size_t out_length);
 
-/* Says whether a table is in order; with one that is not, the functions below that take it say 31, but for the names, and the responses 44 or 32 before it where the editor has no record or a full one. `rl_respond_by_marks` takes one more: a table that would be in order but for its stratum 0 throughout. Stack: 202,216 bytes. */
+/* Says whether a table is in order; with one that is not, the functions below that take it say 31, but for the names, and the responses 44 or 32 before it where the editor has no record or a full one. `rl_respond_by_marks` takes one more: a table that would be in order but for its stratum 0 throughout. Stack: 202,232 bytes. */
 bool rl_is_sound(RlTable table);
 
 /* Says where a slot's name stands in the text, or 31. Stack: 192,536 bytes. */
@@ -255,25 +255,25 @@ RlName rl_slot_name(const uint8_t *text, size_t text_length, RlTable table, size
 /* Says where the name of a slot's value stands in the text, values counted from 1, or 31. Value 0, NONE, is declared nowhere in the text: its name is 31, and a caller who shows changes writes the word. Stack: 192,664 bytes. */
 RlName rl_value_name(const uint8_t *text, size_t text_length, RlTable table, size_t slot, size_t value);
 
-/* Unpacks bytes as a card, or refuses them with 31, 20 to 23. Stack: 202,488 bytes. */
+/* Unpacks bytes as a card, or refuses them with 31, 20 to 23. Stack: 202,456 bytes. */
 RlCard rl_unpack_card(RlTable table, const uint8_t *bytes, size_t bytes_length);
 
-/* Unpacks bytes as a slip, or refuses them with 31, 24 to 28. A change may have value 0; 27 is for a value above the slot's last. Stack: 202,696 bytes. */
+/* Unpacks bytes as a slip, or refuses them with 31, 24 to 28. A change may have value 0; 27 is for a value above the slot's last. Stack: 202,632 bytes. */
 RlSlip rl_unpack_slip(RlTable table, const uint8_t *bytes, size_t bytes_length);
 
 /* Packs a card into the output, or refuses it with 31, 21, 22, 30; bytes beyond the packed length, and all after a refusal, stay as they are. Stack: 202,344 bytes. */
 RlPacked rl_pack_card(RlTable table, RlCardForm card, uint8_t *out, size_t out_length);
 
-/* Packs a slip into the output, or refuses it with 31, 24 to 27, 30; other bytes stay as they are. A change may have value 0, as in unpacking. Stack: 202,376 bytes. */
+/* Packs a slip into the output, or refuses it with 31, 24 to 27, 30; other bytes stay as they are. A change may have value 0, as in unpacking. Stack: 202,392 bytes. */
 RlPacked rl_pack_slip(RlTable table, RlSlipForm slip, uint8_t *out, size_t out_length);
 
-/* Responds to an editor's packed card and packed slip by strata: writes the new card (as long as the card), the changes as a packed slip (`length` bytes; the output has 37 at least) and the fired record, or refuses with 44 (the editor number is not from 1 to 40, or there are not forty records), 32 (the editor's own record is full; no other is looked at), 31, 20 to 28, 30, 40; other bytes stay as they are. An answer adds one to slips answered in the editor's record, a refusal but 44 and 32 one to slips refused; no other record changes, and 44 and 32 change none. Stack: 254,200 bytes. */
+/* Responds to an editor's packed card and packed slip by strata: writes the new card (as long as the card), the changes as a packed slip (`length` bytes; the output has 37 at least) and the fired record, or refuses with 44 (the editor number is not from 1 to 40, or there are not forty records), 32 (the editor's own record is full; no other is looked at), 31, 20 to 28, 30, 40; other bytes stay as they are. An answer adds one to slips answered in the editor's record, a refusal but 44 and 32 one to slips refused; no other record changes, and 44 and 32 change none. Stack: 254,184 bytes. */
 RlResponse rl_respond(RlTable table, RlTally *records, size_t records_length, size_t editor, const uint8_t *card,
                       size_t card_length, const uint8_t *slip, size_t slip_length, uint8_t *new_card,
                       size_t new_card_length, uint8_t *changes, size_t changes_length, uint8_t *fired,
                       size_t fired_length);
 
-/* Responds by marks: takes a table of `rl_read` or of `rl_read_unlayered`, and writes, gives and counts what `rl_respond` does, or refuses with 44, 32, 31, 20 to 28, 30, 41 (a value of a slot, NONE among them, would be both positive and negative), 42 (one stays unknown), the last two with second number 0; other bytes stay as they are. Where `rl_respond` answers too, by the text's table with strata, the answers are equal. Stack: 254,200 bytes. */
+/* Responds by marks: takes a table of `rl_read` or of `rl_read_unlayered`, and writes, gives and counts what `rl_respond` does, or refuses with 44, 32, 31, 20 to 28, 30, 41 (a value of a slot, NONE among them, would be both positive and negative), 42 (one stays unknown), the last two with second number 0; other bytes stay as they are. Where `rl_respond` answers too, by the text's table with strata, the answers are equal. Stack: 254,184 bytes. */
 RlResponse rl_respond_by_marks(RlTable table, RlTally *records, size_t records_length, size_t editor,
                                const uint8_t *card, size_t card_length, const uint8_t *slip, size_t slip_length,
                                uint8_t *new_card, size_t new_card_length, uint8_t *changes, size_t changes_length,

@@ -6,7 +6,7 @@ import sys
 
 TOP = os.path.dirname(os.path.dirname(os.path.abspath(__file__)))
 
-# The functions that a caller may hand anything, by crate.
+# The functions that a caller may hand anything, by crate: the entry points, and `read_into` below one of them.
 ENTRY_POINTS = {
     'text': ['token_at'],
     'cursor': ['new', 'peek', 'advance', 'first', 'after'],

@@ -28,9 +28,9 @@ pub fn skip_nots(tokens: Tokens, start: usize) -> Nots
     let mut negated = false;
     loop {
         let next = tokens.token(at);
-        let Token::Word(Word::Not) = next.token else {
+        if next.token != Token::Word(Word::Not) {
             return Nots { next, negated };
-        };
+        }
         at = next.at;
         negated = !negated;
     }
