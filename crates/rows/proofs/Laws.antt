@@ -10,7 +10,7 @@ use native.Mathlib.Omega.{arith}
 use lib.Dec.{eqb}
 use Rattle.laws.proofs.Equations.{either}
 use Rattle.laws.specs.Truth.{◌∧ᵇ◌, notᵇ}
-use lib.ListN.{length, get_or, set, take, drop, replicate, length-map, length-take, length-drop, length-set, length-replicate, get_or-replicate, get_or-map}
+use lib.ListN.{length, get_or, set, take, drop, length-map, length-take, length-drop, length-set, length-replicate, get_or-replicate, get_or-map}
 use lib.Seq.{get_or-take, get_or-drop, get_or-set_same, get_or-set_other}
 use Rattle.laws.specs.Limits.{slot_limit, rule_limit, literal_limit, assignment_limit}
 use Rattle.model.specs.Rules as model
@@ -185,6 +185,12 @@ at_last P i below top k h = ⊎_elim (λ (e : k ≡ i). subst P (sym e) top) (λ
 pub entered_start : (rs : List Rule) (rows : List (List ℕ)) → RowsShaped rows → Entered rs rows 0
 entered_start rs rows s = record { shaped = s; each = λ i h. absurd (let z = h in omega arith) }
 
+-- One row more has its rule.
+pub row_next : (rs : List Rule) (rows : List (List ℕ)) (i : ℕ) (row : List ℕ) → i < length rows → Row (get_or rs i zero_rule) row → ((k : ℕ) → k < i → Row (get_or rs k zero_rule) (get_or rows k [])) → (k : ℕ) → k < i + 1 → Row (get_or rs k zero_rule) (get_or (set rows i row) k [])
+row_next rs rows i row h r e = at_last (λ k. Row (get_or rs k zero_rule) (get_or (set rows i row) k [])) i
+    (λ k b. rw (get_or-set_other rows i k row [] (λ (q : k ≡ i). omega arith)) (e k b))
+    (rw (get_or-set_same rows i row [] h) r)
+
 -- One rule more is written into its row.
 pub entered_next : (rs : List Rule) (rows : List (List ℕ)) (i : ℕ) (row : List ℕ) → i < length rows → Row (get_or rs i zero_rule) row → Entered rs rows i → Entered rs (set rows i row) (i + 1)
 entered_next rs rows i row h r e = record {
@@ -194,9 +200,7 @@ entered_next rs rows i row h r e = record {
         (λ (q : k ≡ i → ⊥). rw (get_or-set_other rows i k row [] q) (e.shaped.each_row k (rw (length-set rows i row) at b)))
         (either k i);
   };
-  each = at_last (λ k. Row (get_or rs k zero_rule) (get_or (set rows i row) k [])) i
-      (λ k b. rw (get_or-set_other rows i k row [] (λ (q : k ≡ i). omega arith)) (e.each k b))
-      (rw (get_or-set_same rows i row [] h) r);
+  each = row_next rs rows i row h r e.each;
 }
 
 -- Rows that rules were written into fit.

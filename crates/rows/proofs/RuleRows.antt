@@ -1,22 +1,22 @@
--- Rows of the type: each keeps its bounds, wherever it stands, and the table that they stand for fits.
+-- Rows of the type: each keeps its bounds, wherever it stands, and the table that they stand for fits. And places of any kind that rows of rules are written into.
 -- Assumes nothing.
-use mathlib.Core.Path.{◌≡◌, refl, sym, ap, ◌∙◌}
+use mathlib.Core.Path.{◌≡◌, refl, sym, ap, ap₂, ◌∙◌}
 use mathlib.Core.List.{List, [], ◌∷◌, map}
 use Prim.Native.Nat.{ℕ, zero, suc, ◌+◌, ◌≤◌, ◌<◌}
-use native.Mathlib.Nat.{le_of_suc-le-suc}
 use native.Mathlib.Omega.{arith}
 use lib.ListN.{length, get_or, set, take, replicate}
-use Rattle.std.proofs.lemmas.List.{length-map, get_or-map}
+use Rattle.std.proofs.lemmas.List.{length-map, length-take-le, take-map, map-set, get_or-map, get_or-take}
 use Rattle.laws.specs.Limits.{rule_limit}
 use Rattle.table.specs.declared.Rule.{Rule}
+use Rattle.table.specs.declared.Table.{Table}
 use Rattle.table.specs.Zero.{zero_rule}
-use Rattle.table.specs.Link.{rule_of, rules_of, carried_strata}
+use Rattle.table.specs.Link.{rules_of, carried_strata}
 use Rattle.table.specs.inner.Fits.{TableFits}
 use Rattle.table.specs.inner.Shape.{Shaped}
 use Rattle.rows.specs.declared.RuleRow.{RuleRow}
-use Rattle.rows.specs.inner.Rows.{rule_in, table_in, RowBounded, Row, RowsShaped, RowsBounded, Entered}
-use Rattle.rows.specs.inner.RuleRows.{numbers_of, rows_table}
-use Rattle.rows.proofs.Laws.{entered_next, rule_row, rows_count, rows_table_shaped, rows_table_fits}
+use Rattle.rows.specs.inner.Rows.{rule_in, table_in, RowBounded, Row, RowsShaped, RowsFit, RowsBounded, Entered}
+use Rattle.rows.specs.inner.RuleRows.{numbers_of, held_table, rows_table}
+use Rattle.rows.proofs.Laws.{row_next, entered_next, entered_fit, entered_rules, entered_strata, rule_row, rows_count, rows_table_shaped, rows_table_fits}
 
 -- The numbers of the row at a place.
 pub at_row : (rows : List RuleRow) (i : ℕ) (d : RuleRow) → i < length rows → get_or (numbers_of rows) i [] ≡ (get_or rows i d).numbers
@@ -86,16 +86,33 @@ numbers_replicate (suc n) row = ap (λ us. row.numbers ∷ us) (numbers_replicat
 pub entered_set : (rs : List Rule) (rows : List RuleRow) (i : ℕ) (row : RuleRow) → i < length rows → Row (get_or rs i zero_rule) row.numbers → Entered rs (numbers_of rows) i → Entered rs (numbers_of (set rows i row)) (i + 1)
 entered_set rs rows i row l r e = rw (numbers_set rows i row) (entered_next rs (numbers_of rows) i row.numbers (omega (arith, rows_length rows)) r e)
 
--- The first n of them stand for the first n rules, with their strata.
-taken_rows : {A : Type 0} (g : Rule → A) (rows : List RuleRow) (n : ℕ) → n ≤ length rows → map g (take (length (take n rows)) (map rule_in (numbers_of (take n rows)))) ≡ map g (take n (map rule_in (numbers_of rows)))
-taken_rows g rows zero h = refl
-taken_rows g [] (suc n) h = absurd (omega arith)
-taken_rows g (r ∷ rows) (suc n) h = ap (λ us. g (rule_in r.numbers) ∷ us) (taken_rows g rows n (le_of_suc-le-suc h))
+-- The first n places hold rows of the first n rules.
+abbrev pub EnteredIn : {A : Type 0} → (A → List ℕ) → List Rule → List A → ℕ → Type 0
+EnteredIn numbers rs places n = (i : ℕ) → i < n → Row (get_or rs i zero_rule) (get_or (map numbers places) i [])
 
-pub taken_rules : (rows : List RuleRow) (n : ℕ) → n ≤ length rows → rules_of (rows_table (take n rows)) ≡ rules_of (table_in (numbers_of rows) n)
-unfolding rules_of table_in
-taken_rules rows n h = taken_rows rule_of rows n h
+-- One rule more is written into its place.
+pub entered_in_next : {A : Type 0} (numbers : A → List ℕ) (rs : List Rule) (places : List A) (i : ℕ) (place : A) → i < length places → Row (get_or rs i zero_rule) (numbers place) → EnteredIn numbers rs places i → EnteredIn numbers rs (set places i place) (i + 1)
+entered_in_next numbers rs places i place h r e = rw (map-set numbers places i place) (row_next rs (map numbers places) i (numbers place) (rw (length-map places numbers) h) r e)
 
-pub taken_strata : (rows : List RuleRow) (n : ℕ) → n ≤ length rows → carried_strata (rows_table (take n rows)) ≡ carried_strata (table_in (numbers_of rows) n)
-unfolding carried_strata table_in
-taken_strata rows n h = taken_rows (λ r. r.stratum) rows n h
+-- Places that hold rows of a table's rules stand for these, with their strata: the rows by themselves are entered and fit.
+module _ {A : Type 0} (numbers : A → List ℕ) (t : Table) (places : List A) (sh : Shaped t) (few : t.count ≤ rule_limit) (inside : t.count ≤ length places) (e : EnteredIn numbers t.rules places t.count) where
+  held_first : held_table numbers (take t.count places) ≡ table_in (take t.count (map numbers places)) t.count
+  held_first = ap₂ table_in (sym (take-map numbers t.count places)) (length-take-le t.count places inside)
+
+  first_length : length (take t.count (map numbers places)) ≡ t.count
+  first_length = length-take-le t.count (map numbers places) (rw (length-map places numbers) inside)
+
+  first_row : (i : ℕ) → i < t.count → Row (get_or t.rules i zero_rule) (get_or (take t.count (map numbers places)) i [])
+  first_row i l = rw (get_or-take t.count (map numbers places) i [] l) (e i l)
+
+  first_entered : Entered t.rules (take t.count (map numbers places)) t.count
+  first_entered = record { shaped = record { each_row = λ i l. (first_row i (omega (arith, l, first_length))).fits.row_shaped }; each = first_row }
+
+  first_fit : RowsFit (take t.count (map numbers places)) t.count
+  first_fit = entered_fit t.rules (take t.count (map numbers places)) t.count few (omega (arith, first_length)) first_entered
+
+  pub held_rules : rules_of (held_table numbers (take t.count places)) ≡ rules_of t
+  held_rules = ap rules_of held_first ∙ entered_rules t (take t.count (map numbers places)) sh first_fit first_entered
+
+  pub held_strata : carried_strata (held_table numbers (take t.count places)) ≡ carried_strata t
+  held_strata = ap carried_strata held_first ∙ entered_strata t (take t.count (map numbers places)) sh first_fit first_entered

@@ -1,42 +1,57 @@
 -- What is kept of a table that passed stands for it.
 -- Assumes nothing.
-use mathlib.Core.Path.{◌≡◌, ◌∙◌}
-use mathlib.Core.List.{List}
-use Prim.Native.Nat.{ℕ, ◌≤◌}
+use mathlib.Core.Path.{◌≡◌, sym}
+use mathlib.Core.List.{List, [], map}
+use Prim.Native.Nat.{ℕ, ◌≤◌, ◌<◌}
 use native.Mathlib.Omega.{arith}
-use lib.ListN.{length, take}
+use lib.ListN.{length, get_or, take}
+use Rattle.std.proofs.lemmas.List.{length-map, length-take-le, take-map, get_or-take}
 use Rattle.laws.specs.Limits.{rule_limit}
 use Rattle.table.specs.declared.Table.{Table}
 use Rattle.table.specs.inner.Shape.{Shaped}
 use Rattle.table.specs.Link.{stratum_at}
-use Rattle.rows.specs.declared.RuleRow.{RuleRow}
-use Rattle.rows.specs.inner.Rows.{Entered}
-use Rattle.rows.specs.inner.RuleRows.{numbers_of, rows_table}
-use Rattle.rows.proofs.Laws.{entered_fit, entered_rules, entered_strata}
-use Rattle.rows.proofs.RuleRows.{rows_length, taken_rules, taken_strata}
+use Rattle.rows.specs.inner.Rows.{RowBounded, RowsBounded}
+use Rattle.rows.specs.inner.RuleRows.{held_table}
+use Rattle.rows.proofs.RuleRows.{EnteredIn, held_rules, held_strata}
+use Rattle.rows.proofs.Laws.{fits_bounded}
 use Rattle.leastness.specs.CarriesLeast.{carries_least}
-use Rattle.soundness.specs.inner.Admitted.{Admitted, EntryKept}
+use Rattle.soundness.specs.inner.Admitted.{AdmittedIn, EntryKeptIn}
 use Rattle.soundness.specs.declared.Entry.{Entry}
 use Rattle.soundness.proofs.WellFormed.{Counted}
 
 -- All slots are counted and all rules are entered.
-pub admitted : (t : Table) (counts : List ℕ) (rows : List RuleRow) → Shaped t → t.count ≤ rule_limit → t.count ≤ length rows → Counted t t.width counts → Entered t.rules (numbers_of rows) t.count → Admitted t counts rows
-admitted t counts rows sh few inside g e =
-    let f = entered_fit t.rules (numbers_of rows) t.count few (omega (arith, inside, rows_length rows)) e in
-    record {
-      same_count = g.same_count;
-      few = few;
-      inside = inside;
-      rows_fit = f;
-      same_rules = taken_rules rows t.count inside ∙ entered_rules t (numbers_of rows) sh f e;
-      same_strata = taken_strata rows t.count inside ∙ entered_strata t (numbers_of rows) sh f e;
-    }
+pub admitted : {A : Type 0} (numbers : A → List ℕ) (t : Table) (counts : List ℕ) (places : List A) → Shaped t → t.count ≤ rule_limit → t.count ≤ length places → Counted t t.width counts → EnteredIn numbers t.rules places t.count → AdmittedIn numbers t counts places
+admitted numbers t counts places sh few inside g e = record {
+  same_count = g.same_count;
+  few = few;
+  inside = inside;
+  each_fits = λ i l. (e i l).fits;
+  same_rules = held_rules numbers t places sh few inside e;
+  same_strata = held_strata numbers t places sh few inside e;
+}
 
--- The rows carry the least strata exactly where the table does.
-pub admitted_least : (t : Table) (counts : List ℕ) (rows : List RuleRow) → Admitted t counts rows → carries_least (rows_table (take t.count rows)) ≡ carries_least t
+-- The places carry the least strata exactly where the table does.
+pub admitted_least : {A : Type 0} {numbers : A → List ℕ} (t : Table) (counts : List ℕ) (places : List A) → AdmittedIn numbers t counts places → carries_least (held_table numbers (take t.count places)) ≡ carries_least t
 unfolding carries_least stratum_at
-admitted_least t counts rows a = rw (a.same_rules, a.same_strata)
+admitted_least t counts places a = rw (a.same_rules, a.same_strata)
 
--- So do as many rows as it says.
-pub kept_least : (t : Table) (e : Entry) (counts : List ℕ) (rows : List RuleRow) → EntryKept t e counts rows → carries_least (rows_table (take e.count rows)) ≡ carries_least t
-kept_least t e counts rows w = rw w.count_is (admitted_least t counts rows w.admitted)
+-- So do as many places as it says.
+pub kept_least : {A : Type 0} {numbers : A → List ℕ} (t : Table) (e : Entry) (counts : List ℕ) (places : List A) → EntryKeptIn numbers t e counts places → carries_least (held_table numbers (take e.count places)) ≡ carries_least t
+kept_least t e counts places w = rw w.count_is (admitted_least t counts places w.admitted)
+
+-- The rows in so many places keep their bounds.
+pub kept_bounded : {A : Type 0} {numbers : A → List ℕ} (t : Table) (e : Entry) (counts : List ℕ) (places : List A) → EntryKeptIn numbers t e counts places → RowsBounded (map numbers (take e.count places)) (length (take e.count places))
+kept_bounded {A} {numbers} t e counts places w =
+    let a = w.admitted in
+    let few : e.count ≤ rule_limit = omega (arith, w.count_is, a.few) in
+    let inside : e.count ≤ length places = omega (arith, w.count_is, a.inside) in
+    let l = length-take-le e.count places inside in
+    let m = length-map (take e.count places) numbers in
+    let each : (i : ℕ) → i < e.count → RowBounded (get_or (map numbers (take e.count places)) i []) =
+    λ i b. rw (sym (take-map numbers e.count places), get_or-take e.count (map numbers places) i [] b) (fits_bounded _ (a.each_fits i (omega (arith, b, w.count_is)))) in
+    record {
+      rows_shaped = record { each_row = λ i b. (each i (omega (arith, b, l, m))).row_shaped };
+      few = omega (arith, few, l);
+      inside = omega (arith, m);
+      each_bounded = λ i b. each i (omega (arith, b, l));
+    }

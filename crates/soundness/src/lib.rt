@@ -1,14 +1,16 @@
 // The test of a table (31).
 #![tactic(auto)]
 
+pub mod places;
 mod right;
 
-ghost use Rattle.std.specs.Prelude.{◌≡◌, ◌≤◌, length};
+ghost use Rattle.std.specs.Prelude.{◌≡◌, ◌≤◌, length, drop};
 ghost use Rattle.laws.specs.Limits.{slot_limit, rule_limit};
 ghost use Rattle.rows.specs.inner.RuleRows.{rows_table};
 ghost use Rattle.soundness.specs.Sound.{well_formed, sound, stratum_0, strata_right};
-ghost use Rattle.soundness.specs.inner.Admitted.{Enters};
+ghost use Rattle.soundness.specs.inner.Admitted.{EntersIn};
 
+use crate::places::RowPlace;
 use rows::{FEW, RuleRow, SOME};
 use table::{RULES, SLOTS, Table, VALUES, Way};
 
@@ -19,10 +21,11 @@ pub struct Entry {
     pub count: usize,
 }
 
-// The test of a table without its strata: what passes is entered, its rules into their rows and how many values each slot has into the counts.
-pub fn enter(t: &Table, counts: &mut [usize; SLOTS], rows: &mut [RuleRow]) -> Option<Entry>
+// The test of a table without its strata: what passes is entered, its rules into their rows, or arrays, and how many values each slot has into the counts; places beyond the rules stay as they were.
+pub fn enter<P: RowPlace>(t: &Table, counts: &mut [usize; SLOTS], rows: &mut [P]) -> Option<Entry>
     requires { (t.now.count ≤ rule_limit → t.now.count ≤ length rows.old) × (length counts.old ≡ slot_limit) }
-    ensures { Enters t.now (well_formed t.now) result counts.new rows.new }
+    ensures entered { EntersIn P.numbers t.now (well_formed t.now) result counts.new rows.new }
+    ensures beyond { drop t.now.count rows.new ≡ drop t.now.count rows.old }
 {
     let width = t.width as usize;
     if SLOTS < width {
@@ -44,7 +47,7 @@ pub fn enter(t: &Table, counts: &mut [usize; SLOTS], rows: &mut [RuleRow]) -> Op
         if !right::is_right(r, &counts[..width]) {
             return None;
         }
-        rows[i] = RuleRow::of(r);
+        rows[i].put(RuleRow::of(r));
     }
     Some(Entry { width, count: n })
 }
@@ -73,12 +76,13 @@ fn is_well_formed_in<const N: usize>(t: &Table) -> bool
 }
 
 // The test of a table: well-formed, and it carries the least strata; what passes is entered.
-pub fn admit(t: &Table, counts: &mut [usize; SLOTS], rows: &mut [RuleRow]) -> Option<Entry>
+pub fn admit<P: RowPlace>(t: &Table, counts: &mut [usize; SLOTS], rows: &mut [P]) -> Option<Entry>
     requires { (t.now.count ≤ rule_limit → t.now.count ≤ length rows.old) × (length counts.old ≡ slot_limit) }
-    ensures { Enters t.now (sound t.now) result counts.new rows.new }
+    ensures entered { EntersIn P.numbers t.now (sound t.now) result counts.new rows.new }
+    ensures beyond { drop t.now.count rows.new ≡ drop t.now.count rows.old }
 {
     let entry = enter(t, counts, rows)?;
-    if leastness::is_least(&rows[..entry.count]) {
+    if P::are_least(&rows[..entry.count]) {
         Some(entry)
     } else {
         None

@@ -9,7 +9,7 @@ use Rattle.response.proofs.respond_in.Goals as goal
 pub conclude-requires : goal.conclude-requires
 conclude-requires g c =
     let l = length-replicate g.row.N false in
-    ((c.args.t.now, c.enter-entry.ensures), record { room = omega (arith, l, c.enter-entry.array_long); none = ap (λ (k : ℕ). replicate k false) (sym l) })
+    ((c.args.t.now, c.enter-entry.ensures.entered), record { room = omega (arith, l, c.enter-entry.array_long); none = ap (λ (k : ℕ). replicate k false) (sym l) })
 
 pub returns : goal.returns
-returns g c = c.conclude.ensures c.args.t.now c.enter-entry.ensures
+returns g c = c.conclude.ensures c.args.t.now c.enter-entry.ensures.entered

@@ -1,7 +1,7 @@
 -- `read_into` meets its contract.
 use Prim.Native.Nat.{ℕ, ◌≤◌}
 use native.Mathlib.Omega.{arith}
-use mathlib.Core.Path.{◌≡◌, refl, sym, ap, ◌∙◌, subst}
+use mathlib.Core.Path.{◌≡◌, sym, ap, ◌∙◌, subst}
 use borrow.Author.Rules.{rules}
 use lib.ListN.{replicate, length, take, length-set}
 use Rattle.std.proofs.lemmas.List.{length-take-le}
@@ -10,8 +10,8 @@ use Rattle.grammar.specs.Reading.{refused, bytes_by, rules_by, Parsed, parse, pa
 use Rattle.grammar.proofs.Forward.{read_long, read_short}
 use Rattle.grammar.proofs.Within.{bytes_low, rules_low, accepted_by}
 use Rattle.reader.proofs.ReadLaws.{halfway_start, halfway_width, halfway_count, halfway_slot, halfway_rule, Halfway}
-use Rattle.rows.proofs.Laws.{entered_start, entered_fit, entered_rules}
-use Rattle.rows.proofs.RuleRows.{all_rows_shaped, all_count, rows_length, taken_rules, entered_set}
+use Rattle.rows.proofs.Laws.{entered_start}
+use Rattle.rows.proofs.RuleRows.{all_rows_shaped, all_count, entered_set, held_rules}
 use Rattle.strata.specs.inner.Settled.{settled}
 use Rattle.strata.proofs.Settled.{circle_named, no_circle_named}
 use Rattle.strata.specs.Layered.{with_strata}
@@ -24,9 +24,9 @@ use Rattle.text.specs.Tokens.{tokens}
 use Rattle.grammar.specs.Files.{File}
 use Rattle.table.specs.declared.Table.{Table}
 use Rattle.table.specs.declared.Limits.{Limits}
-use Rattle.table.specs.declared.Way.{Way}
 use Rattle.table.specs.inner.Fits.{TableFits}
 use Rattle.table.specs.inner.Shape.{Shaped}
+use Rattle.rows.specs.declared.RuleRow.{RuleRow}
 use Rattle.rows.specs.inner.Rows.{Entered}
 use Rattle.rows.specs.inner.RuleRows.{numbers_of, rows_table}
 use Rattle.strata.specs.inner.Heights.{least_numbers}
@@ -137,7 +137,7 @@ same c =
     let t = c.statements.t in
     let few : t.count ≤ rule_limit = omega (arith, c.rows.invariant.0, c.from-count.ensures) in
     let inside : t.count ≤ length c.rows.rows = omega (arith, few, c.rows.invariant.1) in
-    rw c.from-count.ensures (taken_rules c.rows.rows t.count inside ∙ entered_rules t (numbers_of c.rows.rows) (shape (end-at (goal.at.After-find c).At-rows)) (entered_fit t.rules (numbers_of c.rows.rows) t.count few (omega (arith, inside, rows_length c.rows.rows)) (entered c)) (entered c))
+    rw c.from-count.ensures (held_rules (λ (r : RuleRow). r.numbers) t c.rows.rows (shape (end-at (goal.at.After-find c).At-rows)) few inside (entered c).each)
 
 -- What is found of them is what the table's rules have.
 circle-is : (c : After-find) → c.find.result ≡ settled (circle_of weak (rules_of c.statements.t))
