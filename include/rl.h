@@ -243,7 +243,7 @@ RlRead rl_read(const uint8_t *text, size_t text_length);
 /* Reads a rule text without test 18, for the response by marks: into a table with stratum 0 throughout, whether strata exist or not, or refuses it with 10 to 17. Such a table is for `rl_respond_by_marks` and the names; unless it has no rules, `rl_is_sound` says no, and `rl_respond`, packing and unpacking say 31. Its cards and slips are packed and unpacked by a table of the same slots without rules: a copy of it with `count` 0, or what `rl_read` gives for the text's slot lines alone. Stack: 325,064 bytes. */
 RlRead rl_read_unlayered(const uint8_t *text, size_t text_length);
 
-/* Prints a rule text in the house style into the output, or refuses it with 10 to 18, 34 (the print would pass 262,144 bytes), 33 (the output is shorter than the print); bytes beyond the print, and all after a refusal, stay as they are. Stack: 460,808 bytes. */
+/* Prints a rule text in the house style into the output, or refuses it with 10 to 18, 34 (the print would pass 262,144 bytes), 33 (the output is shorter than the print); bytes beyond the print, and all after a refusal, stay as they are. Stack: 364,568 bytes. */
 RlPrinted rl_print(const uint8_t *text, size_t text_length, uint8_t *out, size_t out_length);
 
 /* Says whether a table is in order; with one that is not, the functions below that take it say 31, but for the names, and the responses 44 or 32 before it where the editor has no record or a full one. `rl_respond_by_marks` takes one more: a table that would be in order but for its stratum 0 throughout. Stack: 202,232 bytes. */

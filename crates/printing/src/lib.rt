@@ -18,27 +18,27 @@ use writing::spelling::Spelling;
 pub mod spans;
 
 // The print of an accepted text's table: counted first, with no room to write, then written where it is within the limit of a text and the output has room.
-fn print_table(text: &[u8], t: Table, out: &mut [u8]) -> Result<usize, Refusal>
-    requires { ((reading text.now).outcome ≡ Accepted) × (t ≡ (reading text.now).table) }
+fn print_table(text: &[u8], t: &Table, out: &mut [u8]) -> Result<usize, Refusal>
+    requires { ((reading text.now).outcome ≡ Accepted) × (t.now ≡ (reading text.now).table) }
     ensures { (printing_said result ≡ printing_of (fitted (print_of (parse text.now)) (length out.old))) × (out.new ≡ output_of (fitted (print_of (parse text.now)) (length out.old)) out.old) }
 {
     let mut slotspans: [usize; SLOTS] = [0; SLOTS];
     let mut valuespans: [usize; PAIRS] = [0; PAIRS];
-    enter_slots(text, t, &mut slotspans, &mut valuespans);
+    enter_slots(text, *t, &mut slotspans, &mut valuespans);
     let mut nowhere: [u8; 1] = [0; 1];
     let spelling = Spelling {
         text,
         slotspans: &slotspans,
         valuespans: &valuespans,
     };
-    let size = put_file(&mut nowhere, spelling, t);
+    let size = put_file(&mut nowhere, spelling, *t);
     if TEXT_LIMIT < size {
         return Err(Refusal::LongPrint);
     }
     if out.len() < size {
         return Err(Refusal::ShortPrint);
     }
-    let end = put_file(out, spelling, t);
+    let end = put_file(out, spelling, *t);
     Ok(end)
 }
 
@@ -48,5 +48,5 @@ pub fn print(text: &[u8], out: &mut [u8]) -> Result<usize, Refusal>
 {
     let mut t = table::empty_table();
     rule_file::read_into(text, Way::Strata, Limits::Library, &mut t)?;
-    print_table(text, t, out)
+    print_table(text, &t, out)
 }

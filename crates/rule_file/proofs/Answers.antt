@@ -38,7 +38,7 @@ use Rattle.names.specs.Names.{show_slot, show_value}
 use Rattle.strata.specs.Layered.{with_strata}
 use Rattle.soundness.specs.Sound.{sound}
 use Rattle.soundness.proofs.WellFormed.{well_formed_fits}
-use Rattle.strata.proofs.Written.{same_rules, same_counts, stratum_now}
+use Rattle.strata.proofs.Written.{same_rules, same_counts, stratum_now, still_shaped}
 use Rattle.soundness.proofs.Passes.{layered_passes, empty_passes}
 use Rattle.reader.specs.Tables.{reading_refusal, Accepted, Refused, FileRead}
 use Rattle.grammar.specs.TableFor.{table_for}
@@ -177,6 +177,15 @@ accepted_table text o =
     let sh = file_shaped f D in
     let t = ap (λ (a : FileRead). a.table) (reading_file text f e ∙ layered_zero f (no_circle weak f.rules w.2.0 w.2.1)) in
     (f, e, t, ap rules_of t ∙ same_rules (table_for f) (well_formed_fits (table_for f) sh (file_well_formed f D)) sh ∙ file_rules f)
+
+-- An accepted text's table has its places.
+pub accepted_shaped : (text : List ℕ) → (reading text).outcome ≡ Accepted → Shaped (reading text).table
+accepted_shaped text o =
+    let w = (reading_accepted_iff text).1 o in
+    let f = w.0 in
+    let e = (accepts_iff text f).1 w.1 in
+    let z = no_circle weak f.rules w.2.0 w.2.1 in
+    rw (reading_file text f e ∙ layered_zero f z) (still_shaped (table_for f) (file_table_fits text f e) (file_table_shaped text f e) (rw (file_rules f) z))
 
 -- An accepted text's table carries its file.
 pub reading_carries : (text : List ℕ) → (reading text).outcome ≡ Accepted → Carries text (reading text).table

@@ -3,7 +3,7 @@
 use mathlib.Core.Path.{◌≡◌, refl, sym, ap}
 use Prim.Native.Nat.{ℕ, zero, suc, ◌<◌}
 use native.Mathlib.Omega.{arith}
-use Rattle.std.specs.Prelude.{⊤, Result, Ok, Err, IsOk, IsErr}
+use Rattle.std.specs.Prelude.{⊤, Result, Ok, Err}
 use Rattle.strata.specs.inner.Settled.{settled}
 
 -- The number in an error, or another.

@@ -12,7 +12,7 @@ use Rattle.laws.proofs.Equations.{either}
 use Rattle.laws.proofs.Truth.{le_or_lt}
 use Rattle.laws.proofs.Filled.{replicate_at}
 use Rattle.table.specs.inner.Flat.{pair_places}
-use Rattle.strata.specs.inner.Visits.{visit_limit, node_limit, AtMost, Visits}
+use Rattle.strata.specs.inner.Visits.{node_limit, AtMost, Visits}
 
 pub most_none : (n b : ℕ) → AtMost b (replicate n 0)
 most_none n b = record { each = λ k. rw (replicate_at {A = ℕ} n 0 k) (omega arith) }
