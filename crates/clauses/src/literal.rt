@@ -27,7 +27,8 @@ pub fn skip_nots(tokens: Tokens, start: usize) -> Nots
     let mut at = start;
     let mut negated = false;
     loop {
-        let next = tokens.token(at);
+        // Not by the method of `tokens`, which clears the room of its answer at each turn: measured on a condition of many NOTs.
+        let next = text::token_by(tokens.rest, at, tokens.classes);
         if next.token != Token::Word(Word::Not) {
             return Nots { next, negated };
         }

@@ -17,7 +17,7 @@ use borrow.Author.Tests.{ne_eqb, lt-ltb, le-ltb}
 use Rattle.laws.specs.Limits.{name_limit}
 use Rattle.classes.specs.Classes.{class_of, class_number}
 use Rattle.classes.specs.declared.Class.{Class}
-use Rattle.classes.specs.declared.Class.TheVariants.{Other, White, Hyphen}
+use Rattle.classes.specs.declared.Class.TheVariants.{Other, White, Alphanumeric, Hyphen, Single, Double}
 use Rattle.text.specs.Tokens.{run, run_token, place, reserved, mark_of, equals_first, token_here, more_bytes}
 use Rattle.text.specs.Next.{white, coded, next_from, next_at}
 use Rattle.text.specs.Words.{word_number, word_by_number}
@@ -119,12 +119,15 @@ unfolding token_here more_bytes
 next_none s at p e h a b c =
     next_byte s at p e h ∙ rw (ne_eqb (class_of (get_or s p 0)) 2 a, ne_eqb (class_of (get_or s p 0)) 4 b, ne_eqb (class_of (get_or s p 0)) 5 c) (made v.Bad v.Bad _ (p + 1) refl (omega arith))
 
--- A byte of one of these classes can begin none.
-begins_none : (x : Class) (k : ℕ) → class_number x ≡ k → (x ≡ Other) ⊎ ((x ≡ White) ⊎ (x ≡ Hyphen)) → (k ≡ 2 → ⊥) × (k ≡ 4 → ⊥) × (k ≡ 5 → ⊥)
-begins_none x k e (inl a) = let z : class_number x ≡ 0 = rw a in (λ h. omega arith, λ h. omega arith, λ h. omega arith)
-begins_none x k e (inr (inl a)) = let z : class_number x ≡ 1 = rw a in (λ h. omega arith, λ h. omega arith, λ h. omega arith)
-begins_none x k e (inr (inr a)) = let z : class_number x ≡ 3 = rw a in (λ h. omega arith, λ h. omega arith, λ h. omega arith)
+-- A byte of any other class can begin none.
+begins_none : (x : Class) → (x ≡ Alphanumeric → ⊥) → (x ≡ Single → ⊥) → (x ≡ Double → ⊥) → (class_number x ≡ 2 → ⊥) × (class_number x ≡ 4 → ⊥) × (class_number x ≡ 5 → ⊥)
+begins_none Other a b c = (λ h. omega arith, λ h. omega arith, λ h. omega arith)
+begins_none White a b c = (λ h. omega arith, λ h. omega arith, λ h. omega arith)
+begins_none Alphanumeric a b c = absurd (a refl)
+begins_none Hyphen a b c = (λ h. omega arith, λ h. omega arith, λ h. omega arith)
+begins_none Single a b c = absurd (b refl)
+begins_none Double a b c = absurd (c refl)
 
-pub next_bad : (s : List ℕ) (at p : ℕ) (x : Class) → p ≡ at + white (drop at s) → p < length s → class_number x ≡ class_of (get_or s p 0) → (x ≡ Other) ⊎ ((x ≡ White) ⊎ (x ≡ Hyphen))
+pub next_bad : (s : List ℕ) (at p : ℕ) (x : Class) → p ≡ at + white (drop at s) → p < length s → class_number x ≡ class_of (get_or s p 0) → (x ≡ Alphanumeric → ⊥) → (x ≡ Single → ⊥) → (x ≡ Double → ⊥)
     → next_at s at ≡ record { token = v.Bad; at = p + 1 }
-next_bad s at p x e h f o = let n = begins_none x _ f o in next_none s at p e h n.0 n.1 n.2
+next_bad s at p x e h f a b c = let n = begins_none x a b c in next_none s at p e h (λ g. n.0 (f ∙ g)) (λ g. n.1 (f ∙ g)) (λ g. n.2 (f ∙ g))

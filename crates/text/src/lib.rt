@@ -184,10 +184,6 @@ pub fn token_by(text: &[u8], at: usize, classes: &ClassTable) -> Next
         };
     }
     let b = text[start];
-    let bad = Next {
-        token: Token::Bad,
-        at: start + 1,
-    };
     match classes.class_of(b) {
         Class::Alphanumeric => {
             let end = run_end(text, start + 1, classes);
@@ -200,17 +196,14 @@ pub fn token_by(text: &[u8], at: usize, classes: &ClassTable) -> Next
             token: Token::Word(mark_of(b)),
             at: start + 1,
         },
-        Class::Double => {
-            if text[start + 1..].starts_with(b"=") {
-                Next {
-                    token: Token::Word(mark_of(b)),
-                    at: start + 2,
-                }
-            } else {
-                bad
-            }
-        }
-        Class::Other | Class::White | Class::Hyphen => bad,
+        Class::Double if text[start + 1..].starts_with(b"=") => Next {
+            token: Token::Word(mark_of(b)),
+            at: start + 2,
+        },
+        _ => Next {
+            token: Token::Bad,
+            at: start + 1,
+        },
     }
 }
 

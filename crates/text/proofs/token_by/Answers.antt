@@ -7,6 +7,7 @@ use lib.ListN.{drop, length-drop}
 use Rattle.text.proofs.Cut.{run_le}
 use Rattle.text.proofs.Here as here
 use Rattle.text.proofs.token_by.Goals as goal
+use Rattle.text.proofs.token_by.Goals.{in_default-via-in-Double+else-starts_with, in_default-via-in_default}
 
 pub returns-then-text-start : goal.returns-then-text-start
 returns-then-text-start c = sym (here.next_end c.args.text.now c.args.at _ c.white_end-start.ensures c.if-text-start.true)
@@ -29,19 +30,17 @@ returns-in-Single c =
     let d = c.white_end-start in
     sym (here.next_single c.args.text.now _ d.result _ d.ensures c.if-text-start.false (sym c.in-Single.ensures) c.mark_of.ensures)
 
-pub returns-then-starts_with : goal.returns-then-starts_with
-returns-then-starts_with c =
+pub returns-in-Double : goal.returns-in-Double
+returns-in-Double c =
     let d = c.white_end-start in
     sym (here.next_double c.args.text.now _ d.result _ d.ensures c.if-text-start.false (sym c.in-Double.ensures)
-    (here.equals_tested c.args.text.now (d.result + 1) _ true c.starts_with.ensures.value c.if-starts_with.true) c.mark_of-then-starts_with.ensures)
+    (here.equals_tested c.args.text.now (d.result + 1) _ true c.starts_with.ensures.value c.if-starts_with.true) c.mark_of-in-Double.ensures)
 
-pub returns-else-starts_with : goal.returns-else-starts_with
-returns-else-starts_with c =
+pub returns-in_default : goal.returns-in_default
+returns-in_default c =
     let d = c.white_end-start in
-    sym (here.next_lone c.args.text.now _ d.result d.ensures c.if-text-start.false (sym c.in-Double.ensures)
-    (here.equals_tested c.args.text.now (d.result + 1) _ false c.starts_with.ensures.value c.if-starts_with.false))
-
-pub returns-in-Other : goal.returns-in-Other
-returns-in-Other c =
-    let d = c.white_end-start in
-    sym (here.next_bad c.args.text.now _ d.result _ d.ensures c.if-text-start.false c.class_of.ensures c.in-Other.is)
+    elim c.in_default.branch [
+      | in_default-via-in-Double+else-starts_with w ↦ sym (here.next_lone c.args.text.now _ d.result d.ensures c.if-text-start.false (sym w.in-Double.ensures)
+          (here.equals_tested c.args.text.now (d.result + 1) _ false w.starts_with.ensures.value w.if-starts_with.false))
+      | in_default-via-in_default w ↦ let n = w.in_default in sym (here.next_bad c.args.text.now _ d.result _ d.ensures c.if-text-start.false c.class_of.ensures n.not-Alphanumeric n.not-Single n.not-Double)
+    ]

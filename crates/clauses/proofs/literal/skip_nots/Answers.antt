@@ -13,26 +13,26 @@ pub returns-then-ne : goal.returns-then-ne
 returns-then-ne c =
     let l = c.loop-next in
     let rest = c.args.tokens.rest.now in
-    let t : c.token-next.result.token ≡ v.Word w.Not → ⊥ = search rules in
+    let t : c.token_by-next.result.token ≡ v.Word w.Not → ⊥ = search rules in
     record {
       at = l.at;
       later = l.invariant.0;
       nots = λ base slots.
-          let e = places.stands rest base l.at _ _ c.token-next.ensures refl in
+          let e = places.stands rest base l.at _ _ c.token_by-next.ensures refl in
           l.invariant.1 base slots ∙ ap (λ ts. read_literal ts slots l.negated) e ∙ literals.literal_plain rest base _ _ slots l.negated t ∙ ap (plain_literal slots l.negated) (sym e);
-      here = c.token-next.ensures;
+      here = c.token_by-next.ensures;
     }
 
 pub loop-next-smaller : goal.loop-next-smaller
 loop-next-smaller c =
-    let t : c.token-next.result.token ≡ v.Word w.Not = search rules in
-    let n = places.lies c.args.tokens.rest.now c.loop-next.at _ _ c.token-next.ensures t in
+    let t : c.token_by-next.result.token ≡ v.Word w.Not = search rules in
+    let n = places.lies c.args.tokens.rest.now c.loop-next.at _ _ c.token_by-next.ensures t in
     omega (arith, n.0, n.1)
 
 pub loop-next-preserved : goal.loop-next-preserved
 loop-next-preserved c =
     let l = c.loop-next in
     let rest = c.args.tokens.rest.now in
-    let t : c.token-next.result.token ≡ v.Word w.Not = search rules in
-    let n = places.lies rest l.at _ _ c.token-next.ensures t in
-    (omega (arith, n.0, l.invariant.0), λ base slots. l.invariant.1 base slots ∙ ap (λ ts. read_literal ts slots l.negated) (places.stands rest base l.at _ _ c.token-next.ensures t) ∙ literals.literal_not _ slots l.negated)
+    let t : c.token_by-next.result.token ≡ v.Word w.Not = search rules in
+    let n = places.lies rest l.at _ _ c.token_by-next.ensures t in
+    (omega (arith, n.0, l.invariant.0), λ base slots. l.invariant.1 base slots ∙ ap (λ ts. read_literal ts slots l.negated) (places.stands rest base l.at _ _ c.token_by-next.ensures t) ∙ literals.literal_not _ slots l.negated)
