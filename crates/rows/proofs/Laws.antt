@@ -225,14 +225,31 @@ unfolding carried_strata table_in
 entered_strata t rows sh f e =
     same_at (λ r. r.stratum) (map rule_in rows) t.rules zero_rule t.count (rw length-map f.inside) (sh.rule_places f.few) (λ i b. rw (get_or-map rule_in rows i []) (e.each i b).carries)
 
--- A row into which a rule's trigger, its numbers, its first j literals and its first k assignments are written.
-pub record Written (r : Rule) (row : List ℕ) (j k : ℕ) : Type 0 where
+-- A row into which a rule's trigger and its numbers are written.
+pub record Headed (r : Rule) (row : List ℕ) : Type 0 where
   pub size : length row ≡ 16
   pub trigger_becomes : get_or row 0 0 / pair_places ≡ 1
   pub trigger_pair : pair_in (get_or row 0 0) ≡ pair r.slot r.value
   pub tested_in : get_or row 1 0 ≡ r.tested
   pub assigned_in : get_or row 2 0 ≡ r.assigned
   pub stratum_in : get_or row 3 0 ≡ r.stratum
+
+-- A number written behind them leaves them as they are.
+headed_kept : (r : Rule) (row : List ℕ) (p x : ℕ) → 4 ≤ p → Headed r row → Headed r (set row p x)
+headed_kept r row p x h w =
+    let kept : (i : ℕ) → i < 4 → get_or (set row p x) i 0 ≡ get_or row i 0 = λ i b. get_or-set_other row p i x 0 (λ q. omega arith) in
+    record {
+      size = length-set row p x ∙ w.size;
+      trigger_becomes = rw (kept 0 (omega arith)) w.trigger_becomes;
+      trigger_pair = rw (kept 0 (omega arith)) w.trigger_pair;
+      tested_in = kept 1 (omega arith) ∙ w.tested_in;
+      assigned_in = kept 2 (omega arith) ∙ w.assigned_in;
+      stratum_in = kept 3 (omega arith) ∙ w.stratum_in;
+    }
+
+-- A row into which besides its first j literals and its first k assignments are written.
+pub record Written (r : Rule) (row : List ℕ) (j k : ℕ) : Type 0 where
+  pub head : Headed r row
   pub literals_in : (i : ℕ) → i < j → (literal_in (get_or row (4 + i) 0) ≡ get_or r.literals i zero_literal) × (get_or row (4 + i) 0 < tests)
   pub assignments_in : (i : ℕ) → i < k → pair_in (get_or row (12 + i) 0) ≡ assignment_of (get_or r.assignments i zero_assignment)
 
@@ -251,26 +268,23 @@ written_start r row p l h e =
     get_or-set_other c 3 0 _ 0 (λ q. omega arith) ∙ get_or-set_other b 2 0 _ 0 (λ q. omega arith) ∙ get_or-set_other a 1 0 _ 0 (λ q. omega arith) ∙ get_or-set_same row 0 _ 0 (omega arith) in
     let same : (512 + p) % pair_places ≡ p % pair_places = omega arith in
     record {
-      size = length-set c 3 _ ∙ lc;
-      trigger_becomes = rw first (omega arith);
-      trigger_pair = rw (first, same) e;
-      tested_in = get_or-set_other c 3 1 _ 0 (λ q. omega arith) ∙ get_or-set_other b 2 1 _ 0 (λ q. omega arith) ∙ get_or-set_same a 1 _ 0 (omega (arith, la));
-      assigned_in = get_or-set_other c 3 2 _ 0 (λ q. omega arith) ∙ get_or-set_same b 2 _ 0 (omega (arith, lb));
-      stratum_in = get_or-set_same c 3 _ 0 (omega (arith, lc));
+      head = record {
+        size = length-set c 3 _ ∙ lc;
+        trigger_becomes = rw first (omega arith);
+        trigger_pair = rw (first, same) e;
+        tested_in = get_or-set_other c 3 1 _ 0 (λ q. omega arith) ∙ get_or-set_other b 2 1 _ 0 (λ q. omega arith) ∙ get_or-set_same a 1 _ 0 (omega (arith, la));
+        assigned_in = get_or-set_other c 3 2 _ 0 (λ q. omega arith) ∙ get_or-set_same b 2 _ 0 (omega (arith, lb));
+        stratum_in = get_or-set_same c 3 _ 0 (omega (arith, lc));
+      };
       literals_in = λ i b. absurd (let z = b in omega arith);
       assignments_in = λ i b. absurd (let z = b in omega arith);
     }
 
 pub written_literal : (r : Rule) (row : List ℕ) (j x : ℕ) → j < literal_limit → literal_in x ≡ get_or r.literals j zero_literal → x < tests → Written r row j 0 → Written r (set row (4 + j) x) (j + 1) 0
 written_literal r row j x h e b w =
-    let l = w.size in
+    let l = w.head.size in
     record {
-      size = length-set row (4 + j) x ∙ l;
-      trigger_becomes = rw (get_or-set_other row (4 + j) 0 x 0 (λ q. omega arith)) w.trigger_becomes;
-      trigger_pair = rw (get_or-set_other row (4 + j) 0 x 0 (λ q. omega arith)) w.trigger_pair;
-      tested_in = get_or-set_other row (4 + j) 1 x 0 (λ q. omega arith) ∙ w.tested_in;
-      assigned_in = get_or-set_other row (4 + j) 2 x 0 (λ q. omega arith) ∙ w.assigned_in;
-      stratum_in = get_or-set_other row (4 + j) 3 x 0 (λ q. omega arith) ∙ w.stratum_in;
+      head = headed_kept r row (4 + j) x (omega arith) w.head;
       literals_in = at_last (λ i. (literal_in (get_or (set row (4 + j) x) (4 + i) 0) ≡ get_or r.literals i zero_literal) × (get_or (set row (4 + j) x) (4 + i) 0 < tests)) j
           (λ i c. rw (get_or-set_other row (4 + j) (4 + i) x 0 (λ q. omega arith)) (w.literals_in i c))
           (rw (get_or-set_same row (4 + j) x 0 (omega arith)) (e, b));
@@ -279,14 +293,9 @@ written_literal r row j x h e b w =
 
 pub written_assignment : (r : Rule) (row : List ℕ) (j k x : ℕ) → j ≤ literal_limit → k < assignment_limit → pair_in x ≡ assignment_of (get_or r.assignments k zero_assignment) → Written r row j k → Written r (set row (12 + k) x) j (k + 1)
 written_assignment r row j k x g h e w =
-    let l = w.size in
+    let l = w.head.size in
     record {
-      size = length-set row (12 + k) x ∙ l;
-      trigger_becomes = rw (get_or-set_other row (12 + k) 0 x 0 (λ q. omega arith)) w.trigger_becomes;
-      trigger_pair = rw (get_or-set_other row (12 + k) 0 x 0 (λ q. omega arith)) w.trigger_pair;
-      tested_in = get_or-set_other row (12 + k) 1 x 0 (λ q. omega arith) ∙ w.tested_in;
-      assigned_in = get_or-set_other row (12 + k) 2 x 0 (λ q. omega arith) ∙ w.assigned_in;
-      stratum_in = get_or-set_other row (12 + k) 3 x 0 (λ q. omega arith) ∙ w.stratum_in;
+      head = headed_kept r row (12 + k) x (omega arith) w.head;
       literals_in = λ i b. rw (get_or-set_other row (12 + k) (4 + i) x 0 (λ q. omega arith)) (w.literals_in i b);
       assignments_in = at_last (λ i. pair_in (get_or (set row (12 + k) x) (12 + i) 0) ≡ assignment_of (get_or r.assignments i zero_assignment)) k
           (λ i c. rw (get_or-set_other row (12 + k) (12 + i) x 0 (λ q. omega arith)) (w.assignments_in i c))
@@ -296,12 +305,12 @@ written_assignment r row j k x g h e w =
 -- Once all is written the row has the rule.
 pub written_end : (r : Rule) (row : List ℕ) → RuleFits r → RuleShaped r → Written r row r.tested r.assigned → Row r row
 written_end r row f sh w =
-    let l = w.size in
-    let a = w.tested_in in
-    let b = w.assigned_in in
+    let l = w.head.size in
+    let a = w.head.tested_in in
+    let b = w.head.assigned_in in
     let few = f.literals_fit in
     let some = f.assignments_fit in
-    let shaped : RowShaped row = record { size = w.size; stratum_small = rw w.stratum_in sh.stratum_small } in
+    let shaped : RowShaped row = record { size = l; stratum_small = rw w.head.stratum_in sh.stratum_small } in
     let mine = row_rule_shaped row shaped in
     let tests_same : map literal_of (take r.tested (rule_in row).literals) ≡ map literal_of (take r.tested r.literals) =
     same_at literal_of (rule_in row).literals r.literals zero_literal r.tested (omega (arith, mine.literal_places)) (omega (arith, sh.literal_places))
@@ -314,11 +323,11 @@ written_end r row f sh w =
         row_shaped = shaped;
         few_literals = omega arith;
         few_assignments = omega arith;
-        trigger_becomes = w.trigger_becomes;
+        trigger_becomes = w.head.trigger_becomes;
         each_test = λ j h. (w.literals_in j (omega arith)).1;
       };
-      means = rw (a, b) (λ i. record { trigger = w.trigger_pair i; literals = tests_same i; assignments = sets_same i });
-      carries = w.stratum_in;
+      means = rw (a, b) (λ i. record { trigger = w.head.trigger_pair i; literals = tests_same i; assignments = sets_same i });
+      carries = w.head.stratum_in;
     }
 
 -- Going through the literals and the assignments of a row: the next of them by its number.

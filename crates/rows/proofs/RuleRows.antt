@@ -32,16 +32,18 @@ each_bounded [] i l = absurd (omega arith)
 each_bounded (r ∷ rows) zero l = r.fits
 each_bounded (r ∷ rows) (suc i) l = each_bounded rows i (omega arith)
 
+-- Where all rows keep their bounds, the first n of them do.
+pub all_kept_bounded : (rows : List (List ℕ)) (n : ℕ) → n ≤ rule_limit → n ≤ length rows → ((i : ℕ) → i < length rows → RowBounded (get_or rows i [])) → RowsBounded rows n
+all_kept_bounded rows n few inside each = record {
+  rows_shaped = record { each_row = λ i l. (each i l).row_shaped };
+  few = few;
+  inside = inside;
+  each_bounded = λ i l. each i (omega (arith, l, inside));
+}
+
 -- So the first n of them do, and all.
 pub rows_bounded : (rows : List RuleRow) (n : ℕ) → n ≤ rule_limit → n ≤ length rows → RowsBounded (numbers_of rows) n
-rows_bounded rows n few h =
-    let m = rows_length rows in
-    record {
-      rows_shaped = record { each_row = λ i l. (each_bounded rows i (omega (arith, m))).row_shaped };
-      few = few;
-      inside = omega (arith, m);
-      each_bounded = λ i l. each_bounded rows i (omega arith);
-    }
+rows_bounded rows n few h = all_kept_bounded (numbers_of rows) n few (omega (arith, h, rows_length rows)) (λ i l. each_bounded rows i (omega (arith, l, rows_length rows)))
 
 pub all_rows_shaped : (rows : List RuleRow) → RowsShaped (numbers_of rows)
 all_rows_shaped rows = record { each_row = λ i l. (each_bounded rows i (omega (arith, rows_length rows))).row_shaped }
@@ -71,20 +73,14 @@ item_rule rows i row l e = rule_at rows i row l ∙ ap (λ (r : RuleRow). rule_i
 pub all_count : (rows : List RuleRow) → (rows_table rows).count ≡ length rows
 all_count rows = rows_count (numbers_of rows) (length rows)
 
--- The numbers of rows of which one is written anew.
-pub numbers_set : (rows : List RuleRow) (i : ℕ) (row : RuleRow) → numbers_of (set rows i row) ≡ set (numbers_of rows) i row.numbers
-numbers_set [] i row = refl
-numbers_set (r ∷ rows) zero row = refl
-numbers_set (r ∷ rows) (suc i) row = ap (λ us. r.numbers ∷ us) (numbers_set rows i row)
-
--- Those of one row, so many times.
+-- The numbers of one row, so many times.
 pub numbers_replicate : (n : ℕ) (row : RuleRow) → numbers_of (replicate n row) ≡ replicate n row.numbers
 numbers_replicate zero row = refl
 numbers_replicate (suc n) row = ap (λ us. row.numbers ∷ us) (numbers_replicate n row)
 
 -- One rule more is written into its row.
 pub entered_set : (rs : List Rule) (rows : List RuleRow) (i : ℕ) (row : RuleRow) → i < length rows → Row (get_or rs i zero_rule) row.numbers → Entered rs (numbers_of rows) i → Entered rs (numbers_of (set rows i row)) (i + 1)
-entered_set rs rows i row l r e = rw (numbers_set rows i row) (entered_next rs (numbers_of rows) i row.numbers (omega (arith, rows_length rows)) r e)
+entered_set rs rows i row l r e = rw (map-set (λ (r : RuleRow). r.numbers) rows i row) (entered_next rs (numbers_of rows) i row.numbers (omega (arith, rows_length rows)) r e)
 
 -- The first n places hold rows of the first n rules.
 abbrev pub EnteredIn : {A : Type 0} → (A → List ℕ) → List Rule → List A → ℕ → Type 0

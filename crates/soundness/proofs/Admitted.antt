@@ -2,17 +2,17 @@
 -- Assumes nothing.
 use mathlib.Core.Path.{◌≡◌, sym}
 use mathlib.Core.List.{List, [], map}
-use Prim.Native.Nat.{ℕ, ◌≤◌, ◌<◌}
+use Prim.Native.Nat.{ℕ, ◌≤◌}
 use native.Mathlib.Omega.{arith}
-use lib.ListN.{length, get_or, take}
+use lib.ListN.{length, take}
 use Rattle.std.proofs.lemmas.List.{length-map, length-take-le, take-map, get_or-take}
 use Rattle.laws.specs.Limits.{rule_limit}
 use Rattle.table.specs.declared.Table.{Table}
 use Rattle.table.specs.inner.Shape.{Shaped}
 use Rattle.table.specs.Link.{stratum_at}
-use Rattle.rows.specs.inner.Rows.{RowBounded, RowsBounded}
+use Rattle.rows.specs.inner.Rows.{RowsBounded}
 use Rattle.rows.specs.inner.RuleRows.{held_table}
-use Rattle.rows.proofs.RuleRows.{EnteredIn, held_rules, held_strata}
+use Rattle.rows.proofs.RuleRows.{EnteredIn, held_rules, held_strata, all_kept_bounded}
 use Rattle.rows.proofs.Laws.{fits_bounded}
 use Rattle.leastness.specs.CarriesLeast.{carries_least}
 use Rattle.soundness.specs.inner.Admitted.{AdmittedIn, EntryKeptIn}
@@ -43,15 +43,7 @@ kept_least t e counts places w = rw w.count_is (admitted_least t counts places w
 pub kept_bounded : {A : Type 0} {numbers : A → List ℕ} (t : Table) (e : Entry) (counts : List ℕ) (places : List A) → EntryKeptIn numbers t e counts places → RowsBounded (map numbers (take e.count places)) (length (take e.count places))
 kept_bounded {A} {numbers} t e counts places w =
     let a = w.admitted in
-    let few : e.count ≤ rule_limit = omega (arith, w.count_is, a.few) in
-    let inside : e.count ≤ length places = omega (arith, w.count_is, a.inside) in
-    let l = length-take-le e.count places inside in
+    let l = length-take-le e.count places (omega (arith, w.count_is, a.inside)) in
     let m = length-map (take e.count places) numbers in
-    let each : (i : ℕ) → i < e.count → RowBounded (get_or (map numbers (take e.count places)) i []) =
-    λ i b. rw (sym (take-map numbers e.count places), get_or-take e.count (map numbers places) i [] b) (fits_bounded _ (a.each_fits i (omega (arith, b, w.count_is)))) in
-    record {
-      rows_shaped = record { each_row = λ i b. (each i (omega (arith, b, l, m))).row_shaped };
-      few = omega (arith, few, l);
-      inside = omega (arith, m);
-      each_bounded = λ i b. each i (omega (arith, b, l));
-    }
+    all_kept_bounded (map numbers (take e.count places)) (length (take e.count places)) (omega (arith, l, w.count_is, a.few)) (omega (arith, m))
+    (λ i b. rw (sym (take-map numbers e.count places), get_or-take e.count (map numbers places) i [] (omega (arith, b, l, m))) (fits_bounded _ (a.each_fits i (omega (arith, b, l, m, w.count_is)))))
