@@ -2,7 +2,7 @@
 -- Assumes nothing.
 use Prim.Native.Nat.{ℕ, suc, ◌-◌, ◌≤◌, ◌<◌}
 use native.Mathlib.Omega.{arith}
-use mathlib.Core.Path.{◌≡◌, refl, ap}
+use mathlib.Core.Path.{◌≡◌, refl, ap, ◌∙◌}
 use mathlib.Core.Bool.{Bool, true, false}
 use mathlib.Core.List.{List, [], ◌∷◌, ◌++◌, map}
 use lib.ListN.{length}
@@ -161,3 +161,12 @@ assign_list slots ts left u e = next_is OPEN (read_assignments slots assignment_
 pub assign_one : (slots : List Slot) (ts : List Token) (k : ℕ) → expects OPEN ts ≡ stop k → read_assign slots ts ≡ single_assignment slots ts
 unfolding read_assign single_assignment
 assign_one slots ts k e = next_not OPEN _ _ ts k e
+
+-- Where no name stands, nothing is assigned, and the refusal is that of the name.
+pub assign_unnamed : (slots : List Slot) (ts : List Token) (j k : ℕ) → expects OPEN ts ≡ stop j → a_name ts ≡ stop k → read_assign slots ts ≡ stop k
+unfolding single_assignment read_assignment read_target read_slot ◌then◌
+assign_unnamed slots ts j k e f = assign_one slots ts j e ∙ rw f
+
+pub assignment_unnamed : (slots : List Slot) (sofar : List Pair) (ts : List Token) (k : ℕ) → a_name ts ≡ stop k → read_assignment slots sofar ts ≡ stop k
+unfolding read_assignment read_target read_slot ◌then◌
+assignment_unnamed slots sofar ts k e = rw e

@@ -47,6 +47,10 @@ unfolding value_literal ◌then◌
 value_stop slots s becomes negated ts k e = rw e
 
 -- A plain literal: its slot, its mark, its value.
+pub plain_unnamed : (slots : List Slot) (negated : Bool) (ts : List Token) (k : ℕ) → a_name ts ≡ stop k → plain_literal slots negated ts ≡ stop k
+unfolding plain_literal read_slot ◌then◌
+plain_unnamed slots negated ts k e = rw e
+
 pub plain_stop : (slots : List Slot) (negated : Bool) (ts : List Token) (k : ℕ) → read_slot slots ts ≡ stop k → plain_literal slots negated ts ≡ stop k
 unfolding plain_literal ◌then◌
 plain_stop slots negated ts k e = rw e

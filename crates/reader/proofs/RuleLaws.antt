@@ -6,7 +6,7 @@ use mathlib.Core.List.{List}
 use Rattle.text.specs.Tokens.{Token, WHEN, IF, BECOMES, SEMICOLON}
 use Rattle.model.specs.Rules.{Pair, Literal, Rule}
 use Rattle.grammar.specs.Files.{Slot}
-use Rattle.grammar.specs.Reading.{Part, took, stop, ◌then◌, expects, read_slot, read_value, read_condition, read_assign, read_rule}
+use Rattle.grammar.specs.Reading.{Part, took, stop, ◌then◌, expects, a_name, read_slot, read_value, read_condition, read_assign, read_rule}
 use Rattle.model.specs.Result.{pair}
 use Rattle.reader.specs.inner.Rules.{trigger_pair, read_trigger, read_rest}
 
@@ -15,6 +15,10 @@ pub pair_took : (slots : List Slot) (ts t1 t2 t3 : List Token) (s v : ℕ) → r
     → trigger_pair slots ts ≡ took (pair s v) t3
 unfolding trigger_pair ◌then◌
 pair_took slots ts t1 t2 t3 s v e f g = rw (e, f, g)
+
+pub pair_no_name : (slots : List Slot) (ts : List Token) (k : ℕ) → a_name ts ≡ stop k → trigger_pair slots ts ≡ stop k
+unfolding trigger_pair read_slot ◌then◌
+pair_no_name slots ts k e = rw e
 
 pub pair_no_slot : (slots : List Slot) (ts : List Token) (k : ℕ) → read_slot slots ts ≡ stop k → trigger_pair slots ts ≡ stop k
 unfolding trigger_pair ◌then◌

@@ -63,6 +63,25 @@ fits_bounded row f = record {
   each_test = f.each_test;
 }
 
+-- And one that keeps its bounds and whose trigger is a `*=` fits.
+pub bounded_fits : (row : List ℕ) → RowBounded row → get_or row 0 0 / pair_places ≡ 1 → RowFits row
+bounded_fits row f e = record {
+  row_shaped = f.row_shaped;
+  few_literals = f.few_literals;
+  few_assignments = f.few_assignments;
+  trigger_becomes = e;
+  each_test = f.each_test;
+}
+
+-- The first n of rows keep their bounds, where they fit.
+pub rows_fit_bounded : (rows : List (List ℕ)) (n : ℕ) → RowsFit rows n → RowsBounded rows n
+rows_fit_bounded rows n f = record {
+  rows_shaped = f.rows_shaped;
+  few = f.few;
+  inside = f.inside;
+  each_bounded = λ i h. fits_bounded (get_or rows i []) (f.each_fits i h);
+}
+
 -- The rule of a row that keeps its bounds, fits.
 pub row_rule_fits : (row : List ℕ) → RowBounded row → RuleFits (rule_in row)
 row_rule_fits row f = record {

@@ -3,6 +3,7 @@
 use mathlib.Core.Path.{◌≡◌, refl, sym, ap, ap₂, ◌∙◌}
 use mathlib.Core.List.{List, [], ◌∷◌, map}
 use Prim.Native.Nat.{ℕ, zero, suc, ◌+◌, ◌≤◌, ◌<◌}
+use native.Mathlib.Nat.{le_of_suc-le-suc}
 use native.Mathlib.Omega.{arith}
 use lib.ListN.{length, get_or, set, take, replicate}
 use Rattle.std.proofs.lemmas.List.{length-map, length-take-le, take-map, map-set, get_or-map, get_or-take}
@@ -10,7 +11,7 @@ use Rattle.laws.specs.Limits.{rule_limit}
 use Rattle.table.specs.declared.Rule.{Rule}
 use Rattle.table.specs.declared.Table.{Table}
 use Rattle.table.specs.Zero.{zero_rule}
-use Rattle.table.specs.Link.{rules_of, carried_strata}
+use Rattle.table.specs.Link.{rule_of, rules_of, carried_strata}
 use Rattle.table.specs.inner.Fits.{TableFits}
 use Rattle.table.specs.inner.Shape.{Shaped}
 use Rattle.rows.specs.declared.RuleRow.{RuleRow}
@@ -81,6 +82,20 @@ numbers_replicate (suc n) row = ap (λ us. row.numbers ∷ us) (numbers_replicat
 -- One rule more is written into its row.
 pub entered_set : (rs : List Rule) (rows : List RuleRow) (i : ℕ) (row : RuleRow) → i < length rows → Row (get_or rs i zero_rule) row.numbers → Entered rs (numbers_of rows) i → Entered rs (numbers_of (set rows i row)) (i + 1)
 entered_set rs rows i row l r e = rw (map-set (λ (r : RuleRow). r.numbers) rows i row) (entered_next rs (numbers_of rows) i row.numbers (omega (arith, rows_length rows)) r e)
+
+-- The first n of them by themselves stand for the same rules, with the same strata.
+taken_rows : {A : Type 0} (g : Rule → A) (rows : List RuleRow) (n : ℕ) → n ≤ length rows → map g (take (length (take n rows)) (map rule_in (numbers_of (take n rows)))) ≡ map g (take n (map rule_in (numbers_of rows)))
+taken_rows g rows zero h = refl
+taken_rows g [] (suc n) h = absurd (omega arith)
+taken_rows g (r ∷ rows) (suc n) h = ap (λ us. g (rule_in r.numbers) ∷ us) (taken_rows g rows n (le_of_suc-le-suc h))
+
+pub taken_rules : (rows : List RuleRow) (n : ℕ) → n ≤ length rows → rules_of (rows_table (take n rows)) ≡ rules_of (table_in (numbers_of rows) n)
+unfolding rules_of table_in
+taken_rules rows n h = taken_rows rule_of rows n h
+
+pub taken_strata : (rows : List RuleRow) (n : ℕ) → n ≤ length rows → carried_strata (rows_table (take n rows)) ≡ carried_strata (table_in (numbers_of rows) n)
+unfolding carried_strata table_in
+taken_strata rows n h = taken_rows (λ r. r.stratum) rows n h
 
 -- The first n places hold rows of the first n rules.
 abbrev pub EnteredIn : {A : Type 0} → (A → List ℕ) → List Rule → List A → ℕ → Type 0
